@@ -1,0 +1,6 @@
+pub mod Order
+pub mod Sets
+pub mod Algebra
+pub mod Build
+pub mod Delta
+pub mod Places

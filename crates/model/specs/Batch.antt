@@ -1,0 +1,86 @@
+-- Batches: document 01, "A batch is 0 to 64 event records", and refusals 10 to 13.
+use mathlib.Core.Bool.{Bool, true, false, not, _&&_, _||_, cond}
+use mathlib.Core.List.{List, [], _∷_, _++_}
+use Prim.Native.Nat.{ℕ, zero, suc, _+_, _*_}
+use lib.Dec.{leb, ltb, eqb}
+use lib.ListN.{getD, length, set}
+use Rattle.model.specs.Row.{Row, Relation, maxRows, insertRow, deleteRow}
+use Rattle.model.specs.Record.{Bytes, u32, lengthAt, kindAt, fieldAt, isBroken, offsets, Verdict, accepted, refused, rule, firstBroken}
+use Rattle.model.specs.Network.{Node, isTable, widths, nodeAt}
+
+-- "kind 32 puts a row, 33 removes one": table and row
+pub data Event : Type 0 where
+  put : ℕ → Row → Event
+  remove : ℕ → Row → Event
+
+-- ---- reading
+
+-- "the row, 4 bytes a field": w fields from an offset on
+abbrev pub rowIn : Bytes → ℕ → ℕ → Row
+rowIn bs at zero = []
+rowIn bs at (suc w) = u32 bs at ∷ rowIn bs (at + 4) w
+
+abbrev pub eventOf : Bool → ℕ → Row → Event
+eventOf true t r = put t r
+eventOf false t r = remove t r
+
+-- "body: table, then the row"; ws are the nodes' widths
+unfoldable pub eventAt : List ℕ → Bytes → ℕ → Event
+eventAt ws bs at = eventOf (eqb (kindAt bs at) 32) (fieldAt bs at 0) (rowIn bs (at + 6) (getD ws (fieldAt bs at 0) 0))
+
+-- rule 13: long enough to name a node, that node a table, and "6 + 4 × width bytes"
+unfoldable pub eventFits : List Node → Bytes → ℕ → Bool
+unfolding widths
+eventFits nodes bs at =
+    leb 6 (lengthAt bs at)
+    && ltb (fieldAt bs at 0) (length nodes)
+    && isTable (nodeAt nodes (fieldAt bs at 0))
+    && eqb (lengthAt bs at) (6 + 4 * getD (widths nodes) (fieldAt bs at 0) 0)
+
+-- the most events of a batch
+abbrev pub maxEvents : ℕ
+maxEvents = 64
+
+-- the lowest number that the record at an offset breaks, 0 if none; so many events stand before it
+unfoldable pub eventFault : List Node → ℕ → Bytes → ℕ → ℕ
+unfolding isBroken eventFits
+eventFault nodes before bs at =
+    firstBroken (
+      rule 10 (isBroken bs at)
+      ∷ rule 11 (not (eqb (kindAt bs at) 32 || eqb (kindAt bs at) 33))
+      ∷ rule 12 (leb maxEvents before)
+      ∷ rule 13 (not (eventFits nodes bs at))
+      ∷ [])
+
+-- what reading a batch gives: the verdict, and the events where it is accepted
+pub record BatchReading : Type 0 where
+  pub verdict : Verdict
+  pub events : List Event
+
+-- the records at some offsets, after the events already read: "the first record that fails decides"
+unfoldable pub readEvents : List Node → Bytes → List Event → List ℕ → BatchReading
+unfolding eventFault eventAt widths
+readEvents nodes bs done [] = record { verdict = accepted; events = done }
+readEvents nodes bs done (at ∷ rest) =
+    let later : BatchReading = readEvents nodes bs (done ++ (eventAt (widths nodes) bs at ∷ [])) rest in
+    let fault : ℕ = eventFault nodes (length done) bs at in
+    cond (eqb fault 0) later (record { verdict = refused fault at; events = [] })
+
+-- a batch from its bytes, with refusals 10 to 13
+unfoldable pub readBatch : List Node → Bytes → BatchReading
+unfolding readEvents offsets
+readBatch nodes bs = readEvents nodes bs [] (offsets bs)
+
+-- ---- acting
+
+-- "Putting a row that is there, or removing one that isn't, does nothing"; the tables' rows stand at their node numbers
+unfoldable pub act : Event → List Relation → List Relation
+unfolding deleteRow
+act (put t r) tables = set tables t (insertRow r (getD tables t []))
+act (remove t r) tables = set tables t (deleteRow r (getD tables t []))
+
+-- "Events act in order"
+unfoldable pub actAll : List Event → List Relation → List Relation
+unfolding act
+actAll [] tables = tables
+actAll (e ∷ events) tables = actAll events (act e tables)

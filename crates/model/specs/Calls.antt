@@ -1,0 +1,176 @@
+-- What each call promises, for every input: its answer, and all lent memory afterwards. Document 01, "Refused, in this checking order".
+use mathlib.Core.Path.{_≡_}
+use mathlib.Core.Bool.{Bool, true, false, not, _&&_, _||_, cond}
+use mathlib.Core.List.{List, [], _∷_, _++_, map, flatMap}
+use Prim.Native.Nat.{ℕ, _+_, _*_}
+use lib.Dec.{leb, ltb, eqb}
+use lib.ListN.{getD, length, drop}
+use Rattle.model.specs.Row.{Row, Relation, maxNodes}
+use Rattle.model.specs.Record.{Bytes, bytes16, bytes32, Verdict, accepted, refused, isAccepted}
+use Rattle.model.specs.Network.{Node, Network, Reading, readNetwork, kindOf, widths, levels, signOf, within}
+use Rattle.model.specs.Delta.{Change, changeAt}
+use Rattle.model.specs.Station.{State, Step, step}
+use Rattle.model.specs.Areas.{Areas, Layout, layout, goodForm, coherent, stateIn, changesIn, holding, cleared, padded, longEnough, KeepsRest}
+
+-- ---- refusals that calls share
+
+-- the first verdict that refuses, of two in checking order; the second waits for the first
+abbrev pub orElse : Verdict → Verdict → Verdict
+orElse first second = cond (isAccepted first) second first
+
+-- a rule that is judged for a whole call: its place is 0
+abbrev pub unless : Bool → ℕ → Verdict
+unless true number = accepted
+unless false number = refused number 0
+
+-- refusals 1 to 7
+unfoldable pub openVerdict : Bytes → Areas → Verdict
+unfolding longEnough readNetwork
+openVerdict net a = orElse (unless (longEnough layout a) 1) (readNetwork net .verdict)
+
+-- refusals 1 to 8
+unfoldable pub formVerdict : Bytes → Areas → Verdict
+unfolding openVerdict goodForm readNetwork
+formVerdict net a = orElse (openVerdict net a) (unless (goodForm layout (readNetwork net .network .nodes) a) 8)
+
+-- ---- the reader: 2 to 7
+
+-- "the node count and each node's kind, width and level (0 past the last node)"
+pub record ReadAnswer : Type 0 where
+  pub verdict : Verdict
+  pub count : ℕ
+  pub kinds : List ℕ
+  pub widths : List ℕ
+  pub levels : List ℕ
+
+-- beside a refusal all numbers are 0
+unfoldable pub readCall : Bytes → ReadAnswer
+unfolding readNetwork widths levels
+readCall net =
+    let reading : Reading = readNetwork net in
+    record {
+      verdict = reading .verdict;
+      count = length (reading .network .nodes);
+      kinds = padded maxNodes (map kindOf (reading .network .nodes));
+      widths = padded maxNodes (widths (reading .network .nodes));
+      levels = padded maxNodes (levels (reading .network .nodes))
+    }
+
+-- ---- opening: 1 to 7
+
+-- a verdict, and the areas afterwards
+pub record Result : Type 0 where
+  pub verdict : Verdict
+  pub areas : Areas
+
+-- "Opening sets all named words to 0"; a refusal writes nothing
+unfoldable pub openCall : Bytes → Areas → Result
+unfolding openVerdict cleared
+openCall net a = record { verdict = openVerdict net a; areas = cond (isAccepted (openVerdict net a)) (cleared layout a) a }
+
+-- ---- the batch call: 1 to 14
+
+-- what a call settles: its whole result, or that the result is free as far as `Free` says
+pub data Promise : Type 0 where
+  settled : Result → Promise
+  free : Promise
+
+-- the result that the plain station's step gives: its state in the areas, or the areas as they were
+unfoldable pub resultOf : List Node → Areas → Step → Result
+unfolding holding
+resultOf nodes a st = record { verdict = st .verdict; areas = cond (isAccepted (st .verdict)) (holding layout nodes (st .state) a) a }
+
+-- "Something is free only for a batch on good-form areas that aren't coherent, once 9 to 13 are passed"
+unfoldable pub promiseOf : List Node → Areas → Step → Promise
+unfolding coherent resultOf
+promiseOf nodes a st = cond (coherent layout nodes a || within 9 13 (st .verdict .number)) (settled (resultOf nodes a st)) free
+
+-- 1 to 8, then what the plain station does from the state that the areas hold
+unfoldable pub applyPromise : Bytes → Bytes → Areas → Promise
+unfolding formVerdict promiseOf stateIn step readNetwork
+applyPromise net batch a =
+    let nodes : List Node = readNetwork net .network .nodes in
+    let promise : Promise = promiseOf nodes a (step nodes (stateIn layout nodes a) batch) in
+    cond (isAccepted (formVerdict net a)) promise (settled (record { verdict = formVerdict net a; areas = a }))
+
+-- the free part: "the choice between acceptance and 14, 14's place, and the words after acceptance.
+-- There the outcome is one of these two, 14 writes nothing, and no word past the named ones changes"
+pub data Free (a : Areas) (r : Result) : Type 0 where
+  freelyAccepted : r .verdict ≡ accepted → KeepsRest layout a (r .areas) → Free a r
+  freelyRefused : r .verdict .number ≡ 14 → r .areas ≡ a → Free a r
+
+abbrev pub Keeps : Promise → Areas → Result → Type 0
+Keeps (settled expected) a r = r ≡ expected
+Keeps free a r = Free a r
+
+-- the batch call's promise
+abbrev pub Applied : Bytes → Bytes → Areas → Result → Type 0
+Applied net batch a r = Keeps (applyPromise net batch a) a r
+
+-- ---- the coherence check: 1 to 8
+
+pub record CheckAnswer : Type 0 where
+  pub verdict : Verdict
+  pub yes? : Bool
+
+-- "answers yes exactly for coherent areas and writes nothing"
+unfoldable pub checkCall : Bytes → Areas → CheckAnswer
+unfolding formVerdict coherent readNetwork
+checkCall net a =
+    record {
+      verdict = formVerdict net a;
+      yes? = isAccepted (formVerdict net a) && coherent layout (readNetwork net .network .nodes) a
+    }
+
+-- ---- a report: 1 to 8, 15, 16
+
+-- "each record the node and the row, 6 + 4 × width bytes"
+unfoldable pub changeRecord : ℕ → ℕ → Row → Bytes
+unfolding flatMap
+changeRecord kind node r = bytes16 (6 + 4 * length r) ++ bytes16 kind ++ bytes16 node ++ flatMap bytes32 r
+
+-- signs 1 and 3 allow gained rows, 2 and 3 lost ones
+abbrev pub allowsGained : ℕ → Bool
+allowsGained sign = eqb sign 1 || eqb sign 3
+
+abbrev pub allowsLost : ℕ → Bool
+allowsLost sign = eqb sign 2 || eqb sign 3
+
+-- "gained rows (kind 64), then lost (kind 65), as the sign allows, ascending"
+unfoldable pub reportBytes : ℕ → ℕ → Change → Bytes
+unfolding changeRecord flatMap
+reportBytes sign node change =
+    cond (allowsGained sign) (flatMap (changeRecord 64 node) (change .gained)) []
+    ++ cond (allowsLost sign) (flatMap (changeRecord 65 node) (change .lost)) []
+
+-- the report of a node from the areas
+unfoldable pub reportOf : Network → ℕ → Areas → Bytes
+unfolding reportBytes changesIn
+reportOf net node a = reportBytes (signOf net node) node (changeAt (changesIn layout (net .nodes) a) node)
+
+-- the node exists and has a watch
+abbrev pub isWatched : Network → ℕ → Bool
+isWatched net node = ltb node (length (net .nodes)) && not (eqb (signOf net node) 0)
+
+-- 1 to 8, then 15, then 16
+unfoldable pub reportVerdict : Bytes → ℕ → Areas → Bytes → Verdict
+unfolding formVerdict reportOf readNetwork
+reportVerdict net node a out =
+    orElse (formVerdict net a)
+    (orElse (unless (isWatched (readNetwork net .network) node) 15) (unless (leb (length (reportOf (readNetwork net .network) node a)) (length out)) 16))
+
+-- a verdict, the report's length (0 beside a refusal), and the lent bytes afterwards
+pub record ReportAnswer : Type 0 where
+  pub verdict : Verdict
+  pub size : ℕ
+  pub out : Bytes
+
+-- bytes written from the first lent one on; "the bytes after it keep their values"
+abbrev pub writtenTo : Bytes → Bytes → Bytes
+writtenTo out text = text ++ drop (length text) out
+
+unfoldable pub reportCall : Bytes → ℕ → Areas → Bytes → ReportAnswer
+unfolding reportVerdict reportOf readNetwork
+reportCall net node a out =
+    let text : Bytes = cond (isAccepted (reportVerdict net node a out)) (reportOf (readNetwork net .network) node a) [] in
+    record { verdict = reportVerdict net node a out; size = length text; out = writtenTo out text }

@@ -1,0 +1,12 @@
+pub mod Row
+pub mod Algebra
+pub mod Record
+pub mod Network
+pub mod Evaluation
+pub mod Batch
+pub mod Delta
+pub mod Station
+pub mod Areas
+pub mod Calls
+pub mod Text
+pub mod Examples
