@@ -11,12 +11,12 @@ use Rattle.model.specs.Row.{Row, Relation, member, setOf, keep}
 -- "Comparisons": one line for each code, with what it says of less, equal, greater
 abbrev pub comparisons : List (List Bool)
 comparisons =
-    (false ∷ true ∷ false ∷ []) -- 0 equal
-    ∷ (true ∷ false ∷ true ∷ []) -- 1 unequal
-    ∷ (true ∷ false ∷ false ∷ []) -- 2 less
-    ∷ (true ∷ true ∷ false ∷ []) -- 3 at most
-    ∷ (false ∷ false ∷ true ∷ []) -- 4 greater
-    ∷ (false ∷ true ∷ true ∷ []) -- 5 at least
+    (false ∷ true ∷ false ∷ [])  -- 0 equal
+    ∷ (true ∷ false ∷ true ∷ [])  -- 1 unequal
+    ∷ (true ∷ false ∷ false ∷ [])  -- 2 less
+    ∷ (true ∷ true ∷ false ∷ [])  -- 3 at most
+    ∷ (false ∷ false ∷ true ∷ [])  -- 4 greater
+    ∷ (false ∷ true ∷ true ∷ [])  -- 5 at least
     ∷ []
 
 -- the column of the table for an outcome

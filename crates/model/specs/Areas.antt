@@ -166,7 +166,7 @@ stateIn L nodes a =
       number = batchNumber (a .head);
       stamps = map (stampAt (a .head)) (numbersBelow (length nodes));
       changes = changesIn L nodes a;
-      worked = map (workedAt (a .head)) (numbersBelow (workedCount (a .head)))
+      worked = map (workedAt (a .head)) (numbersBelow (workedCount (a .head)));
     }
 
 -- the relations are the same at every node
@@ -231,7 +231,7 @@ holding L nodes s before =
       rows = over (areaOf L rels) (before .rows);
       gained = over (areaOf L (map (λ c. c .gained) (s .changes))) (before .gained);
       lost = over (areaOf L (map (λ c. c .lost) (s .changes))) (before .lost);
-      head = over (headOf rels s) (before .head)
+      head = over (headOf rels s) (before .head);
     }
 
 -- "Opening sets all named words to 0"
@@ -241,7 +241,7 @@ cleared L before =
       rows = over (replicate (areaWords L) 0) (before .rows);
       gained = over (replicate (areaWords L) 0) (before .gained);
       lost = over (replicate (areaWords L) 0) (before .lost);
-      head = over (replicate headWords 0) (before .head)
+      head = over (replicate headWords 0) (before .head);
     }
 
 -- an area has at least its named words

@@ -46,11 +46,11 @@ unfoldable pub eventFault : List Node → ℕ → Bytes → ℕ → ℕ
 unfolding isBroken eventFits
 eventFault nodes before bs at =
     firstBroken (
-      rule 10 (isBroken bs at)
-      ∷ rule 11 (not (eqb (kindAt bs at) 32 || eqb (kindAt bs at) 33))
-      ∷ rule 12 (leb maxEvents before)
-      ∷ rule 13 (not (eventFits nodes bs at))
-      ∷ [])
+    rule 10 (isBroken bs at)
+    ∷ rule 11 (not (eqb (kindAt bs at) 32 || eqb (kindAt bs at) 33))
+    ∷ rule 12 (leb maxEvents before)
+    ∷ rule 13 (not (eventFits nodes bs at))
+    ∷ [])
 
 -- what reading a batch gives: the verdict, and the events where it is accepted
 pub record BatchReading : Type 0 where

@@ -53,7 +53,7 @@ readCall net =
       count = length (reading .network .nodes);
       kinds = padded maxNodes (map kindOf (reading .network .nodes));
       widths = padded maxNodes (widths (reading .network .nodes));
-      levels = padded maxNodes (levels (reading .network .nodes))
+      levels = padded maxNodes (levels (reading .network .nodes));
     }
 
 -- ---- opening: 1 to 7
@@ -119,7 +119,7 @@ unfolding formVerdict coherent readNetwork
 checkCall net a =
     record {
       verdict = formVerdict net a;
-      yes? = isAccepted (formVerdict net a) && coherent layout (readNetwork net .network .nodes) a
+      yes? = isAccepted (formVerdict net a) && coherent layout (readNetwork net .network .nodes) a;
     }
 
 -- ---- a report: 1 to 8, 15, 16

@@ -38,5 +38,5 @@ unfolding unionRows differenceRows
 deltaUnion first second =
     record {
       gained = unionRows (differenceRows (first .gained) (second .lost)) (differenceRows (second .gained) (first .lost));
-      lost = unionRows (differenceRows (first .lost) (second .gained)) (differenceRows (second .lost) (first .gained))
+      lost = unionRows (differenceRows (first .lost) (second .gained)) (differenceRows (second .lost) (first .gained));
     }

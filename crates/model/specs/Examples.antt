@@ -37,12 +37,12 @@ remove table r = eventBytes 33 table r
 networkN : Bytes
 unfolding recordBytes
 networkN =
-    recordBytes 1 (2 ∷ []) -- node 0 table of width 2 (block, catch)
-    ++ recordBytes 2 (0 ∷ 1 ∷ 5 ∷ 8 ∷ 0 ∷ []) -- node 1 select of 0, column 1, comparison 5, constant 8
-    ++ recordBytes 4 (1 ∷ 1 ∷ 0 ∷ []) -- node 2 project of 1 on column 0
-    ++ recordBytes 1 (1 ∷ []) -- node 3 table of width 1 (sprayed block)
-    ++ recordBytes 7 (2 ∷ 3 ∷ []) -- node 4 is 2 without 3
-    ++ recordBytes 9 (4 ∷ 3 ∷ []) -- watch on 4, sign 3
+    recordBytes 1 (2 ∷ [])  -- node 0 table of width 2 (block, catch)
+    ++ recordBytes 2 (0 ∷ 1 ∷ 5 ∷ 8 ∷ 0 ∷ [])  -- node 1 select of 0, column 1, comparison 5, constant 8
+    ++ recordBytes 4 (1 ∷ 1 ∷ 0 ∷ [])  -- node 2 project of 1 on column 0
+    ++ recordBytes 1 (1 ∷ [])  -- node 3 table of width 1 (sprayed block)
+    ++ recordBytes 7 (2 ∷ 3 ∷ [])  -- node 4 is 2 without 3
+    ++ recordBytes 9 (4 ∷ 3 ∷ [])  -- watch on 4, sign 3
 
 -- two tables of width 1, node 2 table 0 without itself, node 3 table 0 joined with itself on the pair (0,0), node 4 the union of both tables
 networkS : Bytes
@@ -94,12 +94,12 @@ puts from n = flatMap (λ x. put 0 (x ∷ [])) (countFrom from n)
 
 -- what a case asks for
 data Question : Type 0 where
-  askLevels : Question -- each node's level
-  askVerdicts : Question -- number and place, for each batch
-  askWorked : Question -- the worked list after the batches
-  askRows : ℕ → Question -- a node's rows after the batches
-  askGained : ℕ → Question -- a node's gained rows after the batches
-  askLost : ℕ → Question -- a node's lost rows after the batches
+  askLevels : Question  -- each node's level
+  askVerdicts : Question  -- number and place, for each batch
+  askWorked : Question  -- the worked list after the batches
+  askRows : ℕ → Question  -- a node's rows after the batches
+  askGained : ℕ → Question  -- a node's gained rows after the batches
+  askLost : ℕ → Question  -- a node's lost rows after the batches
 
 record Case : Type 0 where
   network : Bytes

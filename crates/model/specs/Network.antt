@@ -23,11 +23,11 @@ pub data SetOperation : Type 0 where
 
 -- "Each node is one of these kinds, with its own data"
 pub data Node : Type 0 where
-  table : ℕ → Node -- width
-  select : ℕ → ℕ → ℕ → Operand → Node -- input, column, comparison, operand
-  project : ℕ → List ℕ → Node -- input, columns
-  join : ℕ → ℕ → List Pair → List ℕ → Node -- left, right, pairs, columns
-  setOperation : SetOperation → ℕ → ℕ → Node -- left, right
+  table : ℕ → Node  -- width
+  select : ℕ → ℕ → ℕ → Operand → Node  -- input, column, comparison, operand
+  project : ℕ → List ℕ → Node  -- input, columns
+  join : ℕ → ℕ → List Pair → List ℕ → Node  -- left, right, pairs, columns
+  setOperation : SetOperation → ℕ → ℕ → Node  -- left, right
 
 -- "Kind 9 is a watch: node, sign (1 gained, 2 lost, 3 both)"
 pub record Watch : Type 0 where
@@ -137,15 +137,15 @@ pub data Kind : Type 0 where
 abbrev pub kinds : List Kind
 kinds =
     unknownKind
-    ∷ tableKind -- 1
-    ∷ selectConstantKind -- 2
-    ∷ selectColumnKind -- 3
-    ∷ projectKind -- 4
-    ∷ joinKind -- 5
-    ∷ setKind union -- 6
-    ∷ setKind difference -- 7
-    ∷ setKind intersection -- 8
-    ∷ watchKind -- 9
+    ∷ tableKind  -- 1
+    ∷ selectConstantKind  -- 2
+    ∷ selectColumnKind  -- 3
+    ∷ projectKind  -- 4
+    ∷ joinKind  -- 5
+    ∷ setKind union  -- 6
+    ∷ setKind difference  -- 7
+    ∷ setKind intersection  -- 8
+    ∷ watchKind  -- 9
     ∷ []
 
 -- the kind of a number: rule 4 is about numbers outside the list
@@ -275,12 +275,12 @@ unfolding isBroken kindNumbered hasShape itemAt itemFits
 recordFault net bs at =
     let kind : Kind = kindNumbered (kindAt bs at) in
     firstBroken (
-      rule 3 (isBroken bs at)
-      ∷ rule 4 (isUnknown kind)
-      ∷ rule 5 (not (isWatch kind) && leb maxNodes (length (net .nodes)))
-      ∷ rule 6 (not (hasShape kind bs at))
-      ∷ rule 7 (not (itemFits net (itemAt kind bs at)))
-      ∷ [])
+    rule 3 (isBroken bs at)
+    ∷ rule 4 (isUnknown kind)
+    ∷ rule 5 (not (isWatch kind) && leb maxNodes (length (net .nodes)))
+    ∷ rule 6 (not (hasShape kind bs at))
+    ∷ rule 7 (not (itemFits net (itemAt kind bs at)))
+    ∷ [])
 
 -- what reading a network gives: the verdict, and the network where it is accepted
 pub record Reading : Type 0 where

@@ -52,8 +52,8 @@ unfolding isBroken
 offsetsFrom zero bs at = []
 offsetsFrom (suc n) bs at =
     elim (leb (length bs) at) [
-      true ↦ []
-    | false ↦ at ∷ elim (isBroken bs at) [ true ↦ [] | false ↦ offsetsFrom n bs (at + lengthAt bs at) ]
+      | true ↦ []
+      | false ↦ at ∷ elim (isBroken bs at) [ true ↦ [] | false ↦ offsetsFrom n bs (at + lengthAt bs at) ]
     ]
 
 -- the offsets of all records: no more than there are bytes

@@ -28,7 +28,7 @@ opened nodes =
       number = 0;
       stamps = replicate (length nodes) 0;
       changes = replicate (length nodes) noChange;
-      worked = []
+      worked = [];
     }
 
 -- the largest batch number: rule 9
@@ -63,7 +63,7 @@ advance nodes s copy =
       number = s .number + 1;
       stamps = zipWith (stampOf (s .number + 1)) changes (s .stamps);
       changes = changes;
-      worked = workedList nodes changes
+      worked = workedList nodes changes;
     }
 
 -- what the plain station says of a batch, and its state afterwards

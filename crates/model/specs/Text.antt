@@ -19,9 +19,9 @@ isMark file at = eqb (lengthAt file at) 4 && eqb (kindAt file at) 34
 
 -- what the file holds, in order
 pub data Piece : Type 0 where
-  batch : Bytes → Piece -- a batch that a mark ends
-  broken : ℕ → Piece -- a broken length, by its offset from its batch's first byte
-  unfinished : Piece -- whole records without a mark
+  batch : Bytes → Piece  -- a batch that a mark ends
+  broken : ℕ → Piece  -- a broken length, by its offset from its batch's first byte
+  unfinished : Piece  -- whole records without a mark
 
 abbrev pub bytesBetween : Bytes → ℕ → ℕ → Bytes
 bytesBetween file from to = take (to - from) (drop from file)
