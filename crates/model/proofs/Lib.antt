@@ -3,4 +3,3 @@ pub mod Sets
 pub mod Algebra
 pub mod Build
 pub mod Delta
-pub mod Places

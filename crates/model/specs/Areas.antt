@@ -4,7 +4,7 @@ use mathlib.Core.Bool.{Bool, true, false, _&&_, cond}
 use mathlib.Core.List.{List, [], _∷_, _++_, map, zipWith, flatMap}
 use Prim.Native.Nat.{ℕ, zero, suc, _+_, _-_, _*_}
 use lib.Dec.{leb, ltb, eqb}
-use lib.ListN.{getD, length, take, drop, replicate}
+use lib.ListN.{getD, length, drop, replicate}
 use Rattle.model.specs.Row.{Row, Relation, maxRows, maxNodes, maxWidth, ascending, sameRows, allOf, numbersBelow}
 use Rattle.model.specs.Network.{Node, isTable, widths}
 use Rattle.model.specs.Evaluation.{evaluate}
@@ -37,18 +37,19 @@ placeWords L = L .capacity * L .stride
 abbrev pub areaWords : Layout → ℕ
 areaWords L = maxNodes * placeWords L
 
--- n rows of w words each, one after the other
-abbrev pub slots : ℕ → ℕ → List ℕ → List Row
-slots w zero words = []
-slots w (suc n) words = take w words ∷ slots w n (drop w words)
+-- n words from an index on; 0 past the end
+unfoldable pub fields : ℕ → List ℕ → ℕ → List ℕ
+fields zero words at = []
+fields (suc n) words at = getD words at 0 ∷ fields n words (suc at)
 
--- the rows of node i's place, used or not, in all their words
-abbrev pub placeAt : Layout → List ℕ → ℕ → List Row
-placeAt L area i = slots (L .stride) (L .capacity) (drop (placeWords L * i) area)
+-- where row j of node i starts: word 256 × i + 4 × j
+abbrev pub rowStart : Layout → ℕ → ℕ → ℕ
+rowStart L i j = placeWords L * i + L .stride * j
 
--- the rows that a place holds, given their width and their count
-abbrev pub heldIn : ℕ → ℕ → List Row → Relation
-heldIn w count place = map (take w) (take count place)
+-- the rows that node i's place holds, given their width and their count
+unfoldable pub heldIn : Layout → ℕ → ℕ → List ℕ → ℕ → Relation
+unfolding fields
+heldIn L w count area i = map (λ j. fields w area (rowStart L i j)) (numbersBelow count)
 
 -- ---- the head
 
@@ -90,26 +91,32 @@ workedAt head k = getD head (130 + k) 0
 abbrev pub allZero : List ℕ → Bool
 allZero words = allOf (λ x. eqb x 0) words
 
--- "unused words 0": in a used row those past the width, in the others all
-abbrev pub unusedZero : ℕ → ℕ → List Row → Bool
-unusedZero w count [] = true
-unusedZero w zero (r ∷ place) = allZero r && unusedZero w zero place
-unusedZero w (suc count) (r ∷ place) = allZero (drop w r) && unusedZero w count place
+-- the words of row j of a place that are not used: of the first rows, as many as the count, those past the width; of the others all
+unfoldable pub unusedOf : Layout → ℕ → ℕ → List ℕ → ℕ → ℕ → List ℕ
+unfolding fields
+unusedOf L w count area i j = cond (ltb j count) (fields (L .stride - w) area (rowStart L i j + w)) (fields (L .stride) area (rowStart L i j))
+
+-- "unused words 0"
+unfoldable pub unusedZero : Layout → ℕ → ℕ → List ℕ → ℕ → Bool
+unfolding unusedOf
+unusedZero L w count area i = allOf (λ j. allZero (unusedOf L w count area i j)) (numbersBelow (L .capacity))
 
 -- "counts at most 64; rows strictly ascending in each place; unused words 0"
-unfoldable pub goodPlace : Layout → ℕ → ℕ → List Row → Bool
-goodPlace L w count place = leb count (L .capacity) && ascending (heldIn w count place) && unusedZero w count place
+unfoldable pub goodPlace : Layout → ℕ → ℕ → List ℕ → ℕ → Bool
+unfolding heldIn unusedZero
+goodPlace L w count area i = leb count (L .capacity) && ascending (heldIn L w count area i) && unusedZero L w count area i
 
 -- "nodes past the network's last have 0 throughout"
-unfoldable pub emptyPlace : ℕ → List Row → Bool
-emptyPlace count place = eqb count 0 && unusedZero 0 0 place
+unfoldable pub emptyPlace : Layout → ℕ → List ℕ → ℕ → Bool
+unfolding unusedZero
+emptyPlace L count area i = eqb count 0 && unusedZero L 0 0 area i
 
 -- one area's places, by the nodes' widths and their counts
 unfoldable pub goodArea : Layout → List ℕ → (ℕ → ℕ) → List ℕ → Bool
 unfolding goodPlace emptyPlace
 goodArea L ws count area =
     allOf
-    (λ i. cond (ltb i (length ws)) (goodPlace L (getD ws i 0) (count i) (placeAt L area i)) (emptyPlace (count i) (placeAt L area i)))
+    (λ i. cond (ltb i (length ws)) (goodPlace L (getD ws i 0) (count i) area i) (emptyPlace L (count i) area i))
     (numbersBelow maxNodes)
 
 -- "stamps at most the batch number", and 0 past the last node
@@ -136,7 +143,8 @@ goodForm L nodes a =
 
 -- the relations of an area, by node number
 unfoldable pub relationsIn : Layout → List ℕ → (ℕ → ℕ) → List ℕ → List Relation
-relationsIn L ws count area = map (λ i. heldIn (getD ws i 0) (count i) (placeAt L area i)) (numbersBelow (length ws))
+unfolding heldIn
+relationsIn L ws count area = map (λ i. heldIn L (getD ws i 0) (count i) area i) (numbersBelow (length ws))
 
 -- each node's rows
 unfoldable pub rowsIn : Layout → List Node → Areas → List Relation

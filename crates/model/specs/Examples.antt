@@ -1,15 +1,16 @@
 -- The starred examples of document 01 as one table: from bytes to what they must give, with one test over the whole table.
 use mathlib.Core.Path.{_≡_, refl}
-use mathlib.Core.Bool.{Bool, true, false}
+use mathlib.Core.Bool.{Bool, true, false, _&&_}
 use mathlib.Core.List.{List, [], _∷_, _++_, map, flatMap}
 use Prim.Native.Nat.{ℕ, zero, suc, _+_, _*_}
-use lib.ListN.{getD, length}
-use Rattle.model.specs.Row.{Row, Relation, sameRows, allOf, countFrom}
+use lib.ListN.{getD, length, set, replicate}
+use Rattle.model.specs.Row.{Row, Relation, sameRow, sameRows, allOf, countFrom}
 use Rattle.model.specs.Record.{Bytes, bytes16, bytes32, Verdict, accepted}
 use Rattle.model.specs.Network.{Node, Network, readNetwork, levels}
 use Rattle.model.specs.Evaluation.{evaluate}
 use Rattle.model.specs.Delta.{changeAt}
 use Rattle.model.specs.Station.{State, opened, verdicts, stateAfter}
+use Rattle.model.specs.Areas.{Areas, Layout, areaWords, headWords, goodForm, coherent, rowsIn, stateIn, headOf, holding, sameRelations}
 
 -- ---- bytes of records
 
@@ -176,3 +177,82 @@ examples-right = refl
 further-right : allOf isRight furtherCases ≡ true
 unfolding furtherCases isRight
 further-right = refl
+
+-- ---- areas: the words that hold a state, on a small layout
+
+small : Layout
+small = record { stride = 2; capacity = 3 }
+
+blank : Areas
+unfolding small
+blank = record { rows = replicate (areaWords small) 9; gained = replicate (areaWords small) 9; lost = replicate (areaWords small) 9; head = replicate (headWords + 1) 9 }
+
+nodesN : List Node
+unfolding readNetwork networkN
+nodesN = readNetwork networkN .network .nodes
+
+-- N after its first two batches
+stateN : State
+unfolding nodesN opened stateAfter batch1 batch2
+stateN = stateAfter nodesN (opened nodesN) (batch1 ∷ batch2 ∷ [])
+
+areasN : Areas
+unfolding holding small nodesN stateN blank
+areasN = holding small nodesN stateN blank
+
+-- the areas with one word of the rows, of gained, of lost, or of the head changed
+withRows : ℕ → ℕ → Areas
+unfolding areasN
+withRows i x = record { rows = set (areasN .rows) i x; gained = areasN .gained; lost = areasN .lost; head = areasN .head }
+
+withGained : ℕ → ℕ → Areas
+unfolding areasN
+withGained i x = record { rows = areasN .rows; gained = set (areasN .gained) i x; lost = areasN .lost; head = areasN .head }
+
+withLost : ℕ → ℕ → Areas
+unfolding areasN
+withLost i x = record { rows = areasN .rows; gained = areasN .gained; lost = set (areasN .lost) i x; head = areasN .head }
+
+withHead : ℕ → ℕ → Areas
+unfolding areasN
+withHead i x = record { rows = areasN .rows; gained = areasN .gained; lost = areasN .lost; head = set (areasN .head) i x }
+
+isForm : Areas → Bool
+unfolding goodForm small nodesN
+isForm a = goodForm small nodesN a
+
+isCoherent : Areas → Bool
+unfolding coherent small nodesN
+isCoherent a = coherent small nodesN a
+
+-- what good form and coherence say of each of these areas
+areas-right :
+    map isForm (
+      areasN
+      ∷ withRows 1 13 -- another catch in table 0
+      ∷ withRows 13 1 -- a field past the width of node 2's row
+      ∷ withRows 4 1 -- a row past the count
+      ∷ withRows 190 1 -- a node past the last
+      ∷ withGained 0 1 -- gained past its count
+      ∷ withLost 31 7 -- lost of a node past the last
+      ∷ withHead 1 4 -- a count above the capacity
+      ∷ withHead 6 1 -- a count past the last node
+      ∷ withHead 34 3 -- a stamp above the batch number
+      ∷ withHead 38 1 -- a stamp past the last node
+      ∷ withHead 129 6 -- more worked on than there are nodes
+      ∷ withHead 131 5 -- a worked entry that is no node
+      ∷ withHead 132 1 -- a worked entry past the count
+      ∷ withHead 162 1 -- a word past the named ones
+      ∷ [])
+    ≡ true ∷ true ∷ false ∷ false ∷ false ∷ false ∷ false ∷ false ∷ false ∷ false ∷ false ∷ false ∷ false ∷ false ∷ true ∷ []
+unfolding isForm areasN withRows withGained withLost withHead
+areas-right = refl
+
+coherence-right : map isCoherent (areasN ∷ withRows 1 13 ∷ withRows 1 7 ∷ withHead 162 1 ∷ []) ≡ true ∷ false ∷ false ∷ true ∷ []
+unfolding isCoherent areasN withRows withHead
+coherence-right = refl
+
+-- the areas hold the state that was written, and the word past the head is as it was
+held-right : (sameRelations (rowsIn small nodesN areasN) (evaluate nodesN (stateN .tables)) && sameRelations (stateIn small nodesN areasN .tables) (stateN .tables) && sameRow (stateIn small nodesN areasN .worked) (stateN .worked) && sameRow (stateIn small nodesN areasN .stamps) (stateN .stamps) && sameRow (areasN .head) (headOf (evaluate nodesN (stateN .tables)) stateN ++ (9 ∷ []))) ≡ true
+unfolding rowsIn small nodesN areasN evaluate stateN stateIn headOf
+held-right = refl
