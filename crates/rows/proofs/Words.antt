@@ -1,0 +1,455 @@
+-- Rows in a list of words, for rows of any number of words. Assumes nothing.
+use mathlib.Core.Path.{_≡_, refl, sym, ap, ap₂, _∙_, subst}
+use mathlib.Core.Bool.{Bool, true, false, not}
+use mathlib.Core.List.{List, [], _∷_, _++_, append-assoc, append-nil}
+use Prim.Native.Nat.{ℕ, zero, suc, _+_, _-_, _*_, _≤_, _<_, compare, Ordering, Ordering·lt, Ordering·eq, Ordering·gt}
+use native.Mathlib.Nat.{not-suc-le-zero, suc-mul, zero-mul, zero-add, add-zero, suc-add, mul-le-mul-right, add-mul, le-refl, le-trans, le-of-eq}
+use native.Mathlib.Numerals.{add-one, towards-suc}
+use native.Mathlib.Omega.{arith}
+use lib.ListN.{length-drop, replicate, length-replicate, replicate-append-replicate, length, getD, set, take, drop, length-append, length-set, take-append-drop, List·getD-append}
+use lib.Seq.{paste, take-all, drop-append-le, getD-append-add, getD-drop, take-nil, drop-nil, take-take, length-slice, take-append-le, slice, slice-empty, slice-cons, take-suc, getD-take, append-snoc, set-at, sets, sets-eq, getD-set-same, getD-set-other, take-add, drop-drop, take-append-add, drop-append-add, length-take-le, drop-cons, take-append-seam, drop-append-seam, take-at, drop-at}
+use Rattle.model.specs.Row.{Row, andThen, order, sameRow, member, keep, keepIf, place, insertRow}
+use Rattle.model.specs.Areas.{fields}
+use Rattle.model.proofs.Order.{lt-compare, gt-compare, eq-compare}
+use Rattle.rows.specs.Rows.{rowAt, rowsFrom, words, stored}
+
+-- ---- comparing field by field
+
+pub order-turn : (w k : ℕ) → k < w → (s : List ℕ) (i : ℕ) (t : List ℕ) (j : ℕ) →
+    order (fields (w - k) s (i + k)) (fields (w - k) t (j + k))
+    ≡ andThen (compare (getD s (i + k) 0) (getD t (j + k) 0)) (order (fields (w - (k + 1)) s (i + (k + 1))) (fields (w - (k + 1)) t (j + (k + 1))))
+unfolding fields
+order-turn w k h s i t j =
+    let e : w - k ≡ suc (w - (k + 1)) = omega arith in
+    let f : i + (k + 1) ≡ suc (i + k) = omega arith in
+    let g : j + (k + 1) ≡ suc (j + k) = omega arith in
+    rw (e, f, g)
+
+-- w words of s from index i on and of t from index j on agree in their first k: what is left decides
+abbrev pub Agree : ℕ → List ℕ → ℕ → List ℕ → ℕ → ℕ → Type 0
+Agree w s i t j k = order (fields w s i) (fields w t j) ≡ order (fields (w - k) s (i + k)) (fields (w - k) t (j + k))
+
+module _ (w : ℕ) (s : List ℕ) (i : ℕ) (t : List ℕ) (j : ℕ) where
+  pub agree-none : Agree w s i t j 0
+  agree-none =
+      let e : w - 0 ≡ w = omega arith in
+      let f : i + 0 ≡ i = omega arith in
+      let g : j + 0 ≡ j = omega arith in
+      rw (e, f, g)
+
+  pub agree-more : (k : ℕ) → k < w → Agree w s i t j k → getD t (j + k) 0 ≤ getD s (i + k) 0 → getD s (i + k) 0 ≤ getD t (j + k) 0 → Agree w s i t j (k + 1)
+  agree-more k h a p q = a ∙ order-turn w k h s i t j ∙ rw (eq-compare (getD s (i + k) 0) (getD t (j + k) 0) (omega arith))
+
+  pub agree-less : (k : ℕ) → k < w → Agree w s i t j k → getD s (i + k) 0 < getD t (j + k) 0 → order (fields w s i) (fields w t j) ≡ Ordering·lt
+  agree-less k h a p = a ∙ order-turn w k h s i t j ∙ rw (lt-compare (getD s (i + k) 0) (getD t (j + k) 0) p)
+
+  pub agree-greater : (k : ℕ) → k < w → Agree w s i t j k → getD t (j + k) 0 < getD s (i + k) 0 → order (fields w s i) (fields w t j) ≡ Ordering·gt
+  agree-greater k h a p = a ∙ order-turn w k h s i t j ∙ rw (gt-compare (getD s (i + k) 0) (getD t (j + k) 0) p)
+
+  pub agree-all : (k : ℕ) → w ≤ k → Agree w s i t j k → order (fields w s i) (fields w t j) ≡ Ordering·eq
+  unfolding fields
+  agree-all k h a = let e : w - k ≡ 0 = omega arith in a ∙ rw e
+
+-- ---- the rows from a place on
+
+pub rows-cons : (w : ℕ) (s : List ℕ) (n j : ℕ) → j < n → rowsFrom w s j (n - j) ≡ rowAt w s j ∷ rowsFrom w s (j + 1) (n - (j + 1))
+unfolding rowsFrom
+rows-cons w s n j h =
+    let e : n - j ≡ suc (n - (j + 1)) = omega arith in
+    let f : j + 1 ≡ suc j = omega arith in
+    rw (e, f)
+
+pub rows-none : (w : ℕ) (s : List ℕ) (n j : ℕ) → n ≤ j → rowsFrom w s j (n - j) ≡ []
+unfolding rowsFrom
+rows-none w s n j h = let e : n - j ≡ 0 = omega arith in rw e
+
+pub length-rows : (w : ℕ) (s : List ℕ) (j n : ℕ) → length (rowsFrom w s j n) ≡ n
+unfolding rowsFrom
+length-rows w s j zero = refl
+length-rows w s j (suc n) = ap suc (length-rows w s (suc j) n)
+
+-- ---- a gap of b words: the words from index k up to `to` moved b places up
+
+abbrev pub gap : ℕ → ℕ → ℕ → List ℕ → List ℕ
+gap b k to s = take (k + b) s ++ (slice k to s ++ drop (to + b) s)
+
+pub gap-none : (b to : ℕ) (s : List ℕ) → to + b ≤ length s → s ≡ gap b to to s
+gap-none b to s h = sym (rw (slice-empty to s) (take-append-drop (to + b) s))
+
+gap-step : (b k to : ℕ) (s : List ℕ) → k < to → to + b ≤ length s → set (gap b (suc k) to s) (k + b) (getD (gap b (suc k) to s) k 0) ≡ gap b k to s
+gap-step b k to s h f =
+    let r : List ℕ = slice (suc k) to s ++ drop (to + b) s in
+    let e : take (suc k + b) s ≡ take (k + b) s ++ (getD s (k + b) 0 ∷ []) = ap (λ (n : ℕ). take n s) (suc-add k b) ∙ take-suc s (k + b) 0 (omega arith) in
+    let v : getD (gap b (suc k) to s) k 0 ≡ getD s k 0 =
+    List·getD-append (take (suc k + b) s) r 0 k (rw (length-take-le (suc k + b) s (omega arith)) (omega arith)) ∙ getD-take (suc k + b) s k 0 (omega arith) in
+    let g : gap b (suc k) to s ≡ take (k + b) s ++ (getD s (k + b) 0 ∷ r) = ap (λ (l : List ℕ). l ++ r) e ∙ append-snoc (take (k + b) s) (getD s (k + b) 0) r in
+    ap₂ (λ (l : List ℕ) (x : ℕ). set l (k + b) x) g v
+    ∙ set-at (take (k + b) s) (getD s (k + b) 0) r (getD s k 0) (k + b) (length-take-le (k + b) s (omega arith))
+    ∙ ap (λ (l : List ℕ). take (k + b) s ++ (l ++ drop (to + b) s)) (sym (slice-cons k to s 0 h (omega arith)))
+
+pub gap-turn : (b k to : ℕ) (s t : List ℕ) → 0 < k → k ≤ to → to + b ≤ length s → t ≡ gap b k to s → set t (k - 1 + b) (getD t (k - 1) 0) ≡ gap b (k - 1) to s
+gap-turn b k to s t p h f e =
+    let q : k ≡ suc (k - 1) = omega arith in
+    let e′ : t ≡ gap b (suc (k - 1)) to s = e ∙ ap (λ (n : ℕ). gap b n to s) q in
+    ap (λ (l : List ℕ). set l (k - 1 + b) (getD l (k - 1) 0)) e′ ∙ gap-step b (k - 1) to s (omega arith) f
+
+-- ---- the rows' words
+
+pub words-append : (a b : List Row) → words (a ++ b) ≡ words a ++ words b
+words-append [] b = refl
+words-append (r ∷ a) b = rw (words-append a b) (sym (append-assoc r (words a) (words b)))
+
+-- every row has w fields
+abbrev pub Wide : ℕ → List Row → Type 0
+Wide w [] = Unit {0}
+Wide w (r ∷ l) = (length r ≡ w) × Wide w l
+
+pub length-fields : (w : ℕ) (s : List ℕ) (at : ℕ) → length (fields w s at) ≡ w
+unfolding fields
+length-fields zero s at = refl
+length-fields (suc w) s at = ap suc (length-fields w s (suc at))
+
+pub length-row : (w : ℕ) (s : List ℕ) (j : ℕ) → length (rowAt w s j) ≡ w
+unfolding rowAt
+length-row w s j = length-fields w s (j * w)
+
+pub wide-rows : (w : ℕ) (s : List ℕ) (j n : ℕ) → Wide w (rowsFrom w s j n)
+unfolding rowsFrom
+wide-rows w s j zero = tt
+wide-rows w s j (suc n) = (length-row w s j, wide-rows w s (suc j) n)
+
+pub length-words : (w : ℕ) (l : List Row) → Wide w l → length (words l) ≡ length l * w
+length-words w [] h = sym (zero-mul w)
+length-words w (r ∷ l) h = length-append r (words l) ∙ rw (h .0, length-words w l (h .1), suc-mul) (omega arith)
+
+pub take-words : (w p : ℕ) (l : List Row) → Wide w l → take (p * w) (words l) ≡ words (take p l)
+take-words w zero l h = rw zero-mul
+take-words w (suc p) [] h = take-nil (suc p * w)
+take-words w (suc p) (r ∷ l) h =
+    let e : suc p * w ≡ length r + p * w = suc-mul p w ∙ rw (h .0) (omega arith) in
+    rw (e, take-append-add, take-words w p l (h .1))
+
+pub drop-words : (w p : ℕ) (l : List Row) → Wide w l → drop (p * w) (words l) ≡ words (drop p l)
+drop-words w zero l h = rw zero-mul
+drop-words w (suc p) [] h = drop-nil (suc p * w)
+drop-words w (suc p) (r ∷ l) h =
+    let e : suc p * w ≡ length r + p * w = suc-mul p w ∙ rw (h .0) (omega arith) in
+    rw (e, drop-append-add, drop-words w p l (h .1))
+
+-- fields that lie within the list are a part of it
+pub fields-part : (w : ℕ) (s : List ℕ) (at : ℕ) → at + w ≤ length s → fields w s at ≡ take w (drop at s)
+unfolding fields
+fields-part zero s at h = refl
+fields-part (suc w) s at h = rw (drop-cons s at 0 (omega arith), fields-part w s (suc at) (omega arith))
+
+pub words-rows : (w : ℕ) (s : List ℕ) (j n : ℕ) → j * w + n * w ≤ length s → words (rowsFrom w s j n) ≡ take (n * w) (drop (j * w) s)
+unfolding rowsFrom rowAt
+words-rows w s j zero h = rw zero-mul
+words-rows w s j (suc n) h =
+    let e : suc n * w ≡ w + n * w = suc-mul n w ∙ omega arith in
+    let f : suc j * w ≡ j * w + w = suc-mul j w in
+    rw (e, fields-part w s (j * w) (omega (arith, e)), words-rows w s (suc j) n (omega (arith, e, f)), f, take-add, drop-drop)
+
+-- ---- a row put in at a place
+
+module _ (w : ℕ) (r : Row) (s : List ℕ) (n p : ℕ) (wide : length r ≡ w) (fits : n * w + w ≤ length s) (within : p ≤ n) where
+  abbrev all : List Row
+  all = rowsFrom w s 0 n
+
+  whole : words all ≡ take (n * w) s
+  whole = words-rows w s 0 n (omega (arith, zero-mul w)) ∙ rw zero-mul
+
+  front : words (take p all) ≡ take (p * w) s
+  front = sym (take-words w p all (wide-rows w s 0 n)) ∙ rw (whole, take-take (p * w) (n * w) s (mul-le-mul-right w within))
+
+  back : words (drop p all) ≡ slice (p * w) (n * w) s
+  back = sym (drop-words w p all (wide-rows w s 0 n)) ∙ rw whole
+
+  put-words : words (take p all ++ (r ∷ drop p all)) ≡ take (p * w) s ++ (r ++ slice (p * w) (n * w) s)
+  put-words = words-append (take p all) (r ∷ drop p all) ∙ rw (front, back)
+
+  pub put-length : length (take p all ++ (r ∷ drop p all)) ≡ n + 1
+  put-length = simp (length-append, length-take-le p all (rw (length-rows w s 0 n) within), length-drop, length-rows) (omega arith)
+
+  put-size : length (words (take p all ++ (r ∷ drop p all))) ≡ n * w + w
+  put-size =
+      let h : p * w ≤ n * w = mul-le-mul-right w within in
+      rw put-words (length-append (take (p * w) s) (r ++ slice (p * w) (n * w) s) ∙ rw (length-append, length-take-le (p * w) s (omega arith), length-slice (p * w) (n * w) s (omega arith), wide) (omega arith))
+
+  pub put-in : sets (gap w (p * w) (n * w) s) (p * w) r ≡ stored (take p all ++ (r ∷ drop p all)) s
+  unfolding stored
+  put-in =
+      let h : p * w ≤ n * w = mul-le-mul-right w within in
+      let a : List ℕ = take (p * w + w) s in
+      let b : List ℕ = slice (p * w) (n * w) s ++ drop (n * w + w) s in
+      let la : length a ≡ p * w + w = length-take-le (p * w + w) s (omega arith) in
+      sets-eq r (a ++ b) (p * w) (rw (length-append a b, wide, la) (omega arith))
+      ∙ rw (wide, take-append-le (p * w) a b (rw la (omega arith)), take-take (p * w) (p * w + w) s (omega arith), drop-at a b (p * w + w) la, put-size, put-words)
+      (simp append-assoc)
+
+-- ---- what is stored is there
+
+pub stored-same : (w : ℕ) (s : List ℕ) (n : ℕ) → n * w ≤ length s → s ≡ stored (rowsFrom w s 0 n) s
+unfolding stored
+stored-same w s n h =
+    let e : words (rowsFrom w s 0 n) ≡ take (n * w) s = words-rows w s 0 n (omega (arith, zero-mul w)) ∙ rw zero-mul in
+    sym (rw (e, length-take-le (n * w) s h) (take-append-drop (n * w) s))
+
+-- ---- one row more at the end
+
+pub rows-snoc : (w : ℕ) (s : List ℕ) (j n : ℕ) → rowsFrom w s j (n + 1) ≡ rowsFrom w s j n ++ (rowAt w s (j + n) ∷ [])
+unfolding rowsFrom
+rows-snoc w s j zero = rw add-zero
+rows-snoc w s j (suc n) =
+    let e : suc n + 1 ≡ suc (n + 1) = omega arith in
+    let f : j + suc n ≡ suc j + n = omega arith in
+    rw (e, f, rows-snoc w s (suc j) n)
+
+pub keep-append : (p : Row → Bool) (a b : List Row) → keep p (a ++ b) ≡ keep p a ++ keep p b
+keep-append p [] b = refl
+keep-append p (x ∷ a) b = go (p x) (keep-append p a b)
+  where
+    go : (t : Bool) → keep p (a ++ b) ≡ keep p a ++ keep p b → keepIf t x (keep p (a ++ b)) ≡ keepIf t x (keep p a) ++ keep p b
+    go true ih = rw ih
+    go false ih = ih
+
+pub wide-keep : (w : ℕ) (p : Row → Bool) (l : List Row) → Wide w l → Wide w (keep p l)
+wide-keep w p [] h = tt
+wide-keep w p (x ∷ l) h = go (p x) (wide-keep w p l (h .1))
+  where
+    go : (t : Bool) → Wide w (keep p l) → Wide w (keepIf t x (keep p l))
+    go true m = (h .0, m)
+    go false m = m
+
+pub stored-push : (w : ℕ) (l : List Row) (r : Row) (b : List ℕ) (n : ℕ) → Wide w l → length r ≡ w → n ≡ length l → n * w + w ≤ length b →
+    sets (stored l b) (n * w) r ≡ stored (l ++ (r ∷ [])) b
+unfolding stored
+stored-push w l r b n wide lr ln fits =
+    let size : length (words l) ≡ n * w = length-words w l wide ∙ rw ln in
+    let more : words (l ++ (r ∷ [])) ≡ words l ++ r = words-append l (r ∷ []) ∙ rw append-nil in
+    let whole : length (words l ++ drop (n * w) b) ≡ length b = length-append (words l) (drop (n * w) b) ∙ rw (size, length-drop) (omega arith) in
+    rw size (sets-eq r (words l ++ drop (n * w) b) (n * w) (rw (whole, lr) fits)
+    ∙ rw (take-at (words l) (drop (n * w) b) (n * w) size, lr)
+    (rw (← drop-drop, drop-at (words l) (drop (n * w) b) (n * w) size, drop-drop, more, length-append, size, lr)))
+
+-- ---- reading back
+
+pub fields-drop : (w : ℕ) (s : List ℕ) (m at : ℕ) → fields w (drop m s) at ≡ fields w s (m + at)
+unfolding fields
+fields-drop zero s m at = refl
+fields-drop (suc w) s m at =
+    let e : m + suc at ≡ suc (m + at) = omega arith in
+    rw (getD-drop, fields-drop w s m (suc at), e)
+
+pub rows-shift : (w : ℕ) (s : List ℕ) (j n : ℕ) → rowsFrom w (drop w s) j n ≡ rowsFrom w s (suc j) n
+unfolding rowsFrom rowAt
+rows-shift w s j zero = refl
+rows-shift w s j (suc n) =
+    let e : suc j * w ≡ w + j * w = suc-mul j w ∙ omega arith in
+    rw (e, fields-drop w s w (j * w), rows-shift w s (suc j) n)
+
+-- the rows of a part that starts at row j
+pub rows-drop : (w : ℕ) (s : List ℕ) (j n : ℕ) → rowsFrom w (drop (j * w) s) 0 n ≡ rowsFrom w s j n
+rows-drop w s zero n = rw zero-mul
+rows-drop w s (suc j) n =
+    let e : suc j * w ≡ w + j * w = suc-mul j w ∙ omega arith in
+    rw (e, ← drop-drop, rows-drop w (drop w s) j n) (rows-shift w s j n)
+
+pub rows-words : (w : ℕ) (l : List Row) (t : List ℕ) → Wide w l → rowsFrom w (words l ++ t) 0 (length l) ≡ l
+unfolding rowsFrom rowAt
+rows-words w [] t h = refl
+rows-words w (r ∷ l) t h =
+    let f : fields w (r ++ (words l ++ t)) 0 ≡ r =
+    fields-part w (r ++ (words l ++ t)) 0 (simp (length-append, h .0) (omega arith)) ∙ take-at r (words l ++ t) w (h .0) in
+    rw (zero-mul, append-assoc, f, ← (rows-shift w (r ++ (words l ++ t)) 0 (length l)), drop-at r (words l ++ t) w (h .0), rows-words w l t (h .1))
+
+pub rows-stored : (w : ℕ) (l : List Row) (s : List ℕ) → Wide w l → rowsFrom w (stored l s) 0 (length l) ≡ l
+unfolding stored
+rows-stored w l s h = rows-words w l (drop (length (words l)) s) h
+
+-- rows depend on their own words alone
+pub fields-ext : (w : ℕ) (s t : List ℕ) (at : ℕ) → ((k : ℕ) → at ≤ k → k < at + w → getD s k 0 ≡ getD t k 0) → fields w s at ≡ fields w t at
+unfolding fields
+fields-ext zero s t at h = refl
+fields-ext (suc w) s t at h = λ i. h at (omega arith) (omega arith) i ∷ fields-ext w s t (suc at) (λ k a b. h k (omega arith) (omega arith)) i
+
+pub wide-insert : (w : ℕ) (r : Row) (l : List Row) → length r ≡ w → Wide w l → Wide w (insertRow r l)
+wide-insert w r [] h a = (h, tt)
+wide-insert w r (x ∷ l) h a = go (order r x) (wide-insert w r l h (a .1))
+  where
+    go : (o : Ordering) → Wide w (insertRow r l) → Wide w (place o r x l (insertRow r l))
+    go Ordering·lt m = (h, a)
+    go Ordering·eq m = a
+    go Ordering·gt m = (a .0, m)
+
+-- ---- one storing after another
+
+pub stored-stored : (l k : List Row) (b : List ℕ) → length (words l) ≤ length (words k) → stored k (stored l b) ≡ stored k b
+unfolding stored
+stored-stored l k b h =
+    let e : length (words k) ≡ length (words l) + (length (words k) - length (words l)) = omega arith in
+    ap (λ (t : List ℕ). words k ++ t) (ap (λ (n : ℕ). drop n (words l ++ drop (length (words l)) b)) e ∙ rw (drop-append-add, drop-drop, ← e))
+
+-- ---- rows of a list that agrees with another on their words
+
+pub rows-ext : (w : ℕ) (s t : List ℕ) (j n : ℕ) → ((k : ℕ) → k < j * w + n * w → getD s k 0 ≡ getD t k 0) → rowsFrom w s j n ≡ rowsFrom w t j n
+unfolding rowsFrom rowAt
+rows-ext w s t j zero h = refl
+rows-ext w s t j (suc n) h =
+    let e : suc n * w ≡ n * w + w = suc-mul n w in
+    let f : suc j * w ≡ j * w + w = suc-mul j w in
+    rw (fields-ext w s t (j * w) (λ k a b. h k (omega (arith, e))), rows-ext w s t (suc j) n (λ k b. h k (omega (arith, e, f))))
+
+-- the rows of a part
+pub rows-part : (w m : ℕ) (s : List ℕ) (j n : ℕ) → n * w ≤ m → rowsFrom w (take m (drop (j * w) s)) 0 n ≡ rowsFrom w s j n
+rows-part w m s j n h =
+    rows-ext w (take m (drop (j * w) s)) (drop (j * w) s) 0 n (λ k b. getD-take m (drop (j * w) s) k 0 (omega (arith, zero-mul w)))
+    ∙ rows-drop w s j n
+
+-- the rows in the front of a list, whatever comes after it
+pub rows-front : (w m : ℕ) (s t : List ℕ) (j n : ℕ) → m ≤ length s → j * w + n * w ≤ m → rowsFrom w (take m s ++ t) j n ≡ rowsFrom w s j n
+rows-front w m s t j n h g =
+    rows-ext w (take m s ++ t) s j n
+    (λ k b. List·getD-append (take m s) t 0 k (rw (length-take-le m s h) (omega arith)) ∙ getD-take m s k 0 (omega arith))
+
+-- the rows behind a front
+pub rows-behind : (w : ℕ) (p t : List ℕ) (j n : ℕ) → length p ≡ j * w → rowsFrom w (p ++ t) j n ≡ rowsFrom w t 0 n
+rows-behind w p t j n h = sym (rows-drop w (p ++ t) j n) ∙ rw (drop-at p t (j * w) h)
+
+pub rows-stored-in : (w : ℕ) (l : List Row) (s t : List ℕ) → Wide w l → rowsFrom w (stored l s ++ t) 0 (length l) ≡ l
+unfolding stored
+rows-stored-in w l s t h = rw append-assoc (rows-words w l (drop (length (words l)) s ++ t) h)
+
+-- ---- closing a gap of b words: the words from index from + b up to k + b moved b places down
+
+abbrev pub shut : ℕ → ℕ → ℕ → List ℕ → List ℕ
+shut b from k s = take from s ++ (slice (from + b) (k + b) s ++ drop k s)
+
+pub slice-snoc : (f t : ℕ) (l : List ℕ) → f ≤ t → t < length l → slice f (suc t) l ≡ slice f t l ++ (getD l t 0 ∷ [])
+slice-snoc f t l h g = ap (drop f) (take-suc l t 0 g) ∙ drop-append-le f (take t l) (getD l t 0 ∷ []) (rw (length-take-le t l (omega arith)) h)
+
+module _ (b from : ℕ) (s : List ℕ) where
+  head-part : ℕ → List ℕ
+  head-part k = take from s ++ slice (from + b) (k + b) s
+
+  head-length : (k : ℕ) → from ≤ k → k + b ≤ length s → length (head-part k) ≡ k
+  unfolding head-part
+  head-length k h g = length-append (take from s) (slice (from + b) (k + b) s) ∙ rw (length-take-le from s (omega arith), length-slice (from + b) (k + b) s g) (omega arith)
+
+  shut-split : (k : ℕ) → shut b from k s ≡ head-part k ++ drop k s
+  unfolding head-part
+  shut-split k = sym (append-assoc (take from s) (slice (from + b) (k + b) s) (drop k s))
+
+  pub shut-none : s ≡ shut b from from s
+  shut-none = sym (rw (slice-empty (from + b) s) (take-append-drop from s))
+
+  pub shut-turn : (k : ℕ) (t : List ℕ) → from ≤ k → k + b < length s → t ≡ shut b from k s → set t k (getD t (k + b) 0) ≡ shut b from (k + 1) s
+  unfolding head-part
+  shut-turn k t h g e =
+      let p : List ℕ = head-part k in
+      let lp : length p ≡ k = head-length k h (omega arith) in
+      let t-is : t ≡ p ++ drop k s = e ∙ shut-split k in
+      let v : getD t (k + b) 0 ≡ getD s (k + b) 0 = ap (λ (l : List ℕ). getD l (k + b) 0) t-is ∙ ap (λ (n : ℕ). getD (p ++ drop k s) (n + b) 0) (sym lp) ∙ getD-append-add p (drop k s) b 0 ∙ getD-drop k s b 0 in
+      let x : ℕ = getD s (k + b) 0 in
+      let step : slice (from + b) (k + 1 + b) s ≡ slice (from + b) (k + b) s ++ (x ∷ []) =
+      let n : k + 1 + b ≡ suc (k + b) = omega arith in rw n (slice-snoc (from + b) (k + b) s (omega arith) g) in
+      ap₂ (λ (l : List ℕ) (y : ℕ). set l k y) (t-is ∙ ap (λ (l : List ℕ). p ++ l) (drop-cons s k 0 (omega arith))) v
+      ∙ set-at p (getD s k 0) (drop (suc k) s) x k lp
+      ∙ rw (step, add-one) (append-assoc (take from s) (slice (from + b) (k + b) s) (x ∷ drop (suc k) s) ∙ ap (λ (l : List ℕ). take from s ++ l) (sym (append-snoc (slice (from + b) (k + b) s) x (drop (suc k) s))))
+
+  pub shut-clear : (to : ℕ) → from + b ≤ to → to ≤ length s → sets (shut b from (to - b) s) (to - b) (replicate b 0) ≡ take from s ++ (slice (from + b) to s ++ (replicate b 0 ++ drop to s))
+  unfolding head-part
+  shut-clear to h g =
+      let k : ℕ = to - b in
+      let e : k + b ≡ to = omega arith in
+      let p : List ℕ = head-part k in
+      let lp : length p ≡ k = head-length k (omega arith) (omega arith) in
+      let z : List ℕ = replicate b 0 in
+      let lz : length z ≡ b = length-replicate b 0 in
+      let whole : length (p ++ drop k s) ≡ length s = length-append p (drop k s) ∙ rw (lp, length-drop) (omega arith) in
+      let rest : drop (k + length z) (p ++ drop k s) ≡ drop to s =
+      ap (λ (n : ℕ). drop (k + n) (p ++ drop k s)) lz ∙ sym (drop-drop b k (p ++ drop k s)) ∙ ap (drop b) (drop-at p (drop k s) k lp) ∙ drop-drop b k s ∙ ap (λ (n : ℕ). drop n s) e in
+      ap (λ (l : List ℕ). sets l k (replicate b 0)) (shut-split k)
+      ∙ sets-eq (replicate b 0) (p ++ drop k s) k (rw (lz, whole) (omega arith))
+      ∙ rw (take-at p (drop k s) k lp, rest, e) (simp append-assoc)
+
+-- ---- a row taken out at a place
+
+module _ (w : ℕ) (s : List ℕ) (n p : ℕ) (fits : n * w ≤ length s) (within : p < n) where
+  abbrev rest-of : List Row
+  rest-of = take p (rowsFrom w s 0 n) ++ drop (suc p) (rowsFrom w s 0 n)
+
+  pub out-length : length rest-of ≡ n - 1
+  out-length = simp (length-append, length-take-le p (rowsFrom w s 0 n) (rw (length-rows w s 0 n) (omega arith)), length-drop, length-rows) (omega arith)
+
+  out-words : words (rest-of ++ (replicate w 0 ∷ [])) ≡ take (p * w) s ++ (slice (p * w + w) (n * w) s ++ replicate w 0)
+  out-words =
+      let l : List Row = rowsFrom w s 0 n in
+      let h : p * w ≤ n * w = mul-le-mul-right w (omega arith) in
+      let whole : words l ≡ take (n * w) s = words-rows w s 0 n (omega (arith, zero-mul w)) ∙ rw zero-mul in
+      let front : words (take p l) ≡ take (p * w) s = sym (take-words w p l (wide-rows w s 0 n)) ∙ rw (whole, take-take (p * w) (n * w) s h) in
+      let back : words (drop (suc p) l) ≡ slice (p * w + w) (n * w) s = sym (drop-words w (suc p) l (wide-rows w s 0 n)) ∙ rw (suc-mul, whole) in
+      words-append (take p l ++ drop (suc p) l) (replicate w 0 ∷ []) ∙ rw (words-append, front, back, append-nil) (append-assoc (take (p * w) s) (slice (p * w + w) (n * w) s) (replicate w 0))
+
+  out-size : length (words (rest-of ++ (replicate w 0 ∷ []))) ≡ n * w
+  out-size =
+      let h : suc p * w ≤ n * w = mul-le-mul-right w within in
+      let g : suc p * w ≡ p * w + w = suc-mul p w in
+      let z : List ℕ = replicate w 0 in
+      rw out-words (simp (length-append, length-take-le (p * w) s (omega (arith, h, g)), length-slice (p * w + w) (n * w) s fits, length-replicate) (omega (arith, h, g)))
+
+  pub take-away : take (p * w) s ++ (slice (p * w + w) (n * w) s ++ (replicate w 0 ++ drop (n * w) s)) ≡ stored (rest-of ++ (replicate w 0 ∷ [])) s
+  unfolding stored
+  take-away = rw (out-size, out-words) (simp append-assoc)
+
+-- four stores, as straight-line code leaves them
+pub sets-four : (l : List ℕ) (i x y z v : ℕ) → set (set (set (set l i x) (i + 1) y) (i + 2) z) (i + 3) v ≡ sets l i (x ∷ y ∷ z ∷ v ∷ [])
+sets-four l i x y z v = simp towards-suc
+
+-- ---- blocks: what stands past the rows is 0
+
+pub drop-zeros : (k n : ℕ) → drop k (replicate n zero) ≡ replicate (n - k) zero
+drop-zeros zero n = let e : n - 0 ≡ n = omega arith in rw e
+drop-zeros (suc k) zero = let e : 0 - suc k ≡ 0 = omega arith in rw e
+drop-zeros (suc k) (suc n) = let e : suc n - suc k ≡ n - k = omega arith in rw e (drop-zeros k n)
+
+pub words-zeros : (w k : ℕ) → words (replicate k (replicate w zero)) ≡ replicate (k * w) zero
+words-zeros w zero = rw zero-mul
+words-zeros w (suc k) =
+    let e : suc k * w ≡ w + k * w = suc-mul k w ∙ omega arith in
+    rw (e, words-zeros w k) (replicate-append-replicate w (k * w) zero)
+
+-- ---- a row copied to its place is a run of stores
+
+pub paste-sets : (d s : List ℕ) (at n : ℕ) (r : Row) → r ≡ take n s → length r ≡ n → at + n ≤ length d → paste d at s n ≡ sets d at r
+paste-sets d s at n r e l h = sym (sets-eq r d at (rw l h) ∙ rw (l, e))
+
+-- row `at` of src, copied into the gap that was opened for it
+pub put-copied : (w : ℕ) (src s : List ℕ) (at n p : ℕ) → at * w + w ≤ length src → n * w + w ≤ length s → p ≤ n →
+    paste (gap w (p * w) (n * w) s) (p * w) (drop (at * w) src) w ≡ stored (take p (rowsFrom w s 0 n) ++ (rowAt w src at ∷ drop p (rowsFrom w s 0 n))) s
+unfolding rowAt
+put-copied w src s at n p g h f =
+    let q : p * w ≤ n * w = mul-le-mul-right w f in
+    let room : length (gap w (p * w) (n * w) s) ≡ length s =
+    length-append (take (p * w + w) s) (slice (p * w) (n * w) s ++ drop (n * w + w) s)
+    ∙ rw (length-append, length-take-le (p * w + w) s (omega arith), length-slice (p * w) (n * w) s (omega arith), length-drop) (omega arith) in
+    paste-sets (gap w (p * w) (n * w) s) (drop (at * w) src) (p * w) w (fields w src (at * w)) (fields-part w src (at * w) g) (length-fields w src (at * w)) (rw room (omega arith))
+    ∙ put-in w (fields w src (at * w)) s n p (length-fields w src (at * w)) h f
+
+-- the gap of row p closed, and the place that becomes unused cleared
+pub taken-cleared : (w : ℕ) (s : List ℕ) (n p : ℕ) → n * w ≤ length s → p < n →
+    paste (take (p * w) s ++ (slice (p * w + w) (n * w) s ++ drop (n * w - w) s)) (n * w - w) (replicate w 0) w
+    ≡ stored (take p (rowsFrom w s 0 n) ++ drop (suc p) (rowsFrom w s 0 n) ++ (replicate w 0 ∷ [])) s
+taken-cleared w s n p h f =
+    let q : suc p * w ≤ n * w = mul-le-mul-right w f in
+    let g : suc p * w ≡ p * w + w = suc-mul p w in
+    let e : n * w - w + w ≡ n * w = omega (arith, q, g) in
+    let closed : take (p * w) s ++ (slice (p * w + w) (n * w) s ++ drop (n * w - w) s) ≡ shut w (p * w) (n * w - w) s = rw e in
+    let z : List ℕ = replicate w 0 in
+    let size : length (shut w (p * w) (n * w - w) s) ≡ length s =
+    length-append (take (p * w) s) (slice (p * w + w) (n * w - w + w) s ++ drop (n * w - w) s)
+    ∙ rw (length-append, length-take-le (p * w) s (omega (arith, q, g)), length-slice (p * w + w) (n * w - w + w) s (rw e h), length-drop) (omega (arith, q, g)) in
+    ap (λ (l : List ℕ). paste l (n * w - w) z w) closed
+    ∙ paste-sets (shut w (p * w) (n * w - w) s) z (n * w - w) w z (sym (take-all w z (omega (arith, length-replicate w zero)))) (length-replicate w 0) (rw size (omega (arith, q, g)))
+    ∙ shut-clear w (p * w) s (n * w) (omega (arith, q, g)) h
+    ∙ take-away w s n p h f
