@@ -3,8 +3,8 @@ use mathlib.Core.Bool.{Bool, true, false, not, _&&_, cond}
 use mathlib.Core.List.{List, [], _∷_, _++_}
 use Prim.Native.Nat.{ℕ, zero, suc, _+_, _*_, max}
 use lib.Dec.{leb, ltb, eqb}
-use lib.ListN.{getD, length}
-use Rattle.model.specs.Row.{maxWidth, maxNodes, allOf, someOf, isEmpty}
+use lib.ListN.{getD, length, set}
+use Rattle.model.specs.Row.{maxWidth, maxNodes, allOf, isEmpty}
 use Rattle.model.specs.Algebra.{Pair}
 use Rattle.model.specs.Record.{Bytes, u32, lengthAt, kindAt, fieldAt, fieldsAt, isBroken, offsets, Verdict, accepted, refused, Rule, rule, firstBroken}
 
@@ -34,13 +34,13 @@ pub record Watch : Type 0 where
   pub node : ℕ
   pub sign : ℕ
 
--- nodes "numbered from 0 in order of their records", and watches in order of theirs
+-- nodes "numbered from 0 in order of their records", and for each node its watch's sign, 0 if it has no watch
 pub record Network : Type 0 where
   pub nodes : List Node
-  pub watches : List Watch
+  pub signs : List ℕ
 
 abbrev pub noNetwork : Network
-noNetwork = record { nodes = []; watches = [] }
+noNetwork = record { nodes = []; signs = [] }
 
 -- ---- what goes by a node's kind
 
@@ -113,12 +113,8 @@ abbrev pub nodeAt : List Node → ℕ → Node
 nodeAt nodes i = getD nodes i (table 0)
 
 -- the sign of a node's watch, 0 if it has none
-abbrev pub signIn : List Watch → ℕ → ℕ
-signIn [] i = 0
-signIn (w ∷ watches) i = cond (eqb (w .node) i) (w .sign) (signIn watches i)
-
 abbrev pub signOf : Network → ℕ → ℕ
-signOf net i = signIn (net .watches) i
+signOf net i = getD (net .signs) i 0
 
 -- ---- records of a network
 
@@ -253,34 +249,35 @@ nodeFits ws (join l r pairs columns) =
     && columnsBelow (getD ws l 0 + getD ws r 0) columns
 nodeFits ws (setOperation o l r) = ltb l (length ws) && ltb r (length ws) && eqb (getD ws l 0) (getD ws r 0)
 
--- "names an earlier node, and a node has at most one"
-unfoldable pub watchFits : Network → Watch → Bool
-watchFits net w = ltb (w .node) (length (net .nodes)) && within 1 3 (w .sign) && not (someOf (λ v. eqb (v .node) (w .node)) (net .watches))
+-- "names an earlier node, and a node has at most one"; signs are those of the nodes before it
+unfoldable pub watchFits : List ℕ → Watch → Bool
+watchFits signs w = ltb (w .node) (length signs) && within 1 3 (w .sign) && eqb (getD signs (w .node) 0) 0
 
-unfoldable pub itemFits : Network → Item → Bool
-unfolding nodeFits watchFits widths
-itemFits net (nodeItem n) = nodeFits (widths (net .nodes)) n
-itemFits net (watchItem w) = watchFits net w
+-- a record's fields are right, given the widths and the signs of the nodes before it
+unfoldable pub itemFits : List ℕ → List ℕ → Item → Bool
+unfolding nodeFits watchFits
+itemFits ws signs (nodeItem n) = nodeFits ws n
+itemFits ws signs (watchItem w) = watchFits signs w
 
 -- ---- reading
 
 -- the network with one record more
 abbrev pub withItem : Network → Item → Network
-withItem net (nodeItem n) = record { nodes = net .nodes ++ (n ∷ []); watches = net .watches }
-withItem net (watchItem w) = record { nodes = net .nodes; watches = net .watches ++ (w ∷ []) }
+withItem net (nodeItem n) = record { nodes = net .nodes ++ (n ∷ []); signs = net .signs ++ (0 ∷ []) }
+withItem net (watchItem w) = record { nodes = net .nodes; signs = set (net .signs) (w .node) (w .sign) }
 
--- the lowest number that the record at an offset breaks, 0 if none; the network holds the records before it
-unfoldable pub recordFault : Network → Bytes → ℕ → ℕ
+-- the lowest number that the record at an offset breaks, 0 if none, given the widths and the signs of the nodes before it
+unfoldable pub recordFault : List ℕ → List ℕ → Bytes → ℕ → ℕ
 unfolding isBroken kindNumbered hasShape itemAt itemFits
-recordFault net bs at =
+recordFault ws signs bs at =
     let kind : Kind = kindNumbered (kindAt bs at) in
     firstBroken (
-    rule 3 (isBroken bs at)
-    ∷ rule 4 (isUnknown kind)
-    ∷ rule 5 (not (isWatch kind) && leb maxNodes (length (net .nodes)))
-    ∷ rule 6 (not (hasShape kind bs at))
-    ∷ rule 7 (not (itemFits net (itemAt kind bs at)))
-    ∷ [])
+      rule 3 (isBroken bs at)
+      ∷ rule 4 (isUnknown kind)
+      ∷ rule 5 (not (isWatch kind) && leb maxNodes (length ws))
+      ∷ rule 6 (not (hasShape kind bs at))
+      ∷ rule 7 (not (itemFits ws signs (itemAt kind bs at)))
+      ∷ [])
 
 -- what reading a network gives: the verdict, and the network where it is accepted
 pub record Reading : Type 0 where
@@ -292,11 +289,11 @@ refusedReading number place = record { verdict = refused number place; network =
 
 -- the records at some offsets, after those that the network holds: "the first record that fails decides"
 unfoldable pub readRecords : Bytes → Network → List ℕ → Reading
-unfolding recordFault itemAt kindNumbered
+unfolding recordFault itemAt kindNumbered widths
 readRecords bs net [] = record { verdict = accepted; network = net }
 readRecords bs net (at ∷ rest) =
     let later : Reading = readRecords bs (withItem net (itemAt (kindNumbered (kindAt bs at)) bs at)) rest in
-    let fault : ℕ = recordFault net bs at in
+    let fault : ℕ = recordFault (widths (net .nodes)) (net .signs) bs at in
     cond (eqb fault 0) later (refusedReading fault at)
 
 -- a network from its bytes, with refusals 2 to 7

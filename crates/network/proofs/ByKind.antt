@@ -1,0 +1,85 @@
+-- Rules 3 to 7 on a record, by its kind's number. Assumes nothing.
+use mathlib.Core.Path.{_≡_, refl, sym, ap, _∙_}
+use mathlib.Core.Bool.{Bool, true, false, not, _&&_}
+use mathlib.Core.List.{List, [], _∷_}
+use Prim.Native.Nat.{ℕ, zero, suc, _+_, _-_, _≤_, _<_}
+use native.Mathlib.Omega.{arith}
+use lib.Dec.{leb}
+use lib.ListN.{length, getD, List·getD-eq-default}
+use borrow.Author.Tests.{le-leb, lt-leb, not-true}
+use Rattle.model.specs.Row.{allOf, countFrom}
+use Rattle.model.specs.Record.{Bytes, kindAt, isBroken}
+use Rattle.model.specs.Network.{Kind, unknownKind, watchKind, kinds, kindNumbered, isUnknown, isWatch, recordFault, hasShape, itemAt, itemFits}
+use Rattle.model.proofs.Sets.{and-first, and-second}
+use Rattle.rows.proofs.Place.{all-below}
+use Rattle.network.specs.Reading.{numberOf, itemOf, bodyFault, ReadsBody, ReadsRecord}
+use Rattle.network.specs.declared.Record.{Record}
+use Rattle.network.specs.declared.Record.the-variants.{Node as NodeRecord, Watch, Refused}
+
+-- ---- the kinds' numbers
+
+isNode : ℕ → Bool
+unfolding kindNumbered
+isNode k = not (isUnknown (kindNumbered k)) && not (isWatch (kindNumbered k))
+
+-- one test over all nodes' kinds
+node-kinds : allOf isNode (countFrom 1 8) ≡ true
+unfolding isNode kindNumbered
+node-kinds = refl
+
+node-kind : (k : ℕ) → 1 ≤ k → k ≤ 8 → isNode k ≡ true
+node-kind k h g =
+    let e : 1 + (k - 1) ≡ k = omega arith in
+    ap isNode (sym e) ∙ all-below isNode 1 8 node-kinds (k - 1) (omega arith)
+
+pub known : (k : ℕ) → 1 ≤ k → k ≤ 8 → isUnknown (kindNumbered k) ≡ false
+unfolding isNode
+known k h g = not-true (isUnknown (kindNumbered k)) (and-first (not (isUnknown (kindNumbered k))) (not (isWatch (kindNumbered k))) (node-kind k h g))
+
+pub no-watch : (k : ℕ) → 1 ≤ k → k ≤ 8 → isWatch (kindNumbered k) ≡ false
+unfolding isNode
+no-watch k h g = not-true (isWatch (kindNumbered k)) (and-second (not (isUnknown (kindNumbered k))) (not (isWatch (kindNumbered k))) (node-kind k h g))
+
+pub unknown-low : (k : ℕ) → k < 1 → kindNumbered k ≡ unknownKind
+unfolding kindNumbered
+unknown-low k h = let e : k ≡ 0 = omega arith in rw e
+
+pub unknown-high : (k : ℕ) → 10 ≤ k → kindNumbered k ≡ unknownKind
+unfolding kindNumbered
+unknown-high k h = List·getD-eq-default kinds unknownKind h
+
+-- ---- records
+
+module _ (ws signs : List ℕ) (bs : Bytes) (at : ℕ) where
+  pub record-3 : isBroken bs at ≡ true → ReadsRecord ws signs bs at (Refused 3)
+  unfolding recordFault
+  record-3 e = record { number = rw e; item = λ z. absurd (omega arith) }
+
+  module _ (whole : isBroken bs at ≡ false) (k : ℕ) (is : k ≡ kindAt bs at) where
+    pub record-4 : kindNumbered k ≡ unknownKind → ReadsRecord ws signs bs at (Refused 4)
+    unfolding recordFault
+    record-4 e = record { number = rw (whole, ← is, e); item = λ z. absurd (omega arith) }
+
+    pub record-5 : 1 ≤ k → k ≤ 8 → 32 ≤ length ws → ReadsRecord ws signs bs at (Refused 5)
+    unfolding recordFault
+    record-5 h g f = record { number = rw (whole, ← is, known k h g, no-watch k h g, le-leb 32 (length ws) f); item = λ z. absurd (omega arith) }
+
+    pub record-node : (r : Record) → 1 ≤ k → k ≤ 8 → length ws < 32 → ReadsBody ws signs (kindNumbered k) bs at r → ReadsRecord ws signs bs at r
+    unfolding recordFault bodyFault
+    record-node r h g f b =
+        record {
+          number = b .number ∙ sym (rw (whole, ← is, known k h g, no-watch k h g, lt-leb 32 (length ws) f));
+          item = λ z. b .item z ∙ rw is
+        }
+
+    pub record-watch : (r : Record) → k ≡ 9 → ReadsBody ws signs watchKind bs at r → ReadsRecord ws signs bs at r
+    unfolding recordFault bodyFault kindNumbered
+    record-watch r e b =
+        record {
+          number = b .number ∙ sym (rw (whole, ← is, e));
+          item = λ z. b .item z ∙ sym (rw (← is, e))
+        }
+
+-- a body read as the kind of a number
+pub as-kind : {ws signs : List ℕ} {bs : Bytes} {at : ℕ} {r : Record} (k n : ℕ) → k ≡ n → ReadsBody ws signs (kindNumbered n) bs at r → ReadsBody ws signs (kindNumbered k) bs at r
+as-kind k n e b = rw e b

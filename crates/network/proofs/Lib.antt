@@ -1,0 +1,3 @@
+pub mod Lists
+pub mod Body
+pub mod ByKind

@@ -1,0 +1,120 @@
+-- What the readings of records mean: the model's items and networks, and the order's numbers.
+use mathlib.Core.Path.{_≡_}
+use mathlib.Core.Bool.{Bool, true, false, not, _&&_}
+use mathlib.Core.List.{List, [], _∷_, map}
+use Prim.Native.Nat.{ℕ, zero, suc, _+_, _*_, _≤_}
+use lib.Dec.{ltb}
+use lib.ListN.{getD, take, drop, length, replicate}
+use Rattle.model.specs.Algebra.{Pair}
+use Rattle.model.specs.Record as modelRecord
+use Rattle.model.specs.Record.{Bytes, kindAt, fieldAt, fieldsAt, rule, firstBroken}
+use Rattle.model.specs.Network as model
+use Rattle.model.specs.Network.{Kind, Item, nodeItem, watchItem, table, select, project, join, setOperation, constant, column, union, difference, intersection, pairsAt, kindNumbered, hasShape, itemAt, itemFits, recordFault, readNetwork}
+use Rattle.network.specs.declared.Operand.{Operand}
+use Rattle.network.specs.declared.Operand.the-variants.{Constant, Column}
+use Rattle.network.specs.declared.SetOperation.{SetOperation}
+use Rattle.network.specs.declared.SetOperation.the-variants.{Union, Difference, Intersection}
+use Rattle.network.specs.declared.Node.{Node}
+use Rattle.network.specs.declared.Node.the-variants.{Table, Select, Project, Join, Set}
+use Rattle.network.specs.declared.Record.{Record}
+use Rattle.network.specs.declared.Record.the-variants.{Node as NodeRecord, Watch, Refused}
+use Rattle.network.specs.declared.Slot.{Slot}
+use Rattle.network.specs.declared.Network.{Network}
+use Rattle.network.specs.declared.Verdict.{Verdict}
+use Rattle.network.specs.declared.Reading.{Reading}
+
+-- ---- nodes
+
+abbrev pub operandOf : Operand → model.Operand
+operandOf (Constant v) = constant v
+operandOf (Column c) = column c
+
+abbrev pub operationOf : SetOperation → model.SetOperation
+operationOf Union = union
+operationOf Difference = difference
+operationOf Intersection = intersection
+
+-- n pairs from numbers that alternate between left and right columns
+abbrev pub pairsOf : ℕ → List ℕ → List Pair
+pairsOf zero l = []
+pairsOf (suc n) l = record { left = getD l 0 0; right = getD l 1 0 } ∷ pairsOf n (drop 2 l)
+
+-- a node, with its columns and pairs beside it
+abbrev pub nodeOf : Node → List ℕ → List ℕ → model.Node
+nodeOf (Table w) columns pairs = table w
+nodeOf (Select i c k o) columns pairs = select i c k (operandOf o)
+nodeOf (Project i n) columns pairs = project i (take n columns)
+nodeOf (Join l r p n) columns pairs = join l r (pairsOf p pairs) (take n columns)
+nodeOf (Set o l r) columns pairs = setOperation (operationOf o) l r
+
+-- a node whose columns and pairs stand in the record at an offset
+abbrev pub nodeAt : Node → Bytes → ℕ → model.Node
+nodeAt (Table w) bs at = table w
+nodeAt (Select i c k o) bs at = select i c k (operandOf o)
+nodeAt (Project i n) bs at = project i (fieldsAt bs at 2 n)
+nodeAt (Join l r p n) bs at = join l r (pairsAt bs at 3 p) (fieldsAt bs at (4 + 2 * p) n)
+nodeAt (Set o l r) bs at = setOperation (operationOf o) l r
+
+-- ---- records
+
+-- the item of a record reading
+abbrev pub itemOf : Record → Bytes → ℕ → Item
+itemOf (NodeRecord n) bs at = nodeItem (nodeAt n bs at)
+itemOf (Watch n s) bs at = watchItem (record { node = n; sign = s })
+itemOf (Refused k) bs at = nodeItem (table 0)
+
+-- the order's number for a record reading: 0 unless it is refused
+abbrev pub numberOf : Record → ℕ
+numberOf (NodeRecord n) = 0
+numberOf (Watch n s) = 0
+numberOf (Refused k) = k
+
+-- the part of rule 7 that both kinds of select share
+unfoldable pub selectFits : List ℕ → Bytes → ℕ → Bool
+selectFits ws bs at = ltb (fieldAt bs at 0) (length ws) && ltb (fieldAt bs at 1) (getD ws (fieldAt bs at 0) 0) && ltb (fieldAt bs at 2) 6
+
+-- no width is above 4
+abbrev pub Narrow : List ℕ → Type 0
+Narrow ws = (i : ℕ) → getD ws i 0 ≤ 4
+
+-- rules 6 and 7 on a record of a known kind
+unfoldable pub bodyFault : List ℕ → List ℕ → Kind → Bytes → ℕ → ℕ
+bodyFault ws signs kind bs at = firstBroken (rule 6 (not (hasShape kind bs at)) ∷ rule 7 (not (itemFits ws signs (itemAt kind bs at))) ∷ [])
+
+-- a record of a known kind is read: its number, and where that is 0 its item
+pub record ReadsBody (ws signs : List ℕ) (kind : Kind) (bs : Bytes) (at : ℕ) (r : Record) : Type 0 where
+  pub number : numberOf r ≡ bodyFault ws signs kind bs at
+  pub item : numberOf r ≡ 0 → itemOf r bs at ≡ itemAt kind bs at
+
+-- any record is read
+pub record ReadsRecord (ws signs : List ℕ) (bs : Bytes) (at : ℕ) (r : Record) : Type 0 where
+  pub number : numberOf r ≡ recordFault ws signs bs at
+  pub item : numberOf r ≡ 0 → itemOf r bs at ≡ itemAt (kindNumbered (kindAt bs at)) bs at
+
+-- ---- networks
+
+abbrev pub slotNode : Slot → model.Node
+slotNode s = nodeOf (s .node) (s .columns) (s .pairs)
+
+abbrev pub nodesOf : Network → List model.Node
+nodesOf net = map slotNode (take (net .count) (net .slots))
+
+abbrev pub networkOf : Network → model.Network
+networkOf net = record { nodes = nodesOf net; signs = take (net .count) (net .signs) }
+
+abbrev pub verdictOf : Verdict → modelRecord.Verdict
+verdictOf v = record { number = v .number; place = v .place }
+
+abbrev pub readingOf : Reading → model.Reading
+readingOf r = record { verdict = verdictOf (r .verdict); network = networkOf (r .network) }
+
+-- the arrays beside the nodes hold their widths and levels
+pub record Sound (net : Network) : Type 0 where
+  pub few : net .count ≤ 32
+  pub widths : take (net .count) (net .widths) ≡ model.widths (nodesOf net)
+  pub levels : take (net .count) (net .levels) ≡ model.levels (nodesOf net)
+
+-- a network is read: "the first record that fails decides"
+pub record ReadsNetwork (bs : Bytes) (r : Reading) : Type 0 where
+  pub is : readingOf r ≡ readNetwork bs
+  pub sound : Sound (r .network)
