@@ -51,10 +51,9 @@ unfoldable pub offsetsFrom : ℕ → Bytes → ℕ → List ℕ
 unfolding isBroken
 offsetsFrom zero bs at = []
 offsetsFrom (suc n) bs at =
-    elim (leb (length bs) at) [
-      | true ↦ []
-      | false ↦ at ∷ elim (isBroken bs at) [ true ↦ [] | false ↦ offsetsFrom n bs (at + lengthAt bs at) ]
-    ]
+    let next : List ℕ = offsetsFrom n bs (at + lengthAt bs at) in
+    let here : List ℕ = at ∷ cond (isBroken bs at) [] next in
+    cond (leb (length bs) at) [] here
 
 -- the offsets of all records: no more than there are bytes
 unfoldable pub offsets : Bytes → List ℕ

@@ -51,7 +51,9 @@ newline = 10
 -- the digits of a number, at most so many
 unfoldable pub digits : ℕ → ℕ → Bytes
 digits zero n = []
-digits (suc more) n = elim (ltb n 10) [ true ↦ (48 + n) ∷ [] | false ↦ digits more (n / 10) ++ ((48 + (n % 10)) ∷ []) ]
+digits (suc more) n =
+    let front : Bytes = digits more (n / 10) ++ ((48 + (n % 10)) ∷ []) in
+    cond (ltb n 10) ((48 + n) ∷ []) front
 
 -- "decimal"; a number of 64 bits has at most 20 digits
 unfoldable pub decimal : ℕ → Bytes

@@ -4,14 +4,14 @@ use mathlib.Core.Bool.{Bool, true, false, not, _&&_, true≢false}
 use mathlib.Core.List.{List, [], _∷_, _++_}
 use Prim.Native.Nat.{ℕ, zero, suc, _+_, _-_, _*_, _≤_, _<_}
 use native.Mathlib.Omega.{arith}
-use lib.Dec.{ltb, leb, eqb}
+use lib.Dec.{ltb, leb, eqb, lit≤}
 use lib.ListN.{length, getD, take, drop}
 use lib.Seq.{length-take-le, getD-take}
 use borrow.Author.Tests.{lt-ltb, le-ltb, le-leb, lt-leb, eq-eqb, ne-eqb, ltb-true, leb-true, eqb-true}
 use Rattle.model.specs.Record.{Bytes, u32, lengthAt, fieldAt, fieldsAt}
 use Rattle.model.specs.Network.{Kind, tableKind, selectConstantKind, selectColumnKind, projectKind, joinKind, setKind, watchKind, hasShape, projectShape, joinShape, itemAt, itemFits, nodeFits, watchFits, columnsBelow, pairsBelow, pairsAt}
 use Rattle.model.proofs.Sets.{and-first, and-second}
-use Rattle.network.specs.Reading.{numberOf, itemOf, operationOf, bodyFault, selectFits, ReadsBody}
+use Rattle.network.specs.Reading.{numberOf, itemOf, operationOf, bodyFault, selectFits, Fits, ReadsBody}
 use Rattle.network.specs.declared.Operand.the-variants.{Constant, Column}
 use Rattle.network.specs.declared.SetOperation.{SetOperation}
 use Rattle.network.specs.declared.Node.the-variants.{Table, Select, Project, Join, Set}
@@ -30,15 +30,15 @@ no-second false b e = refl
 module _ (ws signs : List ℕ) (bs : Bytes) (at : ℕ) (kind : Kind) where
   pub reads-6 : hasShape kind bs at ≡ false → ReadsBody ws signs kind bs at (Refused 6)
   unfolding bodyFault
-  reads-6 e = record { number = rw e; item = λ z. absurd (omega arith) }
+  reads-6 e = record { number = rw e; item = λ z. absurd (omega arith); fits = lit≤ tt }
 
   pub reads-7 : hasShape kind bs at ≡ true → itemFits ws signs (itemAt kind bs at) ≡ false → ReadsBody ws signs kind bs at (Refused 7)
   unfolding bodyFault
-  reads-7 e f = record { number = rw (e, f); item = λ z. absurd (omega arith) }
+  reads-7 e f = record { number = rw (e, f); item = λ z. absurd (omega arith); fits = lit≤ tt }
 
-  pub reads-ok : (r : Record) → hasShape kind bs at ≡ true → itemFits ws signs (itemAt kind bs at) ≡ true → numberOf r ≡ 0 → itemOf r bs at ≡ itemAt kind bs at → ReadsBody ws signs kind bs at r
+  pub reads-ok : (r : Record) → hasShape kind bs at ≡ true → itemFits ws signs (itemAt kind bs at) ≡ true → numberOf r ≡ 0 → itemOf r bs at ≡ itemAt kind bs at → Fits r ws signs bs at → ReadsBody ws signs kind bs at r
   unfolding bodyFault
-  reads-ok r e f n i = record { number = n ∙ rw (e, f); item = λ z. i }
+  reads-ok r e f n i g = record { number = n ∙ rw (e, f); item = λ z. i; fits = g }
 
 -- ---- kind 1
 
@@ -62,7 +62,7 @@ module _ (ws signs : List ℕ) (bs : Bytes) (at size : ℕ) (sized : size ≡ le
 
     pub table-ok : 1 ≤ w → w ≤ 4 → ReadsBody ws signs tableKind bs at (NodeRecord (Table w))
     unfolding itemFits itemAt nodeFits
-    table-ok h g = reads-ok ws signs bs at tableKind (NodeRecord (Table w)) shaped (rw (← is, le-leb 1 w h, le-leb w 4 g)) refl (rw is)
+    table-ok h g = reads-ok ws signs bs at tableKind (NodeRecord (Table w)) shaped (rw (← is, le-leb 1 w h, le-leb w 4 g)) refl (rw is) g
 
 -- ---- kinds 2 and 3
 
@@ -98,6 +98,13 @@ module _ (xs : List ℕ) (count : ℕ) (long : count ≤ length xs) (bs : Bytes)
       rw counted at (ltb-true (fieldAt bs at 0) (length (take count xs)) f)
 
 module _ (ws signs : List ℕ) (bs : Bytes) (at size : ℕ) (sized : size ≡ lengthAt bs at) where
+  select-below : selectFits ws bs at ≡ true → fieldAt bs at 0 < length ws
+  unfolding selectFits
+  select-below e =
+      let a : Bool = ltb (fieldAt bs at 0) (length ws) in
+      let b : Bool = ltb (fieldAt bs at 1) (getD ws (fieldAt bs at 0) 0) in
+      ltb-true (fieldAt bs at 0) (length ws) (and-first a b (and-first (a && b) (ltb (fieldAt bs at 2) 6) e))
+
   pub constant-size : (size ≡ 14 → ⊥) → ReadsBody ws signs selectConstantKind bs at (Refused 6)
   unfolding hasShape
   constant-size h = reads-6 ws signs bs at selectConstantKind (rw (← sized) (ne-eqb size 14 h))
@@ -110,7 +117,7 @@ module _ (ws signs : List ℕ) (bs : Bytes) (at size : ℕ) (sized : size ≡ le
       ReadsBody ws signs selectConstantKind bs at (NodeRecord (Select i c k (Constant v)))
   unfolding hasShape itemFits itemAt nodeFits selectFits
   constant-ok s e i c k v p q r t =
-      reads-ok ws signs bs at selectConstantKind (NodeRecord (Select i c k (Constant v))) (rw (← sized) (eq-eqb size 14 s)) (rw e) refl (rw (p, q, r, t))
+      reads-ok ws signs bs at selectConstantKind (NodeRecord (Select i c k (Constant v))) (rw (← sized) (eq-eqb size 14 s)) (rw e) refl (rw (p, q, r, t)) (rw p (select-below e))
 
   pub column-size : (size ≡ 12 → ⊥) → ReadsBody ws signs selectColumnKind bs at (Refused 6)
   unfolding hasShape
@@ -129,7 +136,7 @@ module _ (ws signs : List ℕ) (bs : Bytes) (at size : ℕ) (sized : size ≡ le
         ReadsBody ws signs selectColumnKind bs at (NodeRecord (Select i c k (Column o)))
     unfolding hasShape itemFits itemAt nodeFits selectFits
     column-ok s e h c k q r =
-        reads-ok ws signs bs at selectColumnKind (NodeRecord (Select i c k (Column o))) (rw (← sized) (eq-eqb size 12 s)) (rw (e, ← is, ← other) (lt-ltb o (getD ws i 0) h)) refl (rw (is, other, q, r))
+        reads-ok ws signs bs at selectColumnKind (NodeRecord (Select i c k (Column o))) (rw (← sized) (eq-eqb size 12 s)) (rw (e, ← is, ← other) (lt-ltb o (getD ws i 0) h)) refl (rw (is, other, q, r)) (rw is (select-below e))
 
 -- ---- kind 4
 
@@ -185,10 +192,12 @@ module _ (xs : List ℕ) (count : ℕ) (long : count ≤ length xs) (signs : Lis
       unfolding hasShape itemFits itemAt nodeFits
       project-high e = reads-7 (take count xs) signs bs at projectKind shape (rw (← is, ← of, counted xs count long bs at, lt-ltb i count within, first-at xs count i within) e)
 
-      pub project-ok : columnsBelow (getD xs i 0) (fieldsAt bs at 2 n) ≡ true → ReadsBody (take count xs) signs projectKind bs at (NodeRecord (Project i n))
+      pub project-ok : columnsBelow (getD xs i 0) (fieldsAt bs at 2 n) ≡ true → at + lengthAt bs at ≤ length bs → ReadsBody (take count xs) signs projectKind bs at (NodeRecord (Project i n))
       unfolding hasShape itemFits itemAt nodeFits
-      project-ok e =
+      project-ok e inside =
+          let sh : ProjectShape bs at = project-shaped bs at shape in
           reads-ok (take count xs) signs bs at projectKind (NodeRecord (Project i n)) shape (rw (← is, ← of, counted xs count long bs at, lt-ltb i count within, first-at xs count i within) e) refl (rw (is, of))
+          (rw (counted xs count long bs at) within, rw of (sh .few), omega (arith, sh .size, of))
 
 -- ---- kind 5
 
@@ -275,12 +284,15 @@ module _ (xs : List ℕ) (count : ℕ) (long : count ≤ length xs) (signs : Lis
               reads-7 (take count xs) signs bs at joinKind shape
               (rw (← is, ← of, ← paired, ← columns, counted xs count long bs at, lt-ltb l count left, lt-ltb r count right, first-at xs count l left, first-at xs count r right, good, e))
 
-          pub join-ok : columnsBelow (getD xs l 0 + getD xs r 0) (fieldsAt bs at (4 + 2 * p) c) ≡ true → ReadsBody (take count xs) signs joinKind bs at (NodeRecord (Join l r p c))
+          pub join-ok : columnsBelow (getD xs l 0 + getD xs r 0) (fieldsAt bs at (4 + 2 * p) c) ≡ true → at + lengthAt bs at ≤ length bs → ReadsBody (take count xs) signs joinKind bs at (NodeRecord (Join l r p c))
           unfolding hasShape itemFits itemAt nodeFits
-          join-ok e =
+          join-ok e inside =
+              let sh : JoinShape bs at = join-shaped bs at shape in
+              let same : c ≡ fieldAt bs at (3 + 2 * fieldAt bs at 2) = rw paired at columns in
               reads-ok (take count xs) signs bs at joinKind (NodeRecord (Join l r p c)) shape
               (rw (← is, ← of, ← paired, ← columns, counted xs count long bs at, lt-ltb l count left, lt-ltb r count right, first-at xs count l left, first-at xs count r right, good, e)) refl
               (rw (is, of, columns, paired))
+              (rw (counted xs count long bs at) left, rw (counted xs count long bs at) right, rw paired (sh .pairs), rw same (sh .few), omega (arith, sh .size, paired, same))
 
 -- ---- kinds 6, 7, 8
 
@@ -316,6 +328,7 @@ module _ (xs : List ℕ) (count : ℕ) (long : count ≤ length xs) (signs : Lis
             reads-ok (take count xs) signs bs at (setKind (operationOf o)) (NodeRecord (Set o l r)) set-shaped
             (rw (← is, ← of, counted xs count long bs at, lt-ltb l count left, lt-ltb r count right, first-at xs count l left, first-at xs count r right) (eq-eqb (getD xs l 0) (getD xs r 0) h)) refl
             (rw (is, of))
+            (rw (counted xs count long bs at) left, rw (counted xs count long bs at) right)
 
 -- ---- kind 9
 
@@ -355,3 +368,4 @@ module _ (xs : List ℕ) (count : ℕ) (long : count ≤ length xs) (ws : List �
             reads-ok ws (take count xs) bs at watchKind (Watch n s) watch-shaped
             (rw (← is, ← of, counted xs count long bs at, lt-ltb n count within, le-leb 1 s low, le-leb s 3 high, first-at xs count n within) (eq-eqb (getD xs n 0) 0 h)) refl
             (rw (is, of))
+            (rw (counted xs count long bs at) within)

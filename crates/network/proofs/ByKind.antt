@@ -4,15 +4,15 @@ use mathlib.Core.Bool.{Bool, true, false, not, _&&_}
 use mathlib.Core.List.{List, [], _∷_}
 use Prim.Native.Nat.{ℕ, zero, suc, _+_, _-_, _≤_, _<_}
 use native.Mathlib.Omega.{arith}
-use lib.Dec.{leb}
+use lib.Dec.{leb, lit≤}
 use lib.ListN.{length, getD, List·getD-eq-default}
 use borrow.Author.Tests.{le-leb, lt-leb, not-true}
 use Rattle.model.specs.Row.{allOf, countFrom}
-use Rattle.model.specs.Record.{Bytes, kindAt, isBroken}
-use Rattle.model.specs.Network.{Kind, unknownKind, watchKind, kinds, kindNumbered, isUnknown, isWatch, recordFault, hasShape, itemAt, itemFits}
+use Rattle.model.specs.Record.{Bytes, kindAt, fieldAt, isBroken}
+use Rattle.model.specs.Network.{Kind, unknownKind, watchKind, kinds, kindNumbered, isUnknown, isWatch, recordFault, hasShape, itemAt, itemFits, nodeItem, watchItem}
 use Rattle.model.proofs.Sets.{and-first, and-second}
 use Rattle.rows.proofs.Place.{all-below}
-use Rattle.network.specs.Reading.{numberOf, itemOf, bodyFault, ReadsBody, ReadsRecord}
+use Rattle.network.specs.Reading.{numberOf, nodeAt, itemOf, bodyFault, Room, ReadsBody, ReadsRecord}
 use Rattle.network.specs.declared.Record.{Record}
 use Rattle.network.specs.declared.Record.the-variants.{Node as NodeRecord, Watch, Refused}
 
@@ -50,26 +50,43 @@ unknown-high k h = List·getD-eq-default kinds unknownKind h
 
 -- ---- records
 
+room-of : (ws : List ℕ) (r : Record) → length ws < 32 → Room r ws
+room-of ws (NodeRecord n) h = h
+room-of ws (Watch n s) h = tt
+room-of ws (Refused k) h = tt
+
+-- a watch is no node
+room-watch : (ws : List ℕ) (bs : Bytes) (at : ℕ) (r : Record) → (numberOf r ≡ 0 → itemOf r bs at ≡ itemAt watchKind bs at) → Room r ws
+unfolding itemAt
+room-watch ws bs at (NodeRecord n) h =
+    let e : nodeItem (nodeAt n bs at) ≡ watchItem (record { node = fieldAt bs at 0; sign = fieldAt bs at 1 }) = h refl in
+    let z : _≡_ {A = ℕ} 0 1 = cc in
+    absurd (omega arith)
+room-watch ws bs at (Watch n s) h = tt
+room-watch ws bs at (Refused k) h = tt
+
 module _ (ws signs : List ℕ) (bs : Bytes) (at : ℕ) where
   pub record-3 : isBroken bs at ≡ true → ReadsRecord ws signs bs at (Refused 3)
   unfolding recordFault
-  record-3 e = record { number = rw e; item = λ z. absurd (omega arith) }
+  record-3 e = record { number = rw e; item = λ z. absurd (omega arith); fits = lit≤ tt; room = tt }
 
   module _ (whole : isBroken bs at ≡ false) (k : ℕ) (is : k ≡ kindAt bs at) where
     pub record-4 : kindNumbered k ≡ unknownKind → ReadsRecord ws signs bs at (Refused 4)
     unfolding recordFault
-    record-4 e = record { number = rw (whole, ← is, e); item = λ z. absurd (omega arith) }
+    record-4 e = record { number = rw (whole, ← is, e); item = λ z. absurd (omega arith); fits = lit≤ tt; room = tt }
 
     pub record-5 : 1 ≤ k → k ≤ 8 → 32 ≤ length ws → ReadsRecord ws signs bs at (Refused 5)
     unfolding recordFault
-    record-5 h g f = record { number = rw (whole, ← is, known k h g, no-watch k h g, le-leb 32 (length ws) f); item = λ z. absurd (omega arith) }
+    record-5 h g f = record { number = rw (whole, ← is, known k h g, no-watch k h g, le-leb 32 (length ws) f); item = λ z. absurd (omega arith); fits = lit≤ tt; room = tt }
 
     pub record-node : (r : Record) → 1 ≤ k → k ≤ 8 → length ws < 32 → ReadsBody ws signs (kindNumbered k) bs at r → ReadsRecord ws signs bs at r
     unfolding recordFault bodyFault
     record-node r h g f b =
         record {
           number = b .number ∙ sym (rw (whole, ← is, known k h g, no-watch k h g, lt-leb 32 (length ws) f));
-          item = λ z. b .item z ∙ rw is
+          item = λ z. b .item z ∙ rw is;
+          fits = b .fits;
+          room = room-of ws r f
         }
 
     pub record-watch : (r : Record) → k ≡ 9 → ReadsBody ws signs watchKind bs at r → ReadsRecord ws signs bs at r
@@ -77,7 +94,9 @@ module _ (ws signs : List ℕ) (bs : Bytes) (at : ℕ) where
     record-watch r e b =
         record {
           number = b .number ∙ sym (rw (whole, ← is, e));
-          item = λ z. b .item z ∙ sym (rw (← is, e))
+          item = λ z. b .item z ∙ sym (rw (← is, e));
+          fits = b .fits;
+          room = room-watch ws bs at r (b .item)
         }
 
 -- a body read as the kind of a number

@@ -2,7 +2,7 @@
 use mathlib.Core.Path.{_≡_}
 use mathlib.Core.Bool.{Bool, true, false, not, _&&_}
 use mathlib.Core.List.{List, [], _∷_, map}
-use Prim.Native.Nat.{ℕ, zero, suc, _+_, _*_, _≤_}
+use Prim.Native.Nat.{ℕ, zero, suc, _+_, _*_, _≤_, _<_, max}
 use lib.Dec.{ltb}
 use lib.ListN.{getD, take, drop, length, replicate}
 use Rattle.model.specs.Algebra.{Pair}
@@ -81,15 +81,37 @@ Narrow ws = (i : ℕ) → getD ws i 0 ≤ 4
 unfoldable pub bodyFault : List ℕ → List ℕ → Kind → Bytes → ℕ → ℕ
 bodyFault ws signs kind bs at = firstBroken (rule 6 (not (hasShape kind bs at)) ∷ rule 7 (not (itemFits ws signs (itemAt kind bs at))) ∷ [])
 
+-- a node after so many others uses these alone, and its lists stand inside the record
+abbrev pub NodeFits : Node → ℕ → Bytes → ℕ → Type 0
+NodeFits (Table w) count bs at = w ≤ 4
+NodeFits (Select i c k o) count bs at = i < count
+NodeFits (Project i n) count bs at = (i < count) × (n ≤ 4) × (at + 8 + 2 * n ≤ length bs)
+NodeFits (Join l r p n) count bs at = (l < count) × (r < count) × (p ≤ 2) × (n ≤ 4) × (at + 12 + 4 * p + 2 * n ≤ length bs)
+NodeFits (Set o l r) count bs at = (l < count) × (r < count)
+
+abbrev pub Fits : Record → List ℕ → List ℕ → Bytes → ℕ → Type 0
+Fits (NodeRecord n) ws signs bs at = NodeFits n (length ws) bs at
+Fits (Watch n s) ws signs bs at = n < length signs
+Fits (Refused k) ws signs bs at = 1 ≤ k
+
 -- a record of a known kind is read: its number, and where that is 0 its item
 pub record ReadsBody (ws signs : List ℕ) (kind : Kind) (bs : Bytes) (at : ℕ) (r : Record) : Type 0 where
   pub number : numberOf r ≡ bodyFault ws signs kind bs at
   pub item : numberOf r ≡ 0 → itemOf r bs at ≡ itemAt kind bs at
+  pub fits : Fits r ws signs bs at
+
+-- a node comes after fewer than 32 others
+abbrev pub Room : Record → List ℕ → Type 0
+Room (NodeRecord n) ws = length ws < 32
+Room (Watch n s) ws = Unit {0}
+Room (Refused k) ws = Unit {0}
 
 -- any record is read
 pub record ReadsRecord (ws signs : List ℕ) (bs : Bytes) (at : ℕ) (r : Record) : Type 0 where
   pub number : numberOf r ≡ recordFault ws signs bs at
   pub item : numberOf r ≡ 0 → itemOf r bs at ≡ itemAt (kindNumbered (kindAt bs at)) bs at
+  pub fits : Fits r ws signs bs at
+  pub room : Room r ws
 
 -- ---- networks
 
@@ -114,7 +136,47 @@ pub record Sound (net : Network) : Type 0 where
   pub widths : take (net .count) (net .widths) ≡ model.widths (nodesOf net)
   pub levels : take (net .count) (net .levels) ≡ model.levels (nodesOf net)
 
+-- a network as the reader builds it
+pub record Built (net : Network) : Type 0 where
+  pub slots-length : length (net .slots) ≡ 32
+  pub widths-length : length (net .widths) ≡ 32
+  pub levels-length : length (net .levels) ≡ 32
+  pub signs-length : length (net .signs) ≡ 32
+  pub sound : Sound net
+  pub narrow : Narrow (net .widths)
+  pub low : (i : ℕ) → i < net .count → getD (net .levels) i 0 ≤ i
+  pub unwatched : (i : ℕ) → net .count ≤ i → getD (net .signs) i 0 ≡ 0
+
+-- a network with one item more
+pub record Extends (net : Network) (item : Item) (r : Network) : Type 0 where
+  pub built : Built r
+  pub is : networkOf r ≡ model.withItem (networkOf net) item
+
+-- a node's width from the widths of the nodes before it
+abbrev pub widthIn : Node → List ℕ → ℕ
+widthIn (Table w) ws = w
+widthIn (Select i c k o) ws = getD ws i 0
+widthIn (Project i n) ws = n
+widthIn (Join l r p n) ws = n
+widthIn (Set o l r) ws = getD ws l 0
+
+-- a node's level from the levels of the nodes before it
+abbrev pub levelIn : Node → List ℕ → ℕ
+levelIn (Table w) ls = 0
+levelIn (Select i c k o) ls = suc (getD ls i 0)
+levelIn (Project i n) ls = suc (getD ls i 0)
+levelIn (Join l r p n) ls = suc (max (getD ls l 0) (getD ls r 0))
+levelIn (Set o l r) ls = suc (max (getD ls l 0) (getD ls r 0))
+
+-- every input of a node is below a number
+abbrev pub InputsBelow : Node → ℕ → Type 0
+InputsBelow (Table w) n = Unit {0}
+InputsBelow (Select i c k o) n = i < n
+InputsBelow (Project i m) n = i < n
+InputsBelow (Join l r p m) n = (l < n) × (r < n)
+InputsBelow (Set o l r) n = (l < n) × (r < n)
+
 -- a network is read: "the first record that fails decides"
 pub record ReadsNetwork (bs : Bytes) (r : Reading) : Type 0 where
   pub is : readingOf r ≡ readNetwork bs
-  pub sound : Sound (r .network)
+  pub built : Built (r .network)

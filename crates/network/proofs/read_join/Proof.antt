@@ -96,7 +96,7 @@ returns-5 : tie.Need-returns-5
 returns-5 c = let a = c .before .before .before .before .before .before .before .before .before .before .before .before .before .before .before .before .before .before .args in λ signs. join-high (a .widths .now) (a .count) (c .before .before .before .before .before .before .before .before .before .before .before .before .before .before .before .before .before .before .pre .1) signs (a .bytes .now) (a .at) (sym (c .before .before .before .before .before .before .before .before .before .before .before .before .before .before .before .join-shape .ensures) ∙ not-false _ (c .before .before .before .before .before .before .before .before .before .before .before .before .before .before .if1 .left)) (c .before .before .before .before .before .before .before .before .before .before .before .before .before .field-at .result) (c .before .before .before .before .before .before .before .before .before .before .before .before .before .field-at .ensures .is) (c .before .before .before .before .before .before .before .before .before .before .before .before .if2 .left) (c .before .before .before .before .before .before .before .before .before .before .before .field-at2 .result) (c .before .before .before .before .before .before .before .before .before .before .before .field-at2 .ensures .is) (c .before .before .before .before .before .before .before .before .before .before .if3 .left) (c .before .before .before .before .before .before .before .before .before .field-at3 .result) (c .before .before .before .before .before .before .before .before .before .field-at3 .ensures .is) (sym (c .before .before .before .before .before .before .pairs-below .ensures) ∙ not-false _ (c .before .before .before .before .before .if4 .left)) (c .before .before .before .before .field-at4 .result) (c .before .before .before .before .field-at4 .ensures .is) (sym (c .before .columns-below .ensures) ∙ not-true _ (c .if5 .taken))
 
 returns-6 : tie.Need-returns-6
-returns-6 c = let a = c .before .before .before .before .before .before .before .before .before .before .before .before .before .before .before .before .before .before .args in λ signs. join-ok (a .widths .now) (a .count) (c .before .before .before .before .before .before .before .before .before .before .before .before .before .before .before .before .before .before .pre .1) signs (a .bytes .now) (a .at) (sym (c .before .before .before .before .before .before .before .before .before .before .before .before .before .before .before .join-shape .ensures) ∙ not-false _ (c .before .before .before .before .before .before .before .before .before .before .before .before .before .before .if1 .left)) (c .before .before .before .before .before .before .before .before .before .before .before .before .before .field-at .result) (c .before .before .before .before .before .before .before .before .before .before .before .before .before .field-at .ensures .is) (c .before .before .before .before .before .before .before .before .before .before .before .before .if2 .left) (c .before .before .before .before .before .before .before .before .before .before .before .field-at2 .result) (c .before .before .before .before .before .before .before .before .before .before .before .field-at2 .ensures .is) (c .before .before .before .before .before .before .before .before .before .before .if3 .left) (c .before .before .before .before .before .before .before .before .before .field-at3 .result) (c .before .before .before .before .before .before .before .before .before .field-at3 .ensures .is) (sym (c .before .before .before .before .before .before .pairs-below .ensures) ∙ not-false _ (c .before .before .before .before .before .if4 .left)) (c .before .before .before .before .field-at4 .result) (c .before .before .before .before .field-at4 .ensures .is) (sym (c .before .columns-below .ensures) ∙ not-false _ (c .if5 .left))
+returns-6 c = let a = c .before .before .before .before .before .before .before .before .before .before .before .before .before .before .before .before .before .before .args in λ signs. join-ok (a .widths .now) (a .count) (c .before .before .before .before .before .before .before .before .before .before .before .before .before .before .before .before .before .before .pre .1) signs (a .bytes .now) (a .at) (sym (c .before .before .before .before .before .before .before .before .before .before .before .before .before .before .before .join-shape .ensures) ∙ not-false _ (c .before .before .before .before .before .before .before .before .before .before .before .before .before .before .if1 .left)) (c .before .before .before .before .before .before .before .before .before .before .before .before .before .field-at .result) (c .before .before .before .before .before .before .before .before .before .before .before .before .before .field-at .ensures .is) (c .before .before .before .before .before .before .before .before .before .before .before .before .if2 .left) (c .before .before .before .before .before .before .before .before .before .before .before .field-at2 .result) (c .before .before .before .before .before .before .before .before .before .before .before .field-at2 .ensures .is) (c .before .before .before .before .before .before .before .before .before .before .if3 .left) (c .before .before .before .before .before .before .before .before .before .field-at3 .result) (c .before .before .before .before .before .before .before .before .before .field-at3 .ensures .is) (sym (c .before .before .before .before .before .before .pairs-below .ensures) ∙ not-false _ (c .before .before .before .before .before .if4 .left)) (c .before .before .before .before .field-at4 .result) (c .before .before .before .before .field-at4 .ensures .is) (sym (c .before .columns-below .ensures) ∙ not-false _ (c .if5 .left)) (whole (a .bytes .now) (a .at) (c .before .before .before .before .before .before .before .before .before .before .before .before .before .before .before .before .before .before .pre .0) .inside)
 
 pub read-join-spec : {M : Type 1} → statement M
 read-join-spec =

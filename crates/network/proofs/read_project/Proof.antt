@@ -42,7 +42,7 @@ returns-3 : tie.Need-returns-3
 returns-3 c = let a = c .before .before .before .before .before .before .before .before .before .before .args in λ signs. project-high (a .widths .now) (a .count) (c .before .before .before .before .before .before .before .before .before .before .pre .1) signs (a .bytes .now) (a .at) (sym (c .before .before .before .before .before .before .before .project-shape .ensures) ∙ not-false _ (c .before .before .before .before .before .before .if1 .left)) (c .before .before .before .before .before .field-at .result) (c .before .before .before .before .before .field-at .ensures .is) (c .before .before .before .before .if2 .left) (c .before .before .before .field-at2 .result) (c .before .before .before .field-at2 .ensures .is) (sym (c .before .columns-below .ensures) ∙ not-true _ (c .if3 .taken))
 
 returns-4 : tie.Need-returns-4
-returns-4 c = let a = c .before .before .before .before .before .before .before .before .before .before .args in λ signs. project-ok (a .widths .now) (a .count) (c .before .before .before .before .before .before .before .before .before .before .pre .1) signs (a .bytes .now) (a .at) (sym (c .before .before .before .before .before .before .before .project-shape .ensures) ∙ not-false _ (c .before .before .before .before .before .before .if1 .left)) (c .before .before .before .before .before .field-at .result) (c .before .before .before .before .before .field-at .ensures .is) (c .before .before .before .before .if2 .left) (c .before .before .before .field-at2 .result) (c .before .before .before .field-at2 .ensures .is) (sym (c .before .columns-below .ensures) ∙ not-false _ (c .if3 .left))
+returns-4 c = let a = c .before .before .before .before .before .before .before .before .before .before .args in λ signs. project-ok (a .widths .now) (a .count) (c .before .before .before .before .before .before .before .before .before .before .pre .1) signs (a .bytes .now) (a .at) (sym (c .before .before .before .before .before .before .before .project-shape .ensures) ∙ not-false _ (c .before .before .before .before .before .before .if1 .left)) (c .before .before .before .before .before .field-at .result) (c .before .before .before .before .before .field-at .ensures .is) (c .before .before .before .before .if2 .left) (c .before .before .before .field-at2 .result) (c .before .before .before .field-at2 .ensures .is) (sym (c .before .columns-below .ensures) ∙ not-false _ (c .if3 .left)) (whole (a .bytes .now) (a .at) (c .before .before .before .before .before .before .before .before .before .before .pre .0) .inside)
 
 pub read-project-spec : {M : Type 1} → statement M
 read-project-spec =
