@@ -6,11 +6,13 @@ use Prim.Native.Nat.{ℕ, zero, suc, _+_, _-_, _*_, _≤_, _<_}
 use native.Mathlib.Omega.{arith}
 use native.Mathlib.Numerals.{add-one}
 use lib.Dec.{ltb}
-use lib.ListN.{length, getD, take, drop}
+use lib.ListN.{length, getD, take, drop, set}
+use lib.Seq.{take-suc-set}
 use borrow.Author.Tests.{lt-ltb, le-ltb}
 use Rattle.model.specs.Algebra.{Pair}
 use Rattle.model.specs.Record.{Bytes, fieldAt, fieldsAt}
 use Rattle.model.specs.Network.{columnsBelow, pairsBelow, pairsAt}
+use Rattle.network.specs.Reading.{pairsOf}
 
 -- ---- columns
 
@@ -78,3 +80,39 @@ module _ (l r : ℕ) (bs : Bytes) (at k n : ℕ) where
 
   pub pairs-all : (i : ℕ) → n ≤ i → PairsTo l r bs at k n i → pairsBelow l r (pairsAt bs at k n) ≡ true
   pairs-all i h b = b ∙ rw (pairs-none bs at k n i h)
+
+-- ---- fields stored one after the other
+
+pub fields-snoc : (bs : Bytes) (at k n : ℕ) → fieldsAt bs at k (n + 1) ≡ fieldsAt bs at k n ++ (fieldAt bs at (k + n) ∷ [])
+fields-snoc bs at k zero = let e : k + 0 ≡ k = omega arith in rw e
+fields-snoc bs at k (suc n) =
+    let e : suc n + 1 ≡ suc (n + 1) = omega arith in
+    let f : k + suc n ≡ suc k + n = omega arith in
+    rw (e, f) (ap (λ (l : List ℕ). fieldAt bs at k ∷ l) (fields-snoc bs at (suc k) n))
+
+pub fields-turn : (bs : Bytes) (at k : ℕ) (l : List ℕ) (i x : ℕ) → i < length l → x ≡ fieldAt bs at (k + i) → take i l ≡ fieldsAt bs at k i → take (i + 1) (set l i x) ≡ fieldsAt bs at k (i + 1)
+fields-turn bs at k l i x h e f =
+    let one : take (i + 1) (set l i x) ≡ take i l ++ (x ∷ []) = rw add-one (take-suc-set l i x h) in
+    let two : take i l ++ (x ∷ []) ≡ fieldsAt bs at k i ++ (fieldAt bs at (k + i) ∷ []) = rw (f, e) in
+    one ∙ two ∙ sym (fields-snoc bs at k i)
+
+pub length-fieldsAt : (bs : Bytes) (at k n : ℕ) → length (fieldsAt bs at k n) ≡ n
+length-fieldsAt bs at k zero = refl
+length-fieldsAt bs at k (suc n) = ap suc (length-fieldsAt bs at (suc k) n)
+
+pub pairs-fields : (bs : Bytes) (at k n : ℕ) → pairsOf n (fieldsAt bs at k (2 * n)) ≡ pairsAt bs at k n
+pairs-fields bs at k zero = refl
+pairs-fields bs at k (suc n) =
+    let e : 2 * suc n ≡ suc (suc (2 * n)) = omega arith in
+    let f : k + 2 ≡ suc (suc k) = omega arith in
+    let g : k + 1 ≡ suc k = omega arith in
+    rw (e, f, g) (ap (λ (l : List Pair). record { left = fieldAt bs at k; right = fieldAt bs at (suc k) } ∷ l) (pairs-fields bs at (suc (suc k)) n))
+
+-- pairs depend on their own numbers alone
+pub pairs-take : (n : ℕ) (l : List ℕ) → 2 * n ≤ length l → pairsOf n l ≡ pairsOf n (take (2 * n) l)
+pairs-take zero l h = refl
+pairs-take (suc n) [] h = absurd (omega arith)
+pairs-take (suc n) (x ∷ []) h = absurd (omega arith)
+pairs-take (suc n) (x ∷ y ∷ l) h =
+    let e : 2 * suc n ≡ suc (suc (2 * n)) = omega arith in
+    rw e (ap (λ (m : List Pair). record { left = x; right = y } ∷ m) (pairs-take n l (omega arith)))

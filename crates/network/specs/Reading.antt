@@ -115,6 +115,10 @@ pub record ReadsRecord (ws signs : List ℕ) (bs : Bytes) (at : ℕ) (r : Record
 
 -- ---- networks
 
+-- what stands past the last node
+abbrev pub noSlot : Slot
+noSlot = record { node = Table 0; columns = replicate 4 0; pairs = replicate 4 0 }
+
 abbrev pub slotNode : Slot → model.Node
 slotNode s = nodeOf (s .node) (s .columns) (s .pairs)
 

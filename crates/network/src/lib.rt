@@ -2,13 +2,13 @@
 ghost use mathlib.Core.Path.{_≡_};
 ghost use mathlib.Core.Bool.{Bool, true, false};
 ghost use mathlib.Core.List.{List, [], _∷_};
-ghost use Prim.Native.Nat.{ℕ, _+_, _-_, _*_, _≤_, _<_};
+ghost use Prim.Native.Nat.{ℕ, _+_, _-_, _*_, _≤_, _<_, max};
 ghost use lib.ListN.{length, getD, take};
 ghost use Rattle.model.specs.Algebra.{holdsOf};
 ghost use Rattle.model.specs.Network.{columnsBelow, pairsBelow, pairsAt, projectShape, joinShape, kindNumbered, tableKind, selectConstantKind, selectColumnKind, projectKind, joinKind, setKind, watchKind, widthOf, levelOf};
 ghost use Rattle.model.specs.Record.{fieldsAt, lengthAt, kindAt, isBroken};
 ghost use Rattle.rows.specs.Rows.{orderOf};
-ghost use Rattle.network.specs.Reading.{ReadsBody, ReadsRecord, ReadsNetwork, selectFits, Narrow, operationOf, pairsOf, nodeOf, nodeAt, slotNode};
+ghost use Rattle.network.specs.Reading.{ReadsBody, ReadsRecord, ReadsNetwork, selectFits, Narrow, operationOf, nodeAt, slotNode, NodeFits, InputsBelow, widthIn, levelIn, Built, Extends, noSlot, networkOf};
 
 // The most fields of a row, and the most nodes of a network.
 pub const MAX_WIDTH: usize = 4;
@@ -353,5 +353,77 @@ fn read_node(kind: usize, bytes: &[u8], at: usize, count: usize, widths: &[usize
         4 => read_project(bytes, at, count, widths),
         5 => read_join(bytes, at, count, widths),
         _ => read_set(set_operation(kind), bytes, at, count, widths),
+    }
+}
+
+// ---- building the network
+
+// n fields of the record from field k on, then zeros.
+fn fields_of(bytes: &[u8], at: usize, k: usize, n: usize) -> [usize; MAX_WIDTH]
+    requires { ⌜ (at + 4 + 2 * k + 2 * n ≤ length (now bytes)) × (n ≤ 4) ⌝ }
+    ensures { λ r. ⌜ (take n r ≡ fieldsAt (now (bytes .entry)) at k n) × (length r ≡ 4) ⌝ }
+{
+    let mut fields = [0usize; MAX_WIDTH];
+    let mut i = 0;
+    while i < n {
+        fields[i] = records::field_at(bytes, at, k + i);
+        i += 1;
+    }
+    fields
+}
+
+// A node with its lists, read from its record.
+fn slot_at(bytes: &[u8], at: usize, node: Node, count: usize) -> Slot
+    requires { ⌜ NodeFits node count (now bytes) at ⌝ }
+    ensures { λ r. ⌜ slotNode r ≡ nodeAt node (now (bytes .entry)) at ⌝ }
+{
+    let none = [0usize; MAX_WIDTH];
+    match node {
+        Node::Project(_, n) => {
+            let columns = fields_of(bytes, at, 2, n);
+            Slot { node, columns, pairs: none }
+        }
+        Node::Join(_, _, p, n) => {
+            let pairs = fields_of(bytes, at, 3, 2 * p);
+            let columns = fields_of(bytes, at, 4 + 2 * p, n);
+            Slot { node, columns, pairs }
+        }
+        Node::Table(_) => Slot { node, columns: none, pairs: none },
+        Node::Select(_, _, _, _) => Slot { node, columns: none, pairs: none },
+        Node::Set(_, _, _) => Slot { node, columns: none, pairs: none },
+    }
+}
+
+// A node's width, from the widths of the nodes before it.
+fn width_of(node: Node, widths: &[usize]) -> usize
+    requires { ⌜ InputsBelow node (length (now widths)) ⌝ }
+    ensures { λ r. ⌜ r ≡ widthIn node (now (widths .entry)) ⌝ }
+{
+    match node {
+        Node::Table(width) => width,
+        Node::Select(input, _, _, _) => widths[input],
+        Node::Project(_, columns) => columns,
+        Node::Join(_, _, _, columns) => columns,
+        Node::Set(_, left, _) => widths[left],
+    }
+}
+
+fn greater(a: usize, b: usize) -> usize
+    ensures { λ r. ⌜ r ≡ max a b ⌝ }
+{
+    if a < b { b } else { a }
+}
+
+// A node's level, from the levels of the nodes before it.
+fn level_of(node: Node, levels: &[usize]) -> usize
+    requires { ⌜ InputsBelow node (length (now levels)) × ((i : ℕ) → getD (now levels) i 0 < 64) ⌝ }
+    ensures { λ r. ⌜ r ≡ levelIn node (now (levels .entry)) ⌝ }
+{
+    match node {
+        Node::Table(_) => 0,
+        Node::Select(input, _, _, _) => levels[input] + 1,
+        Node::Project(input, _) => levels[input] + 1,
+        Node::Join(left, right, _, _) => greater(levels[left], levels[right]) + 1,
+        Node::Set(_, left, right) => greater(levels[left], levels[right]) + 1,
     }
 }

@@ -1,0 +1,62 @@
+use mathlib.Core.Path.{_≡_, refl, sym, ap, _∙_}
+use Prim.Native.Nat.{ℕ, _+_, _-_, _*_, _≤_, _<_}
+use lib.ListN.{length, getD, take, length-set}
+use Rattle.model.specs.Record.{fieldsAt}
+use Rattle.network.proofs.Lists.{fields-turn}
+use native.Mathlib.Omega.{arith}
+use borrow.Author.Needs.{needs}
+use Rattle.network.proofs.fields_of.Statement.{statement}
+use Rattle.network.proofs.fields_of.Tie as tie
+use Rattle.network.proofs.fields_of.Reads as reads
+use Rattle.network.proofs.fields_of.Lts as lts
+use Rattle.records.proofs.field_at.Reads as field-at-reads
+
+abbrev Inv-loop : tie.InvT-loop
+Inv-loop bytes at k n fields₀ i₀ fields i = (i ≤ n) × (length fields ≡ 4) × (take i fields ≡ fieldsAt bytes at k i)
+
+abbrev μ-loop : tie.MeasureT-loop
+μ-loop bytes at k n fields₀ i₀ fields i = n - i
+
+loop-holds : tie.Need-loop-holds Inv-loop μ-loop
+loop-holds c = (omega arith, refl, refl)
+
+add-field-at : tie.Need-add-field-at Inv-loop μ-loop
+add-field-at c = omega arith
+
+field-at-requires : tie.Need-field-at-requires Inv-loop μ-loop
+field-at-requires c κs = omega arith
+
+mul-fields : tie.Need-mul-fields Inv-loop μ-loop
+mul-fields c = omega arith
+
+array-write-fields : tie.Need-array-write-fields Inv-loop μ-loop
+array-write-fields c = omega arith
+
+add-i : tie.Need-add-i Inv-loop μ-loop
+add-i c = omega arith
+
+loop-less : tie.Need-loop-less Inv-loop μ-loop
+loop-less c = omega arith
+
+loop-again : tie.Need-loop-again Inv-loop μ-loop
+loop-again c = let a = c .before .before .before .before .args in (omega arith, simp length-set (c .before .before .loop .inv .1), fields-turn (a .bytes .now) (a .at) (a .k) (c .before .before .loop .fields) (c .before .before .loop .i) (c .field-at .result) (omega arith) (c .field-at .ensures .is) (c .before .before .loop .inv .2))
+
+returns : tie.Need-returns Inv-loop μ-loop
+returns c = let a = c .before .before .before .args in let e : c .before .loop .i ≡ a .n = omega arith in (rw (← e) (c .before .loop .inv .2), c .before .loop .inv .1)
+
+pub fields-of-spec : {M : Type 1} → statement M
+fields-of-spec =
+    tie.close
+    (tie.spec
+    Inv-loop
+    μ-loop
+    loop-holds
+    add-field-at
+    field-at-requires
+    mul-fields
+    array-write-fields
+    add-i
+    loop-less
+    loop-again
+    returns)
+

@@ -1,0 +1,89 @@
+use mathlib.Core.Path.{_≡_, refl, sym, ap, _∙_}
+use Prim.Native.Nat.{ℕ, _+_, _-_, _*_, _≤_, _<_}
+use lib.ListN.{length, take}
+use Rattle.model.specs.Network.{pairsAt}
+use Rattle.network.specs.Reading.{NodeFits, slotNode, nodeAt, nodeOf, pairsOf}
+use Rattle.network.proofs.Lists.{pairs-fields, pairs-take}
+use native.Mathlib.Omega.{arith}
+use borrow.Author.Needs.{needs}
+use Rattle.network.proofs.slot_at.Statement.{statement}
+use Rattle.network.proofs.slot_at.Tie as tie
+use Rattle.network.proofs.slot_at.Reads as reads
+use Rattle.network.proofs.slot_at.Lts as lts
+use Rattle.network.proofs.fields_of.Reads as fields-of-reads
+
+enum-known-node : tie.Need-enum-known-node
+enum-known-node c = search needs
+
+fields-of-requires : tie.Need-fields-of-requires
+fields-of-requires c κs = let f = rw (c .before .node .given .1) at (c .before .before .before .before .pre) in omega (arith, f .1, f .2)
+
+enum-known-node-2 : tie.Need-enum-known-node-2
+enum-known-node-2 c = search needs
+
+mul-fields-of : tie.Need-mul-fields-of
+mul-fields-of c = let f = rw (c .before .node2 .given .1) at (c .before .before .before .before .pre) in omega (arith, f .2)
+
+fields-of-requires-2 : tie.Need-fields-of-requires-2
+fields-of-requires-2 c κs = let f = rw (c .before .node2 .given .1) at (c .before .before .before .before .pre) in omega (arith, f .2, f .4)
+
+mul-fields-of-2 : tie.Need-mul-fields-of-2
+mul-fields-of-2 c = let f = rw (c .before .before .node2 .given .1) at (c .before .before .before .before .before .pre) in omega (arith, f .2)
+
+add-fields-of : tie.Need-add-fields-of
+add-fields-of c = let f = rw (c .before .before .node2 .given .1) at (c .before .before .before .before .before .pre) in omega (arith, f .2)
+
+fields-of-requires-3 : tie.Need-fields-of-requires-3
+fields-of-requires-3 c κs = let f = rw (c .before .before .node2 .given .1) at (c .before .before .before .before .before .pre) in omega (arith, f .2, f .3, f .4)
+
+enum-told : tie.Need-enum-told
+enum-told c = search needs
+
+enum-told-2 : tie.Need-enum-told-2
+enum-told-2 c = search needs
+
+enum-told-3 : tie.Need-enum-told-3
+enum-told-3 c = search needs
+
+returns : tie.Need-returns
+returns c = rw (c .before .before .node .given .1, c .fields-of .ensures .0)
+
+returns-2 : tie.Need-returns-2
+returns-2 c =
+    let a = c .before .before .before .before .before .before .args in
+    let f = rw (c .before .before .before .node2 .given .1) at (c .before .before .before .before .before .before .pre) in
+    let p : ℕ = c .before .before .before .node2 .given .0 .1 .1 .0 in
+    let pairs : pairsOf p (c .before .fields-of2 .result) ≡ pairsAt (a .bytes .now) (a .at) 3 p =
+    pairs-take p (c .before .fields-of2 .result) (omega (arith, f .2, c .before .fields-of2 .ensures .1)) ∙ ap (pairsOf p) (c .before .fields-of2 .ensures .0) ∙ pairs-fields (a .bytes .now) (a .at) 3 p in
+    rw (c .before .before .before .node2 .given .1, pairs, c .fields-of3 .ensures .0)
+
+returns-3 : tie.Need-returns-3
+returns-3 c = rw (c .enum-told .given .1)
+
+returns-4 : tie.Need-returns-4
+returns-4 c = rw (c .enum-told2 .given .1)
+
+returns-5 : tie.Need-returns-5
+returns-5 c = rw (c .enum-told3 .given .1)
+
+pub slot-at-spec : {M : Type 1} → statement M
+slot-at-spec =
+    tie.close
+    (tie.spec
+    enum-known-node
+    fields-of-requires
+    enum-known-node-2
+    mul-fields-of
+    fields-of-requires-2
+    mul-fields-of-2
+    add-fields-of
+    fields-of-requires-3
+    enum-told
+    enum-told-2
+    enum-told-3
+    returns
+    returns-2
+    returns-3
+    returns-4
+    returns-5)
+
