@@ -11,12 +11,12 @@ use borrow.Author.Tests.{lt-ltb, le-ltb, le-leb, lt-leb, eq-eqb, ne-eqb, ltb-tru
 use Rattle.model.specs.Record.{Bytes, u32, lengthAt, fieldAt, fieldsAt}
 use Rattle.model.specs.Network.{Kind, tableKind, selectConstantKind, selectColumnKind, projectKind, joinKind, setKind, watchKind, hasShape, projectShape, joinShape, itemAt, itemFits, nodeFits, watchFits, columnsBelow, pairsBelow, pairsAt}
 use Rattle.model.proofs.Sets.{and-first, and-second}
-use Rattle.network.specs.Reading.{numberOf, itemOf, operationOf, bodyFault, selectFits, Fits, ReadsBody}
+use Rattle.network.specs.Reading.{NodeRecord, WatchRecord, numberOf, itemOf, operationOf, bodyFault, selectFits, Fits, ReadsBody}
 use Rattle.network.specs.declared.Operand.the-variants.{Constant, Column}
 use Rattle.network.specs.declared.SetOperation.{SetOperation}
 use Rattle.network.specs.declared.Node.the-variants.{Table, Select, Project, Join, Set}
 use Rattle.network.specs.declared.Record.{Record}
-use Rattle.network.specs.declared.Record.the-variants.{Node as NodeRecord, Watch, Refused}
+use Rattle.network.specs.declared.Record.the-variants.{Refused}
 
 pub no-first : (a b : Bool) → a ≡ false → (a && b) ≡ false
 no-first a b e = rw e
@@ -362,10 +362,10 @@ module _ (xs : List ℕ) (count : ℕ) (long : count ≤ length xs) (ws : List �
             reads-7 ws (take count xs) bs at watchKind watch-shaped
             (rw (← is, ← of, counted xs count long bs at, lt-ltb n count within, le-leb 1 s low, le-leb s 3 high, first-at xs count n within) (ne-eqb (getD xs n 0) 0 h))
 
-        pub watch-ok : getD xs n 0 ≡ 0 → ReadsBody ws (take count xs) watchKind bs at (Watch n s)
+        pub watch-ok : getD xs n 0 ≡ 0 → ReadsBody ws (take count xs) watchKind bs at (WatchRecord n s)
         unfolding itemFits itemAt watchFits
         watch-ok h =
-            reads-ok ws (take count xs) bs at watchKind (Watch n s) watch-shaped
+            reads-ok ws (take count xs) bs at watchKind (WatchRecord n s) watch-shaped
             (rw (← is, ← of, counted xs count long bs at, lt-ltb n count within, le-leb 1 s low, le-leb s 3 high, first-at xs count n within) (eq-eqb (getD xs n 0) 0 h)) refl
             (rw (is, of))
             (rw (counted xs count long bs at) within)

@@ -14,7 +14,8 @@ use Rattle.model.proofs.Sets.{and-first, and-second}
 use Rattle.rows.proofs.Place.{all-below}
 use Rattle.network.specs.Reading.{numberOf, nodeAt, itemOf, bodyFault, Room, ReadsBody, ReadsRecord}
 use Rattle.network.specs.declared.Record.{Record}
-use Rattle.network.specs.declared.Record.the-variants.{Node as NodeRecord, Watch, Refused}
+use Rattle.network.specs.declared.Item.the-variants.{Node as NodeBrought, Watch as WatchBrought}
+use Rattle.network.specs.declared.Record.the-variants.{Item as Brought, Refused}
 
 -- ---- the kinds' numbers
 
@@ -51,18 +52,18 @@ unknown-high k h = List·getD-eq-default kinds unknownKind h
 -- ---- records
 
 room-of : (ws : List ℕ) (r : Record) → length ws < 32 → Room r ws
-room-of ws (NodeRecord n) h = h
-room-of ws (Watch n s) h = tt
+room-of ws (Brought (NodeBrought n)) h = h
+room-of ws (Brought (WatchBrought n s)) h = tt
 room-of ws (Refused k) h = tt
 
 -- a watch is no node
 room-watch : (ws : List ℕ) (bs : Bytes) (at : ℕ) (r : Record) → (numberOf r ≡ 0 → itemOf r bs at ≡ itemAt watchKind bs at) → Room r ws
 unfolding itemAt
-room-watch ws bs at (NodeRecord n) h =
+room-watch ws bs at (Brought (NodeBrought n)) h =
     let e : nodeItem (nodeAt n bs at) ≡ watchItem (record { node = fieldAt bs at 0; sign = fieldAt bs at 1 }) = h refl in
     let z : _≡_ {A = ℕ} 0 1 = cc in
     absurd (omega arith)
-room-watch ws bs at (Watch n s) h = tt
+room-watch ws bs at (Brought (WatchBrought n s)) h = tt
 room-watch ws bs at (Refused k) h = tt
 
 module _ (ws signs : List ℕ) (bs : Bytes) (at : ℕ) where

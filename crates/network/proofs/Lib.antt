@@ -1,3 +1,5 @@
 pub mod Lists
 pub mod Body
 pub mod ByKind
+pub mod Building
+pub mod ReadAll

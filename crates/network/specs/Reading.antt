@@ -17,7 +17,9 @@ use Rattle.network.specs.declared.SetOperation.the-variants.{Union, Diff
 use Rattle.network.specs.declared.Node.{Node}
 use Rattle.network.specs.declared.Node.the-variants.{Table, Select, Project, Join, Set}
 use Rattle.network.specs.declared.Record.{Record}
-use Rattle.network.specs.declared.Record.the-variants.{Node as NodeRecord, Watch, Refused}
+use Rattle.network.specs.declared.Item as declaredItem
+use Rattle.network.specs.declared.Item.the-variants.{Node as NodeBrought, Watch as WatchBrought}
+use Rattle.network.specs.declared.Record.the-variants.{Item as Brought, Refused}
 use Rattle.network.specs.declared.Slot.{Slot}
 use Rattle.network.specs.declared.Network.{Network}
 use Rattle.network.specs.declared.Verdict.{Verdict}
@@ -57,16 +59,25 @@ nodeAt (Set o l r) bs at = setOperation (operationOf o) l r
 
 -- ---- records
 
+abbrev pub NodeRecord : Node → Record
+NodeRecord n = Brought (NodeBrought n)
+
+abbrev pub WatchRecord : ℕ → ℕ → Record
+WatchRecord n s = Brought (WatchBrought n s)
+
+-- the model's item
+abbrev pub broughtBy : declaredItem.Item → Bytes → ℕ → Item
+broughtBy (NodeBrought n) bs at = nodeItem (nodeAt n bs at)
+broughtBy (WatchBrought n s) bs at = watchItem (record { node = n; sign = s })
+
 -- the item of a record reading
 abbrev pub itemOf : Record → Bytes → ℕ → Item
-itemOf (NodeRecord n) bs at = nodeItem (nodeAt n bs at)
-itemOf (Watch n s) bs at = watchItem (record { node = n; sign = s })
+itemOf (Brought b) bs at = broughtBy b bs at
 itemOf (Refused k) bs at = nodeItem (table 0)
 
 -- the order's number for a record reading: 0 unless it is refused
 abbrev pub numberOf : Record → ℕ
-numberOf (NodeRecord n) = 0
-numberOf (Watch n s) = 0
+numberOf (Brought b) = 0
 numberOf (Refused k) = k
 
 -- the part of rule 7 that both kinds of select share
@@ -90,8 +101,8 @@ NodeFits (Join l r p n) count bs at = (l < count) × (r < count) × (p ≤ 2) ×
 NodeFits (Set o l r) count bs at = (l < count) × (r < count)
 
 abbrev pub Fits : Record → List ℕ → List ℕ → Bytes → ℕ → Type 0
-Fits (NodeRecord n) ws signs bs at = NodeFits n (length ws) bs at
-Fits (Watch n s) ws signs bs at = n < length signs
+Fits (Brought (NodeBrought n)) ws signs bs at = NodeFits n (length ws) bs at
+Fits (Brought (WatchBrought n s)) ws signs bs at = n < length signs
 Fits (Refused k) ws signs bs at = 1 ≤ k
 
 -- a record of a known kind is read: its number, and where that is 0 its item
@@ -102,8 +113,8 @@ pub record ReadsBody (ws signs : List ℕ) (kind : Kind) (bs : Bytes) (at : ℕ)
 
 -- a node comes after fewer than 32 others
 abbrev pub Room : Record → List ℕ → Type 0
-Room (NodeRecord n) ws = length ws < 32
-Room (Watch n s) ws = Unit {0}
+Room (Brought (NodeBrought n)) ws = length ws < 32
+Room (Brought (WatchBrought n s)) ws = Unit {0}
 Room (Refused k) ws = Unit {0}
 
 -- any record is read
@@ -148,8 +159,13 @@ pub record Built (net : Network) : Type 0 where
   pub signs-length : length (net .signs) ≡ 32
   pub sound : Sound net
   pub narrow : Narrow (net .widths)
-  pub low : (i : ℕ) → i < net .count → getD (net .levels) i 0 ≤ i
+  pub low : (i : ℕ) → getD (net .levels) i 0 ≤ i
   pub unwatched : (i : ℕ) → net .count ≤ i → getD (net .signs) i 0 ≡ 0
+
+-- an item that can come next
+abbrev pub Follows : declaredItem.Item → Network → Bytes → ℕ → Type 0
+Follows (NodeBrought n) net bs at = (net .count < 32) × NodeFits n (net .count) bs at
+Follows (WatchBrought n s) net bs at = n < net .count
 
 -- a network with one item more
 pub record Extends (net : Network) (item : Item) (r : Network) : Type 0 where
@@ -179,6 +195,15 @@ InputsBelow (Select i c k o) n = i < n
 InputsBelow (Project i m) n = i < n
 InputsBelow (Join l r p m) n = (l < n) × (r < n)
 InputsBelow (Set o l r) n = (l < n) × (r < n)
+
+-- a node that can come next, with its width and its level
+pub record NextSlot (net : Network) (slot : Slot) (width level : ℕ) : Type 0 where
+  pub built : Built net
+  pub room : net .count < 32
+  pub width-is : width ≡ model.widthOf (slotNode slot) (model.widths (nodesOf net))
+  pub level-is : level ≡ model.levelOf (slotNode slot) (model.levels (nodesOf net))
+  pub narrow : width ≤ 4
+  pub low : level ≤ net .count
 
 -- a network is read: "the first record that fails decides"
 pub record ReadsNetwork (bs : Bytes) (r : Reading) : Type 0 where

@@ -5,10 +5,10 @@ ghost use mathlib.Core.List.{List, [], _∷_};
 ghost use Prim.Native.Nat.{ℕ, _+_, _-_, _*_, _≤_, _<_, max};
 ghost use lib.ListN.{length, getD, take};
 ghost use Rattle.model.specs.Algebra.{holdsOf};
-ghost use Rattle.model.specs.Network.{columnsBelow, pairsBelow, pairsAt, projectShape, joinShape, kindNumbered, tableKind, selectConstantKind, selectColumnKind, projectKind, joinKind, setKind, watchKind, widthOf, levelOf};
+ghost use Rattle.model.specs.Network.{columnsBelow, pairsBelow, pairsAt, projectShape, joinShape, kindNumbered, tableKind, selectConstantKind, selectColumnKind, projectKind, joinKind, setKind, watchKind, nodeItem, watchItem, noNetwork, refusedReading};
 ghost use Rattle.model.specs.Record.{fieldsAt, lengthAt, kindAt, isBroken};
 ghost use Rattle.rows.specs.Rows.{orderOf};
-ghost use Rattle.network.specs.Reading.{ReadsBody, ReadsRecord, ReadsNetwork, selectFits, Narrow, operationOf, nodeAt, slotNode, NodeFits, InputsBelow, widthIn, levelIn, Built, Extends, noSlot, networkOf};
+ghost use Rattle.network.specs.Reading.{ReadsBody, ReadsRecord, ReadsNetwork, selectFits, Narrow, operationOf, nodeAt, slotNode, NodeFits, InputsBelow, widthIn, levelIn, Built, Extends, NextSlot, Follows, broughtBy, numberOf, networkOf, readingOf};
 
 // The most fields of a row, and the most nodes of a network.
 pub const MAX_WIDTH: usize = 4;
@@ -63,10 +63,15 @@ pub struct Reading {
     pub network: Network,
 }
 
-// What a record gives.
-pub enum Record {
+// What a record brings: a node, or a watch's node and sign.
+pub enum Item {
     Node(Node),
     Watch(usize, usize),
+}
+
+// What reading a record gives: what it brings, or the number of the rule that it breaks.
+pub enum Record {
+    Item(Item),
     Refused(usize),
 }
 
@@ -119,7 +124,7 @@ fn read_table(bytes: &[u8], at: usize) -> Record
     if MAX_WIDTH < width {
         return Record::Refused(7);
     }
-    Record::Node(Node::Table(width))
+    Record::Item(Item::Node(Node::Table(width)))
 }
 
 // Whether the record's input is below the count, its column below the input's width and its comparison a code.
@@ -151,7 +156,7 @@ fn read_select_constant(bytes: &[u8], at: usize, count: usize, widths: &[usize])
     let column = records::field_at(bytes, at, 1);
     let comparison = records::field_at(bytes, at, 2);
     let constant = records::u32_at(bytes, at + 10);
-    Record::Node(Node::Select(input, column, comparison, Operand::Constant(constant)))
+    Record::Item(Item::Node(Node::Select(input, column, comparison, Operand::Constant(constant))))
 }
 
 fn read_select_column(bytes: &[u8], at: usize, count: usize, widths: &[usize]) -> Record
@@ -171,7 +176,7 @@ fn read_select_column(bytes: &[u8], at: usize, count: usize, widths: &[usize]) -
     }
     let column = records::field_at(bytes, at, 1);
     let comparison = records::field_at(bytes, at, 2);
-    Record::Node(Node::Select(input, column, comparison, Operand::Column(other)))
+    Record::Item(Item::Node(Node::Select(input, column, comparison, Operand::Column(other))))
 }
 
 // Rule 6 for kind 4.
@@ -208,7 +213,7 @@ fn read_project(bytes: &[u8], at: usize, count: usize, widths: &[usize]) -> Reco
     if !columns_below(bytes, at, 2, columns, widths[input]) {
         return Record::Refused(7);
     }
-    Record::Node(Node::Project(input, columns))
+    Record::Item(Item::Node(Node::Project(input, columns)))
 }
 
 // Rule 6 for kind 5.
@@ -260,7 +265,7 @@ fn read_join(bytes: &[u8], at: usize, count: usize, widths: &[usize]) -> Record
     if !columns_below(bytes, at, 4 + 2 * pairs, columns, widths[left] + widths[right]) {
         return Record::Refused(7);
     }
-    Record::Node(Node::Join(left, right, pairs, columns))
+    Record::Item(Item::Node(Node::Join(left, right, pairs, columns)))
 }
 
 fn read_set(operation: SetOperation, bytes: &[u8], at: usize, count: usize, widths: &[usize]) -> Record
@@ -281,7 +286,7 @@ fn read_set(operation: SetOperation, bytes: &[u8], at: usize, count: usize, widt
     if widths[left] != widths[right] {
         return Record::Refused(7);
     }
-    Record::Node(Node::Set(operation, left, right))
+    Record::Item(Item::Node(Node::Set(operation, left, right)))
 }
 
 fn read_watch(bytes: &[u8], at: usize, count: usize, signs: &[usize]) -> Record
@@ -305,7 +310,7 @@ fn read_watch(bytes: &[u8], at: usize, count: usize, signs: &[usize]) -> Record
     if signs[node] != 0 {
         return Record::Refused(7);
     }
-    Record::Watch(node, sign)
+    Record::Item(Item::Watch(node, sign))
 }
 
 // The record at an offset, after so many nodes: rules 3 to 7 in order.
@@ -416,7 +421,7 @@ fn greater(a: usize, b: usize) -> usize
 
 // A node's level, from the levels of the nodes before it.
 fn level_of(node: Node, levels: &[usize]) -> usize
-    requires { ⌜ InputsBelow node (length (now levels)) × ((i : ℕ) → getD (now levels) i 0 < 64) ⌝ }
+    requires { ⌜ InputsBelow node (length (now levels)) × ((i : ℕ) → getD (now levels) i 0 ≤ i) × (length (now levels) ≤ 64) ⌝ }
     ensures { λ r. ⌜ r ≡ levelIn node (now (levels .entry)) ⌝ }
 {
     match node {
@@ -425,5 +430,111 @@ fn level_of(node: Node, levels: &[usize]) -> usize
         Node::Project(input, _) => levels[input] + 1,
         Node::Join(left, right, _, _) => greater(levels[left], levels[right]) + 1,
         Node::Set(_, left, right) => greater(levels[left], levels[right]) + 1,
+    }
+}
+
+// A network with no node.
+fn no_network() -> Network
+    ensures { λ r. ⌜ Built r × (networkOf r ≡ noNetwork) ⌝ }
+{
+    let slot = Slot { node: Node::Table(0), columns: [0usize; MAX_WIDTH], pairs: [0usize; 4] };
+    Network {
+        count: 0,
+        slots: [slot; MAX_NODES],
+        widths: [0usize; MAX_NODES],
+        levels: [0usize; MAX_NODES],
+        signs: [0usize; MAX_NODES],
+    }
+}
+
+// A refusal, with no network beside it.
+fn refused_reading(number: usize, place: usize) -> Reading
+    ensures { λ r. ⌜ (readingOf r ≡ refusedReading number place) × Built (r .network) ⌝ }
+{
+    Reading {
+        verdict: Verdict { number, place },
+        network: no_network(),
+    }
+}
+
+// The network with a watch on one of its nodes.
+fn with_watch(net: Network, node: usize, sign: usize) -> Network
+    requires { ⌜ Built net × (node < net .count) ⌝ }
+    ensures { λ r. ⌜ Extends net (watchItem (record { node = node; sign = sign })) r ⌝ }
+{
+    let mut next = net;
+    next.signs[node] = sign;
+    next
+}
+
+// The network with one node more.
+fn with_slot(net: Network, slot: Slot, width: usize, level: usize) -> Network
+    requires { ⌜ NextSlot net slot width level ⌝ }
+    ensures { λ r. ⌜ Extends net (nodeItem (slotNode slot)) r ⌝ }
+{
+    let mut next = net;
+    let count = net.count;
+    next.slots[count] = slot;
+    next.widths[count] = width;
+    next.levels[count] = level;
+    next.count = count + 1;
+    next
+}
+
+// The network with the node of the record at an offset.
+fn with_node(net: Network, bytes: &[u8], at: usize, node: Node) -> Network
+    requires { ⌜ Built net × (net .count < 32) × NodeFits node (net .count) (now bytes) at ⌝ }
+    ensures { λ r. ⌜ Extends net (nodeItem (nodeAt node (now (bytes .entry)) at)) r ⌝ }
+{
+    let count = net.count;
+    let slot = slot_at(bytes, at, node, count);
+    let width = width_of(node, &net.widths);
+    let level = level_of(node, &net.levels);
+    with_slot(net, slot, width, level)
+}
+
+// The network with what the record at an offset brings.
+fn with_item(net: Network, bytes: &[u8], at: usize, item: Item) -> Network
+    requires { ⌜ Built net × Follows item net (now bytes) at ⌝ }
+    ensures { λ r. ⌜ Extends net (broughtBy item (now (bytes .entry)) at) r ⌝ }
+{
+    match item {
+        Item::Node(node) => with_node(net, bytes, at, node),
+        Item::Watch(node, sign) => with_watch(net, node, sign),
+    }
+}
+
+// A record reading's number.
+fn number_of(reading: Record) -> usize
+    ensures { λ r. ⌜ r ≡ numberOf reading ⌝ }
+{
+    match reading {
+        Record::Item(_) => 0,
+        Record::Refused(number) => number,
+    }
+}
+
+// A network from its bytes: refusals 2 to 7.
+pub fn read_network(bytes: &[u8]) -> Reading
+    ensures { λ r. ⌜ ReadsNetwork (now (bytes .entry)) r ⌝ }
+{
+    if bytes.len() == 0 {
+        return refused_reading(2, 0);
+    }
+    let mut net = no_network();
+    let mut at = 0;
+    while at < bytes.len() {
+        let here = at;
+        let count = net.count;
+        let reading = read_record(bytes, here, count, &net.widths, &net.signs);
+        let Record::Item(item) = reading else {
+            return refused_reading(number_of(reading), here);
+        };
+        net = with_item(net, bytes, here, item);
+        at = here + records::u16_at(bytes, here);
+    }
+    Reading {
+        verdict: Verdict { number: 0, place: 0 },
+        network: net,
     }
 }

@@ -1,0 +1,29 @@
+use mathlib.Core.Path.{_≡_, refl}
+use lib.ListN.{length, getD, replicate}
+use Rattle.model.specs.Network as model
+use Rattle.model.specs.Network.{build}
+use Rattle.network.proofs.Building.{zero-at}
+use native.Mathlib.Omega.{arith}
+use borrow.Author.Needs.{needs}
+use Rattle.network.proofs.no_network.Statement.{statement}
+use Rattle.network.proofs.no_network.Tie as tie
+use Rattle.network.proofs.no_network.Reads as reads
+use Rattle.network.proofs.no_network.Lts as lts
+
+returns : tie.Need-returns
+unfolding model.widths model.levels build
+returns c =
+    (record {
+      slots-length = refl;
+      widths-length = refl;
+      levels-length = refl;
+      signs-length = refl;
+      sound = record { few = omega arith; widths = refl; levels = refl };
+      narrow = λ i. omega (arith, zero-at 32 i);
+      low = λ i. omega (arith, zero-at 32 i);
+      unwatched = λ i h. zero-at 32 i
+    }, refl)
+
+pub no-network-spec : {M : Type 1} → statement M
+no-network-spec = tie.close (tie.spec returns)
+

@@ -1,0 +1,123 @@
+use mathlib.Core.Path.{_≡_, refl, sym, ap, _∙_}
+use Prim.Native.Nat.{ℕ, _≤_, _-_, _+_}
+use lib.ListN.{length}
+use Rattle.model.specs.Network.{readNetwork, refusedReading}
+use Rattle.records.proofs.Header.{Whole}
+use Rattle.network.specs.Reading.{numberOf, Fits}
+use Rattle.network.proofs.ReadAll.{Reached, reached-start, reached-refused, reached-whole, reached-next, reached-end, reached-empty, follows}
+use native.Mathlib.Omega.{arith}
+use borrow.Author.Needs.{needs}
+use Rattle.network.proofs.read_network.Statement.{statement}
+use Rattle.network.proofs.read_network.Tie as tie
+use Rattle.network.proofs.read_network.Reads as reads
+use Rattle.network.proofs.read_network.Lts as lts
+use Rattle.network.proofs.no_network.Reads as no-network-reads
+use Rattle.network.proofs.number_of.Reads as number-of-reads
+use Rattle.network.proofs.read_record.Reads as read-record-reads
+use Rattle.network.proofs.refused_reading.Reads as refused-reading-reads
+use Rattle.network.proofs.with_item.Reads as with-item-reads
+use Rattle.records.proofs.u16_at.Reads as u16-at-reads
+
+abbrev Inv-loop : tie.InvT-loop
+Inv-loop bytes net₀ at₀ net at = Reached bytes net at
+
+abbrev μ-loop : tie.MeasureT-loop
+μ-loop bytes net₀ at₀ net at = length bytes - at
+
+refused-reading-requires : tie.Need-refused-reading-requires Inv-loop μ-loop
+refused-reading-requires c κs = search needs
+
+returns : tie.Need-returns Inv-loop μ-loop
+returns c = record { is = c .refused-reading .ensures .0 ∙ reached-empty (c .before .before .before .args .bytes .now) (c .before .if1 .taken); built = c .refused-reading .ensures .1 }
+
+no-network-requires : tie.Need-no-network-requires Inv-loop μ-loop
+no-network-requires c κs = search needs
+
+loop-holds : tie.Need-loop-holds Inv-loop μ-loop
+loop-holds c = reached-start (c .before .before .before .args .bytes .now) (c .no-network .result) (c .before .if1 .left) (c .no-network .ensures .0) (c .no-network .ensures .1)
+
+read-record-requires : tie.Need-read-record-requires Inv-loop μ-loop
+read-record-requires c κs =
+    let b = c .before .before .before .before .before .before .loop .inv .built in
+    (omega arith, rw (b .widths-length) (b .sound .few), rw (b .signs-length) (b .sound .few), b .narrow)
+
+enum-known-reading : tie.Need-enum-known-reading Inv-loop μ-loop
+enum-known-reading c = search needs
+
+enum-told : tie.Need-enum-told Inv-loop μ-loop
+enum-told c = search needs
+
+number-of-requires : tie.Need-number-of-requires Inv-loop μ-loop
+number-of-requires c κs = search needs
+
+refused-reading-requires-2 : tie.Need-refused-reading-requires-2 Inv-loop μ-loop
+refused-reading-requires-2 c κs = search needs
+
+returns-2 : tie.Need-returns-2 Inv-loop μ-loop
+returns-2 c =
+    let a = c .before .before .before .before .before .before .before .before .before .before .before .before .before .before .before .args in
+    let told = c .before .before .enum-told .given in
+    let fits = rw (told .1) at (c .before .before .before .before .read-record .ensures .fits) in
+    record {
+      is = c .refused-reading2 .ensures .0
+          ∙ reached-refused (a .bytes .now) (c .before .before .before .before .before .before .before .before .before .before .before .loop .net) (c .before .before .before .before .before .before .before .before .before .before .before .loop .at) (c .before .before .before .before .before .before .before .before .before .before .before .loop .inv) (c .before .before .before .before .before .before .before .before .before .before .loop-test .taken) (c .before .before .before .before .read-record .result) (c .before .before .before .before .read-record .ensures) (c .before .number-of .result) (sym (c .before .number-of .ensures)) (rw (c .before .number-of .ensures, told .1) fits);
+      built = c .refused-reading2 .ensures .1
+    }
+
+with-item-requires : tie.Need-with-item-requires Inv-loop μ-loop
+with-item-requires c κs =
+    let a = c .before .before .before .before .before .before .before .before .before .before .before .before .before .before .args in
+    let fits = rw (c .before .reading .given .1) at (c .before .before .before .read-record .ensures .fits) in
+    let room = rw (c .before .reading .given .1) at (c .before .before .before .read-record .ensures .room) in
+    (c .before .before .before .before .before .before .before .before .before .before .loop .inv .built, follows (c .before .reading .given .0 .0) (c .before .before .before .before .before .before .before .before .before .before .loop .net) (a .bytes .now) (c .before .before .before .before .before .before .before .before .before .before .loop .at) (c .before .before .before .before .before .before .before .before .before .before .loop .inv .built) fits room)
+
+u16-at-requires : tie.Need-u16-at-requires Inv-loop μ-loop
+u16-at-requires c κs =
+    let a = c .before .before .before .before .before .before .before .before .before .before .before .before .before .before .before .args in
+    let w = reached-whole (a .bytes .now) (c .before .before .before .before .before .before .before .before .before .before .before .loop .net) (c .before .before .before .before .before .before .before .before .before .before .before .loop .at) (c .before .before .before .before .before .before .before .before .before .before .before .loop .inv) (c .before .before .before .before .before .before .before .before .before .before .loop-test .taken) (c .before .before .before .before .read-record .result) (c .before .before .before .before .read-record .ensures) (ap numberOf (c .before .before .reading .given .1)) in
+    omega (arith, w .header)
+
+add-at : tie.Need-add-at Inv-loop μ-loop
+add-at c =
+    let a = c .before .before .before .before .before .before .before .before .before .before .before .before .before .before .before .before .args in
+    let w = reached-whole (a .bytes .now) (c .before .before .before .before .before .before .before .before .before .before .before .before .loop .net) (c .before .before .before .before .before .before .before .before .before .before .before .before .loop .at) (c .before .before .before .before .before .before .before .before .before .before .before .before .loop .inv) (c .before .before .before .before .before .before .before .before .before .before .before .loop-test .taken) (c .before .before .before .before .before .read-record .result) (c .before .before .before .before .before .read-record .ensures) (ap numberOf (c .before .before .before .reading .given .1)) in
+    omega (arith, w .inside, c .u16-at .ensures .is)
+
+loop-less : tie.Need-loop-less Inv-loop μ-loop
+loop-less c =
+    let a = c .before .before .before .before .before .before .before .before .before .before .before .before .before .before .before .before .args in
+    let w = reached-whole (a .bytes .now) (c .before .before .before .before .before .before .before .before .before .before .before .before .loop .net) (c .before .before .before .before .before .before .before .before .before .before .before .before .loop .at) (c .before .before .before .before .before .before .before .before .before .before .before .before .loop .inv) (c .before .before .before .before .before .before .before .before .before .before .before .loop-test .taken) (c .before .before .before .before .before .read-record .result) (c .before .before .before .before .before .read-record .ensures) (ap numberOf (c .before .before .before .reading .given .1)) in
+    omega (arith, w .least, c .u16-at .ensures .is, c .before .before .before .before .before .before .before .before .before .before .before .loop-test .taken)
+
+loop-again : tie.Need-loop-again Inv-loop μ-loop
+loop-again c =
+    let a = c .before .before .before .before .before .before .before .before .before .before .before .before .before .before .before .before .args in
+    reached-next (a .bytes .now) (c .before .before .before .before .before .before .before .before .before .before .before .before .loop .net) (c .before .before .before .before .before .before .before .before .before .before .before .before .loop .at) (c .before .before .before .before .before .before .before .before .before .before .before .before .loop .inv) (c .before .before .before .before .before .before .before .before .before .before .before .loop-test .taken) (c .before .before .before .before .before .read-record .result) (c .before .before .before .before .before .read-record .ensures) (ap numberOf (c .before .before .before .reading .given .1)) (c .before .with-item .result) (c .before .before .before .before .before .before .before .before .before .before .before .before .loop .at + c .u16-at .result)
+    (rw (c .before .before .before .reading .given .1) (c .before .with-item .ensures)) (ap (λ (n : ℕ). c .before .before .before .before .before .before .before .before .before .before .before .before .loop .at + n) (c .u16-at .ensures .is))
+
+returns-3 : tie.Need-returns-3 Inv-loop μ-loop
+returns-3 c = record { is = reached-end (c .before .before .before .before .before .args .bytes .now) (c .before .loop .net) (c .before .loop .at) (c .before .loop .inv) (c .loop-test .left); built = c .before .loop .inv .built }
+
+pub read-network-spec : {M : Type 1} → statement M
+read-network-spec =
+    tie.close
+    (tie.spec
+    Inv-loop
+    μ-loop
+    refused-reading-requires
+    returns
+    no-network-requires
+    loop-holds
+    read-record-requires
+    enum-known-reading
+    enum-told
+    number-of-requires
+    refused-reading-requires-2
+    returns-2
+    with-item-requires
+    u16-at-requires
+    add-at
+    loop-less
+    loop-again
+    returns-3)
+

@@ -1,0 +1,19 @@
+use mathlib.Core.Path.{_≡_, refl, ap}
+use Rattle.model.specs.Network as model
+use native.Mathlib.Omega.{arith}
+use borrow.Author.Needs.{needs}
+use Rattle.network.proofs.refused_reading.Statement.{statement}
+use Rattle.network.proofs.refused_reading.Tie as tie
+use Rattle.network.proofs.refused_reading.Reads as reads
+use Rattle.network.proofs.refused_reading.Lts as lts
+use Rattle.network.proofs.no_network.Reads as no-network-reads
+
+no-network-requires : tie.Need-no-network-requires
+no-network-requires c κs = search needs
+
+returns : tie.Need-returns
+returns c = ((λ i. record { verdict = record { number = c .before .args .number; place = c .before .args .place }; network = c .no-network .ensures .1 i }), c .no-network .ensures .0)
+
+pub refused-reading-spec : {M : Type 1} → statement M
+refused-reading-spec = tie.close (tie.spec no-network-requires returns)
+
