@@ -12,7 +12,7 @@ use Rattle.model.specs.Record.{Bytes, fieldsAt}
 use Rattle.model.specs.Network as model
 use Rattle.model.specs.Network.{nodeItem, watchItem, isTable, inputsOf, highest, widthOf, levelOf, noNetwork, withItem}
 use Rattle.model.proofs.Build.{build-more}
-use Rattle.network.specs.Reading.{nodeAt, slotNode, nodesOf, networkOf, Sound, Built, Extends, NextSlot, NodeFits, InputsBelow, widthIn, levelIn, Narrow}
+use Rattle.network.specs.Reading.{nodeAt, slotNode, nodesOf, networkOf, Sound, Built, Extends, NextSlot, NodeFits, InputsBelow, widthIn, levelIn, Narrow, Ends}
 use Rattle.network.specs.declared.Node.{Node}
 use Rattle.network.specs.declared.Node.the-variants.{Table, Select, Project, Join, Set}
 use Rattle.network.specs.declared.Slot.{Slot}
@@ -27,6 +27,9 @@ set-below f (y ∷ l) zero x h g zero = g
 set-below f (y ∷ l) zero x h g (suc i) = h (suc i)
 set-below f (y ∷ l) (suc k) x h g zero = h 0
 set-below f (y ∷ l) (suc k) x h g (suc i) = set-below (λ j. f (suc j)) l k x (λ j. h (suc j)) g i
+
+set-ends : (l : List ℕ) (count x : ℕ) → Ends count l → Ends (count + 1) (set l count x)
+set-ends l count x h i g = getD-set-other l count i x 0 (omega arith) ∙ h i (omega arith)
 
 pub zero-at : (n i : ℕ) → getD {A = ℕ} (replicate n 0) i 0 ≡ 0
 zero-at zero i = refl
@@ -95,7 +98,9 @@ module _ (net : Network) (slot : Slot) (width level : ℕ) (next : NextSlot net 
           sound = sound-grown;
           narrow = set-below (λ i. 4) (net .widths) (net .count) width (next .built .narrow) (next .narrow);
           low = set-below (λ i. i) (net .levels) (net .count) level (next .built .low) (next .low);
-          unwatched = λ i h. next .built .unwatched i (omega arith)
+          unwatched = λ i h. next .built .unwatched i (omega arith);
+          widths-end = set-ends (net .widths) (net .count) width (next .built .widths-end);
+          levels-end = set-ends (net .levels) (net .count) level (next .built .levels-end)
         };
         is = λ i. record { nodes = nodes-grown i; signs = signs-grown i }
       }
@@ -114,7 +119,9 @@ module _ (net : Network) (node sign : ℕ) (b : Built net) (within : node < net 
           sound = record { few = b .sound .few; widths = b .sound .widths; levels = b .sound .levels };
           narrow = b .narrow;
           low = b .low;
-          unwatched = λ i h. getD-set-other (net .signs) node i sign 0 (omega arith) ∙ b .unwatched i h
+          unwatched = λ i h. getD-set-other (net .signs) node i sign 0 (omega arith) ∙ b .unwatched i h;
+          widths-end = b .widths-end;
+          levels-end = b .levels-end
         };
         is = λ i. record { nodes = nodesOf net; signs = take-set-lt (net .count) (net .signs) node sign within i }
       }

@@ -3,3 +3,5 @@ pub mod Body
 pub mod ByKind
 pub mod Building
 pub mod ReadAll
+pub mod Truth
+pub mod Kept

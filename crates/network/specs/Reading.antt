@@ -24,6 +24,8 @@ use Rattle.network.specs.declared.Slot.{Slot}
 use Rattle.network.specs.declared.Network.{Network}
 use Rattle.network.specs.declared.Verdict.{Verdict}
 use Rattle.network.specs.declared.Reading.{Reading}
+use Rattle.network.specs.declared.Answer.{Answer}
+use Rattle.model.specs.Calls.{ReadAnswer}
 
 -- ---- nodes
 
@@ -126,9 +128,9 @@ pub record ReadsRecord (ws signs : List ℕ) (bs : Bytes) (at : ℕ) (r : Record
 
 -- ---- networks
 
--- what stands past the last node
+-- what an index past the end reads
 abbrev pub noSlot : Slot
-noSlot = record { node = Table 0; columns = replicate 4 0; pairs = replicate 4 0 }
+noSlot = record { node = Table 0; columns = []; pairs = [] }
 
 abbrev pub slotNode : Slot → model.Node
 slotNode s = nodeOf (s .node) (s .columns) (s .pairs)
@@ -151,6 +153,10 @@ pub record Sound (net : Network) : Type 0 where
   pub widths : take (net .count) (net .widths) ≡ model.widths (nodesOf net)
   pub levels : take (net .count) (net .levels) ≡ model.levels (nodesOf net)
 
+-- from an index on every number is 0
+abbrev pub Ends : ℕ → List ℕ → Type 0
+Ends count l = (i : ℕ) → count ≤ i → getD l i 0 ≡ 0
+
 -- a network as the reader builds it
 pub record Built (net : Network) : Type 0 where
   pub slots-length : length (net .slots) ≡ 32
@@ -160,7 +166,9 @@ pub record Built (net : Network) : Type 0 where
   pub sound : Sound net
   pub narrow : Narrow (net .widths)
   pub low : (i : ℕ) → getD (net .levels) i 0 ≤ i
-  pub unwatched : (i : ℕ) → net .count ≤ i → getD (net .signs) i 0 ≡ 0
+  pub unwatched : Ends (net .count) (net .signs)
+  pub widths-end : Ends (net .count) (net .widths)
+  pub levels-end : Ends (net .count) (net .levels)
 
 -- an item that can come next
 abbrev pub Follows : declaredItem.Item → Network → Bytes → ℕ → Type 0
@@ -209,3 +217,8 @@ pub record NextSlot (net : Network) (slot : Slot) (width level : ℕ) : Type 0 w
 pub record ReadsNetwork (bs : Bytes) (r : Reading) : Type 0 where
   pub is : readingOf r ≡ readNetwork bs
   pub built : Built (r .network)
+
+-- ---- the reader's answer
+
+abbrev pub answerOf : Answer → ReadAnswer
+answerOf a = record { verdict = record { number = a .number; place = a .place }; count = a .count; kinds = a .kinds; widths = a .widths; levels = a .levels }

@@ -1,14 +1,18 @@
 // Networks read from bytes: refusals 2 to 7.
 ghost use mathlib.Core.Path.{_≡_};
 ghost use mathlib.Core.Bool.{Bool, true, false};
-ghost use mathlib.Core.List.{List, [], _∷_};
+ghost use mathlib.Core.List.{List, [], _∷_, map};
 ghost use Prim.Native.Nat.{ℕ, _+_, _-_, _*_, _≤_, _<_, max};
 ghost use lib.ListN.{length, getD, take};
 ghost use Rattle.model.specs.Algebra.{holdsOf};
-ghost use Rattle.model.specs.Network.{columnsBelow, pairsBelow, pairsAt, projectShape, joinShape, kindNumbered, tableKind, selectConstantKind, selectColumnKind, projectKind, joinKind, setKind, watchKind, nodeItem, watchItem, noNetwork, refusedReading};
+ghost use Rattle.model.specs.Network.{columnsBelow, pairsBelow, pairsAt, projectShape, joinShape, kindNumbered, tableKind, selectConstantKind, selectColumnKind, projectKind, joinKind, setKind, watchKind, nodeItem, watchItem, noNetwork, refusedReading, kindOf};
+ghost use Rattle.model.specs.Areas.{padded};
+ghost use Rattle.model.specs.Calls.{readCall};
 ghost use Rattle.model.specs.Record.{fieldsAt, lengthAt, kindAt, isBroken};
 ghost use Rattle.rows.specs.Rows.{orderOf};
-ghost use Rattle.network.specs.Reading.{ReadsBody, ReadsRecord, ReadsNetwork, selectFits, Narrow, operationOf, nodeAt, slotNode, NodeFits, InputsBelow, widthIn, levelIn, Built, Extends, NextSlot, Follows, broughtBy, numberOf, networkOf, readingOf};
+ghost use Rattle.network.specs.Reading.{ReadsBody, ReadsRecord, ReadsNetwork, selectFits, Narrow, operationOf, nodeAt, slotNode, NodeFits, InputsBelow, widthIn, levelIn, Built, Extends, NextSlot, Follows, broughtBy, numberOf, nodeOf, nodesOf, networkOf, readingOf, answerOf};
+
+use rows::Order;
 
 // The most fields of a row, and the most nodes of a network.
 pub const MAX_WIDTH: usize = 4;
@@ -536,5 +540,97 @@ pub fn read_network(bytes: &[u8]) -> Reading
     Reading {
         verdict: Verdict { number: 0, place: 0 },
         network: net,
+    }
+}
+
+// ---- the reader's answer
+
+// The number of a node's kind.
+pub fn kind_of(node: Node) -> usize
+    ensures { λ r. ⌜ ((columns pairs : List ℕ) → r ≡ kindOf (nodeOf node columns pairs)) ⌝ }
+{
+    match node {
+        Node::Table(_) => 1,
+        Node::Select(_, _, _, operand) => match operand {
+            Operand::Constant(_) => 2,
+            Operand::Column(_) => 3,
+        },
+        Node::Project(_, _) => 4,
+        Node::Join(_, _, _, _) => 5,
+        Node::Set(operation, _, _) => match operation {
+            SetOperation::Union => 6,
+            SetOperation::Difference => 7,
+            SetOperation::Intersection => 8,
+        },
+    }
+}
+
+// The numbers of the nodes' kinds, then zeros.
+fn kinds_of(net: Network) -> [usize; MAX_NODES]
+    requires { ⌜ Built net ⌝ }
+    ensures { λ r. ⌜ r ≡ padded 32 (map kindOf (nodesOf net)) ⌝ }
+{
+    let mut kinds = [0usize; MAX_NODES];
+    let count = net.count;
+    let mut i = 0;
+    while i < count {
+        let slot = net.slots[i];
+        let node = slot.node;
+        kinds[i] = kind_of(node);
+        i += 1;
+    }
+    kinds
+}
+
+// What the reader answers: the node count, and each node's kind, width and level, 0 past the last; zeros beside a refusal.
+pub struct Answer {
+    pub number: usize,
+    pub place: usize,
+    pub count: usize,
+    pub kinds: [usize; MAX_NODES],
+    pub widths: [usize; MAX_NODES],
+    pub levels: [usize; MAX_NODES],
+}
+
+pub fn read(bytes: &[u8]) -> Answer
+    ensures { λ r. ⌜ answerOf r ≡ readCall (now (bytes .entry)) ⌝ }
+{
+    let reading = read_network(bytes);
+    let verdict = reading.verdict;
+    let net = reading.network;
+    let kinds = kinds_of(net);
+    let widths = net.widths;
+    let levels = net.levels;
+    Answer {
+        number: verdict.number,
+        place: verdict.place,
+        count: net.count,
+        kinds,
+        widths,
+        levels,
+    }
+}
+
+// ---- comparisons
+
+// What each code says of less, equal, greater: equal, unequal, less, at most, greater, at least.
+const COMPARISONS: [u8; 18] = [
+    0, 1, 0, //
+    1, 0, 1, //
+    1, 0, 0, //
+    1, 1, 0, //
+    0, 0, 1, //
+    0, 1, 1, //
+];
+
+// Whether the comparison of a code holds of two fields with that outcome.
+pub fn holds(code: usize, outcome: Order) -> bool
+    requires { ⌜ code < 6 ⌝ }
+    ensures { λ r. ⌜ r ≡ holdsOf code (orderOf outcome) ⌝ }
+{
+    match outcome {
+        Order::Less => COMPARISONS[3 * code] == 1,
+        Order::Equal => COMPARISONS[3 * code + 1] == 1,
+        Order::Greater => COMPARISONS[3 * code + 2] == 1,
     }
 }

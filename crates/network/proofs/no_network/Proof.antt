@@ -21,7 +21,9 @@ returns c =
       sound = record { few = omega arith; widths = refl; levels = refl };
       narrow = λ i. omega (arith, zero-at 32 i);
       low = λ i. omega (arith, zero-at 32 i);
-      unwatched = λ i h. zero-at 32 i
+      unwatched = λ i h. zero-at 32 i;
+      widths-end = λ i h. zero-at 32 i;
+      levels-end = λ i h. zero-at 32 i
     }, refl)
 
 pub no-network-spec : {M : Type 1} → statement M

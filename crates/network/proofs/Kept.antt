@@ -1,0 +1,82 @@
+-- Numbers stored one after the other, with zeros behind them. Assumes nothing.
+use mathlib.Core.Path.{_≡_, refl, sym, ap, _∙_}
+use mathlib.Core.List.{List, [], _∷_, _++_, map, append-assoc}
+use Prim.Native.Nat.{ℕ, zero, suc, _+_, _-_, _≤_, _<_}
+use native.Mathlib.Omega.{arith}
+use native.Mathlib.Numerals.{add-one}
+use lib.ListN.{length, getD, set, take, drop, replicate, length-append, take-append-drop, length-drop, length-replicate}
+use lib.Seq.{set-at, take-suc, length-take-le, ext-getD, getD-drop}
+use Rattle.model.specs.Areas.{padded}
+use Rattle.model.specs.Network as model
+use Rattle.model.specs.Network.{kindOf}
+use Rattle.model.specs.Record.{Bytes}
+use Rattle.model.specs.Calls.{ReadAnswer, readCall}
+use Rattle.network.specs.Reading.{Ends, slotNode, noSlot, nodesOf, verdictOf, readingOf, answerOf, Built, ReadsNetwork}
+use Rattle.network.specs.declared.Network.{Network}
+use Rattle.network.specs.declared.Reading.{Reading}
+use Rattle.network.specs.declared.Slot.{Slot}
+use Rattle.network.proofs.Building.{zero-at}
+
+-- one number more, at the place of the first zero
+pub padded-more : (n : ℕ) (l : List ℕ) (x i : ℕ) → length l ≡ i → i < n → set (padded n l) i x ≡ padded n (l ++ (x ∷ []))
+padded-more n l x i e h =
+    let f : n - length l ≡ suc (n - (length l + 1)) = omega arith in
+    let g : length (l ++ (x ∷ [])) ≡ length l + 1 = length-append l (x ∷ []) in
+    rw (f, g) (set-at l 0 (replicate (n - (length l + 1)) 0) x i e ∙ sym (append-assoc l (x ∷ []) (replicate (n - (length l + 1)) 0)))
+
+-- a list that ends in zeros is its first numbers, padded
+pub ends-padded : (n count : ℕ) (l : List ℕ) → length l ≡ n → count ≤ n → Ends count l → l ≡ padded n (take count l)
+ends-padded n count l e h z =
+    let rest : drop count l ≡ replicate (n - count) 0 =
+    ext-getD 0 (drop count l) (replicate (n - count) 0) (length-drop count l ∙ rw length-replicate (omega arith)) (λ i b. getD-drop count l i 0 ∙ z (count + i) (omega arith) ∙ sym (zero-at (n - count) i)) in
+    let size : length (take count l) ≡ count = length-take-le count l (omega arith) in
+    sym (take-append-drop count l) ∙ ap (λ (r : List ℕ). take count l ++ r) (rest ∙ ap (λ (k : ℕ). replicate (n - k) 0) (sym size))
+
+-- the kinds of the first slots
+abbrev pub kindsTo : List Slot → ℕ → List ℕ
+kindsTo slots i = map kindOf (map slotNode (take i slots))
+
+map-snoc : (l : List Slot) (s : Slot) → map kindOf (map slotNode (l ++ (s ∷ []))) ≡ map kindOf (map slotNode l) ++ (kindOf (slotNode s) ∷ [])
+map-snoc [] s = refl
+map-snoc (x ∷ l) s = ap (λ (m : List ℕ). kindOf (slotNode x) ∷ m) (map-snoc l s)
+
+length-kinds : (l : List Slot) → length (map kindOf (map slotNode l)) ≡ length l
+length-kinds [] = refl
+length-kinds (x ∷ l) = ap suc (length-kinds l)
+
+pub kinds-more : (slots : List Slot) (i x : ℕ) (kinds : List ℕ) → i < length slots → i < 32 → kinds ≡ padded 32 (kindsTo slots i) → x ≡ kindOf (slotNode (getD slots i noSlot)) → set kinds i x ≡ padded 32 (kindsTo slots (i + 1))
+kinds-more slots i x kinds h g e f =
+    let one : take (i + 1) slots ≡ take i slots ++ (getD slots i noSlot ∷ []) = rw add-one (take-suc slots i noSlot h) in
+    let more : kindsTo slots (i + 1) ≡ kindsTo slots i ++ (x ∷ []) =
+    ap (λ (l : List Slot). map kindOf (map slotNode l)) one ∙ map-snoc (take i slots) (getD slots i noSlot) ∙ ap (λ (k : ℕ). kindsTo slots i ++ (k ∷ [])) (sym f) in
+    ap (λ (l : List ℕ). set l i x) e ∙ padded-more 32 (kindsTo slots i) x i (length-kinds (take i slots) ∙ length-take-le i slots (omega arith)) g ∙ ap (padded 32) (sym more)
+
+-- ---- the reader's answer
+
+length-slots : (l : List Slot) → length (map slotNode l) ≡ length l
+length-slots [] = refl
+length-slots (x ∷ l) = ap suc (length-slots l)
+
+-- what the model's reading answers
+answer : model.Reading → ReadAnswer
+answer r =
+    record {
+      verdict = r .verdict;
+      count = length (r .network .nodes);
+      kinds = padded 32 (map kindOf (r .network .nodes));
+      widths = padded 32 (model.widths (r .network .nodes));
+      levels = padded 32 (model.levels (r .network .nodes))
+    }
+
+pub answered : (bs : Bytes) (r : Reading) (kinds : List ℕ) → ReadsNetwork bs r → kinds ≡ padded 32 (map kindOf (nodesOf (r .network))) →
+    answerOf (record { number = r .verdict .number; place = r .verdict .place; count = r .network .count; kinds = kinds; widths = r .network .widths; levels = r .network .levels }) ≡ readCall bs
+unfolding readCall answer
+answered bs r kinds h k =
+    let b : Built (r .network) = h .built in
+    let net : Network = r .network in
+    let count : net .count ≡ length (nodesOf net) = sym (length-slots (take (net .count) (net .slots)) ∙ length-take-le (net .count) (net .slots) (omega (arith, h .built .sound .few, h .built .slots-length))) in
+    let ws : net .widths ≡ padded 32 (model.widths (nodesOf net)) = ends-padded 32 (net .count) (net .widths) (b .widths-length) (b .sound .few) (b .widths-end) ∙ ap (padded 32) (b .sound .widths) in
+    let ls : net .levels ≡ padded 32 (model.levels (nodesOf net)) = ends-padded 32 (net .count) (net .levels) (b .levels-length) (b .sound .few) (b .levels-end) ∙ ap (padded 32) (b .sound .levels) in
+    let same : answerOf (record { number = r .verdict .number; place = r .verdict .place; count = r .network .count; kinds = kinds; widths = r .network .widths; levels = r .network .levels }) ≡ answer (readingOf r) =
+    λ i. record { verdict = verdictOf (r .verdict); count = count i; kinds = k i; widths = ws i; levels = ls i } in
+    same ∙ ap answer (h .is)
