@@ -228,22 +228,22 @@ isCoherent a = coherent small nodesN a
 -- what good form and coherence say of each of these areas
 areas-right :
     map isForm (
-      areasN
-      ∷ withRows 1 13 -- another catch in table 0
-      ∷ withRows 13 1 -- a field past the width of node 2's row
-      ∷ withRows 4 1 -- a row past the count
-      ∷ withRows 190 1 -- a node past the last
-      ∷ withGained 0 1 -- gained past its count
-      ∷ withLost 31 7 -- lost of a node past the last
-      ∷ withHead 1 4 -- a count above the capacity
-      ∷ withHead 6 1 -- a count past the last node
-      ∷ withHead 34 3 -- a stamp above the batch number
-      ∷ withHead 38 1 -- a stamp past the last node
-      ∷ withHead 129 6 -- more worked on than there are nodes
-      ∷ withHead 131 5 -- a worked entry that is no node
-      ∷ withHead 132 1 -- a worked entry past the count
-      ∷ withHead 162 1 -- a word past the named ones
-      ∷ [])
+    areasN
+    ∷ withRows 1 13  -- another catch in table 0
+    ∷ withRows 13 1  -- a field past the width of node 2's row
+    ∷ withRows 4 1  -- a row past the count
+    ∷ withRows 190 1  -- a node past the last
+    ∷ withGained 0 1  -- gained past its count
+    ∷ withLost 31 7  -- lost of a node past the last
+    ∷ withHead 1 4  -- a count above the capacity
+    ∷ withHead 6 1  -- a count past the last node
+    ∷ withHead 34 3  -- a stamp above the batch number
+    ∷ withHead 38 1  -- a stamp past the last node
+    ∷ withHead 129 6  -- more worked on than there are nodes
+    ∷ withHead 131 5  -- a worked entry that is no node
+    ∷ withHead 132 1  -- a worked entry past the count
+    ∷ withHead 162 1  -- a word past the named ones
+    ∷ [])
     ≡ true ∷ true ∷ false ∷ false ∷ false ∷ false ∷ false ∷ false ∷ false ∷ false ∷ false ∷ false ∷ false ∷ false ∷ true ∷ []
 unfolding isForm areasN withRows withGained withLost withHead
 areas-right = refl

@@ -272,12 +272,12 @@ unfolding isBroken kindNumbered hasShape itemAt itemFits
 recordFault ws signs bs at =
     let kind : Kind = kindNumbered (kindAt bs at) in
     firstBroken (
-      rule 3 (isBroken bs at)
-      ∷ rule 4 (isUnknown kind)
-      ∷ rule 5 (not (isWatch kind) && leb maxNodes (length ws))
-      ∷ rule 6 (not (hasShape kind bs at))
-      ∷ rule 7 (not (itemFits ws signs (itemAt kind bs at)))
-      ∷ [])
+    rule 3 (isBroken bs at)
+    ∷ rule 4 (isUnknown kind)
+    ∷ rule 5 (not (isWatch kind) && leb maxNodes (length ws))
+    ∷ rule 6 (not (hasShape kind bs at))
+    ∷ rule 7 (not (itemFits ws signs (itemAt kind bs at)))
+    ∷ [])
 
 -- what reading a network gives: the verdict, and the network where it is accepted
 pub record Reading : Type 0 where

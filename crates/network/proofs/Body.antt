@@ -174,7 +174,7 @@ project-shaped bs at e =
     record {
       size = eqb-true (lengthAt bs at) (8 + 2 * fieldAt bs at 1) (and-second (l && w) s e);
       few = leb-true (fieldAt bs at 1) 4 (and-second (leb 1 (fieldAt bs at 1)) (leb (fieldAt bs at 1) 4) range);
-      some = leb-true 1 (fieldAt bs at 1) (and-first (leb 1 (fieldAt bs at 1)) (leb (fieldAt bs at 1) 4) range)
+      some = leb-true 1 (fieldAt bs at 1) (and-first (leb 1 (fieldAt bs at 1)) (leb (fieldAt bs at 1) 4) range);
     }
 
 module _ (xs : List ℕ) (count : ℕ) (long : count ≤ length xs) (signs : List ℕ) (bs : Bytes) (at : ℕ) where
@@ -252,7 +252,7 @@ join-shaped bs at e =
       pairs = leb-true p 2 (and-second a b (and-first (a && b) d (and-first (a && b && d) w first)));
       few = leb-true c 4 (and-second (leb 1 c) (leb c 4) range);
       some = leb-true 1 c (and-first (leb 1 c) (leb c 4) range);
-      size = eqb-true (lengthAt bs at) (12 + 4 * p + 2 * c) (and-second (a && b && d && w) s e)
+      size = eqb-true (lengthAt bs at) (12 + 4 * p + 2 * c) (and-second (a && b && d && w) s e);
     }
 
 module _ (xs : List ℕ) (count : ℕ) (long : count ≤ length xs) (signs : List ℕ) (bs : Bytes) (at : ℕ) where

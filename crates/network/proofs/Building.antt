@@ -84,7 +84,7 @@ module _ (net : Network) (slot : Slot) (width level : ℕ) (next : NextSlot net 
         levels =
             take-more (net .levels) (net .count) level (omega (arith, next .room, next .built .levels-length))
             ∙ ap₂ {A = List ℕ} {B = ℕ} {C = List ℕ} (λ l x. l ++ (x ∷ [])) (next .built .sound .levels) (next .level-is)
-            ∙ sym (ap model.levels nodes-grown ∙ levels-more (nodesOf net) (slotNode slot))
+            ∙ sym (ap model.levels nodes-grown ∙ levels-more (nodesOf net) (slotNode slot));
       }
 
   pub extends-node : Extends net (nodeItem (slotNode slot)) grown
@@ -100,9 +100,9 @@ module _ (net : Network) (slot : Slot) (width level : ℕ) (next : NextSlot net 
           low = set-below (λ i. i) (net .levels) (net .count) level (next .built .low) (next .low);
           unwatched = λ i h. next .built .unwatched i (omega arith);
           widths-end = set-ends (net .widths) (net .count) width (next .built .widths-end);
-          levels-end = set-ends (net .levels) (net .count) level (next .built .levels-end)
+          levels-end = set-ends (net .levels) (net .count) level (next .built .levels-end);
         };
-        is = λ i. record { nodes = nodes-grown i; signs = signs-grown i }
+        is = λ i. record { nodes = nodes-grown i; signs = signs-grown i };
       }
 
 -- ---- one watch more
@@ -121,9 +121,9 @@ module _ (net : Network) (node sign : ℕ) (b : Built net) (within : node < net 
           low = b .low;
           unwatched = λ i h. getD-set-other (net .signs) node i sign 0 (omega arith) ∙ b .unwatched i h;
           widths-end = b .widths-end;
-          levels-end = b .levels-end
+          levels-end = b .levels-end;
         };
-        is = λ i. record { nodes = nodesOf net; signs = take-set-lt (net .count) (net .signs) node sign within i }
+        is = λ i. record { nodes = nodesOf net; signs = take-set-lt (net .count) (net .signs) node sign within i };
       }
 
 -- ---- widths and levels from the arrays
@@ -182,7 +182,7 @@ next-slot net n bs at slot width level b room f s w l =
       width-is = w ∙ width-agrees n (net .widths) (net .count) bs at f ∙ ap₂ {A = model.Node} {B = List ℕ} {C = ℕ} (λ x ws. widthOf x ws) (sym s) (b .sound .widths);
       level-is = l ∙ level-agrees n (net .levels) (net .count) bs at f ∙ ap₂ {A = model.Node} {B = List ℕ} {C = ℕ} (λ x ls. levelOf x ls) (sym s) (b .sound .levels);
       narrow = rw w (width-narrow n (net .widths) (net .count) bs at f (b .narrow));
-      low = rw l (level-low n (net .levels) (net .count) bs at f (b .low))
+      low = rw l (level-low n (net .levels) (net .count) bs at f (b .low));
     }
 
 -- the item of a slot is that of its record

@@ -87,7 +87,7 @@ module _ (ws signs : List ℕ) (bs : Bytes) (at : ℕ) where
           number = b .number ∙ sym (rw (whole, ← is, known k h g, no-watch k h g, lt-leb 32 (length ws) f));
           item = λ z. b .item z ∙ rw is;
           fits = b .fits;
-          room = room-of ws r f
+          room = room-of ws r f;
         }
 
     pub record-watch : (r : Record) → k ≡ 9 → ReadsBody ws signs watchKind bs at r → ReadsRecord ws signs bs at r
@@ -97,7 +97,7 @@ module _ (ws signs : List ℕ) (bs : Bytes) (at : ℕ) where
           number = b .number ∙ sym (rw (whole, ← is, e));
           item = λ z. b .item z ∙ sym (rw (← is, e));
           fits = b .fits;
-          room = room-watch ws bs at r (b .item)
+          room = room-watch ws bs at r (b .item);
         }
 
 -- a body read as the kind of a number

@@ -65,7 +65,7 @@ answer r =
       count = length (r .network .nodes);
       kinds = padded 32 (map kindOf (r .network .nodes));
       widths = padded 32 (model.widths (r .network .nodes));
-      levels = padded 32 (model.levels (r .network .nodes))
+      levels = padded 32 (model.levels (r .network .nodes));
     }
 
 pub answered : (bs : Bytes) (r : Reading) (kinds : List ℕ) → ReadsNetwork bs r → kinds ≡ padded 32 (map kindOf (nodesOf (r .network))) →

@@ -60,7 +60,7 @@ reached-start [] net h b e = absurd (h refl)
 reached-start (x ∷ bs) net h b e =
     record {
       built = b;
-      same = ap₂ {A = model.Network} {B = List ℕ} {C = model.Reading} (λ n l. readRecords (x ∷ bs) n l) (sym e) (remaining-all (x ∷ bs))
+      same = ap₂ {A = model.Network} {B = List ℕ} {C = model.Reading} (λ n l. readRecords (x ∷ bs) n l) (sym e) (remaining-all (x ∷ bs));
     }
 
 module _ (bs : Bytes) (net : Network) (at : ℕ) (so : Reached bs net at) (inside : at < length bs) (r : Record)
@@ -86,7 +86,7 @@ module _ (bs : Bytes) (net : Network) (at : ℕ) (so : Reached bs net at) (insid
         same = so .same
             ∙ ap (readRecords bs (networkOf net)) (remaining-whole bs at inside w)
             ∙ advance bs (networkOf net) at (remaining bs (at + lengthAt bs at)) z
-            ∙ ap₂ {A = model.Network} {B = ℕ} {C = model.Reading} (λ n k. readRecords bs n (remaining bs k)) added (sym p)
+            ∙ ap₂ {A = model.Network} {B = ℕ} {C = model.Reading} (λ n k. readRecords bs n (remaining bs k)) added (sym p);
       }
 
 pub reached-end : (bs : Bytes) (net : Network) (at : ℕ) → Reached bs net at → length bs ≤ at → record { verdict = accepted; network = networkOf net } ≡ readNetwork bs

@@ -11,11 +11,11 @@ ghost use Rattle.model.specs.Calls.{readCall};
 ghost use Rattle.model.specs.Record.{fieldsAt, lengthAt, kindAt, isBroken};
 ghost use Rattle.rows.specs.Rows.{orderOf};
 ghost use Rattle.network.specs.Reading.{ReadsBody, ReadsRecord, ReadsNetwork, selectFits, Narrow, operationOf, nodeAt, slotNode, NodeFits, InputsBelow, widthIn, levelIn, Built, Extends, NextSlot, Follows, broughtBy, numberOf, nodeOf, nodesOf, networkOf, readingOf, answerOf};
-
 use rows::Order;
 
 // The most fields of a row, and the most nodes of a network.
 pub const MAX_WIDTH: usize = 4;
+
 pub const MAX_NODES: usize = 32;
 
 // What a select compares its column with.
@@ -266,13 +266,25 @@ fn read_join(bytes: &[u8], at: usize, count: usize, widths: &[usize]) -> Record
         return Record::Refused(7);
     }
     let columns = records::field_at(bytes, at, 3 + 2 * pairs);
-    if !columns_below(bytes, at, 4 + 2 * pairs, columns, widths[left] + widths[right]) {
+    if !columns_below(
+        bytes,
+        at,
+        4 + 2 * pairs,
+        columns,
+        widths[left] + widths[right],
+    ) {
         return Record::Refused(7);
     }
     Record::Item(Item::Node(Node::Join(left, right, pairs, columns)))
 }
 
-fn read_set(operation: SetOperation, bytes: &[u8], at: usize, count: usize, widths: &[usize]) -> Record
+fn read_set(
+    operation: SetOperation,
+    bytes: &[u8],
+    at: usize,
+    count: usize,
+    widths: &[usize],
+) -> Record
     requires { ⌜ (isBroken (now bytes) at ≡ false) × (count ≤ length (now widths)) ⌝ }
     ensures { λ r. ⌜ ((signs : List ℕ) → ReadsBody (take count (now (widths .entry))) signs (setKind (operationOf operation)) (now (bytes .entry)) at r) ⌝ }
 {
@@ -318,7 +330,13 @@ fn read_watch(bytes: &[u8], at: usize, count: usize, signs: &[usize]) -> Record
 }
 
 // The record at an offset, after so many nodes: rules 3 to 7 in order.
-fn read_record<'a>(bytes: &'a [u8], at: usize, count: usize, widths: &'a [usize], signs: &'a [usize]) -> Record
+fn read_record<'a>(
+    bytes: &'a [u8],
+    at: usize,
+    count: usize,
+    widths: &'a [usize],
+    signs: &'a [usize],
+) -> Record
     requires { ⌜ (at ≤ length (now bytes)) × (count ≤ length (now widths)) × (count ≤ length (now signs)) × Narrow (now widths) ⌝ }
     ensures { λ r. ⌜ ReadsRecord (take count (now (widths .entry))) (take count (now (signs .entry))) (now (bytes .entry)) at r ⌝ }
 {
@@ -390,16 +408,36 @@ fn slot_at(bytes: &[u8], at: usize, node: Node, count: usize) -> Slot
     match node {
         Node::Project(_, n) => {
             let columns = fields_of(bytes, at, 2, n);
-            Slot { node, columns, pairs: none }
+            Slot {
+                node,
+                columns,
+                pairs: none,
+            }
         }
         Node::Join(_, _, p, n) => {
             let pairs = fields_of(bytes, at, 3, 2 * p);
             let columns = fields_of(bytes, at, 4 + 2 * p, n);
-            Slot { node, columns, pairs }
+            Slot {
+                node,
+                columns,
+                pairs,
+            }
         }
-        Node::Table(_) => Slot { node, columns: none, pairs: none },
-        Node::Select(_, _, _, _) => Slot { node, columns: none, pairs: none },
-        Node::Set(_, _, _) => Slot { node, columns: none, pairs: none },
+        Node::Table(_) => Slot {
+            node,
+            columns: none,
+            pairs: none,
+        },
+        Node::Select(_, _, _, _) => Slot {
+            node,
+            columns: none,
+            pairs: none,
+        },
+        Node::Set(_, _, _) => Slot {
+            node,
+            columns: none,
+            pairs: none,
+        },
     }
 }
 
@@ -441,7 +479,11 @@ fn level_of(node: Node, levels: &[usize]) -> usize
 fn no_network() -> Network
     ensures { λ r. ⌜ Built r × (networkOf r ≡ noNetwork) ⌝ }
 {
-    let slot = Slot { node: Node::Table(0), columns: [0usize; MAX_WIDTH], pairs: [0usize; 4] };
+    let slot = Slot {
+        node: Node::Table(0),
+        columns: [0usize; MAX_WIDTH],
+        pairs: [0usize; 4],
+    };
     Network {
         count: 0,
         slots: [slot; MAX_NODES],
@@ -538,7 +580,10 @@ pub fn read_network(bytes: &[u8]) -> Reading
         at = here + records::u16_at(bytes, here);
     }
     Reading {
-        verdict: Verdict { number: 0, place: 0 },
+        verdict: Verdict {
+            number: 0,
+            place: 0,
+        },
         network: net,
     }
 }
@@ -615,12 +660,24 @@ pub fn read(bytes: &[u8]) -> Answer
 
 // What each code says of less, equal, greater: equal, unequal, less, at most, greater, at least.
 const COMPARISONS: [u8; 18] = [
-    0, 1, 0, //
-    1, 0, 1, //
-    1, 0, 0, //
-    1, 1, 0, //
-    0, 0, 1, //
-    0, 1, 1, //
+    0,
+    1,
+    0, //
+    1,
+    0,
+    1, //
+    1,
+    0,
+    0, //
+    1,
+    1,
+    0, //
+    0,
+    0,
+    1, //
+    0,
+    1,
+    1, //
 ];
 
 // Whether the comparison of a code holds of two fields with that outcome.

@@ -30,7 +30,6 @@ paste-whole d s n e = rw (drop-of-length-le d {i = 0 + n} (omega arith)) (append
 
 -- ---- one row
 
-
 module _ (w n : ℕ) (s : List ℕ) (j count : ℕ) (narrow : w ≤ n) (fits : count * n ≤ length s) (within : j < count) where
   abbrev following : List Row
   following = rowsFrom n s (j + 1) (count - (j + 1))

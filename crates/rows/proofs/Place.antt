@@ -212,7 +212,6 @@ zeros-at (r ∷ l) z m (suc k) h f = zeros-at l z m k (le-of-suc-le-suc h) (omeg
 
 module _ (L : Layout) (w : ℕ) (area : List ℕ) (i : ℕ) (rel : Relation) (narrow : w ≤ L .stride) (wide : Wide w rel) (few : length rel ≤ L .capacity)
     (long : placeWords L * i + placeWords L ≤ length area) (is : take (placeWords L) (drop (placeWords L * i) area) ≡ placeOf L rel) where
-
   abbrev all : List Row
   all = map (padded (L .stride)) rel ++ replicate (L .capacity - length rel) (replicate (L .stride) 0)
 

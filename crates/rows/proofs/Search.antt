@@ -79,7 +79,7 @@ module _ (w : ℕ) (r : Row) (s : List ℕ) (n : ℕ) (asc : Ascending (rowsFrom
         above = λ j a g. ⊎-elim
             (λ (e : mid ≡ j). subst (λ (i : ℕ). order r (rowAt w s i) ≡ Ordering·lt) e (sym o))
             (λ (f : mid < j). order-trans r (rowAt w s mid) (rowAt w s j) (sym o) (earlier mid j f g))
-            (eq-or-lt-of-le a)
+            (eq-or-lt-of-le a);
       }
 
   -- a row below r: so are those before it
@@ -91,7 +91,7 @@ module _ (w : ℕ) (r : Row) (s : List ℕ) (n : ℕ) (asc : Ascending (rowsFrom
             (λ (e : j ≡ mid). subst (λ (i : ℕ). order r (rowAt w s i) ≡ Ordering·gt) (sym e) (sym o))
             (λ (f : j < mid). order-flip (rowAt w s j) r ∙ ap flip (order-trans (rowAt w s j) (rowAt w s mid) r (earlier j mid f h) under))
             (eq-or-lt-of-le (le-of-suc-le-suc (rw add-one at a)));
-        above = k .above
+        above = k .above;
       }
 
   below-row : (p : ℕ) → p ≤ n → ((j : ℕ) → j < p → order r (rowAt w s j) ≡ Ordering·gt) → (j : ℕ) → j < p → order r (getD (rowsFrom w s 0 n) j []) ≡ Ordering·gt

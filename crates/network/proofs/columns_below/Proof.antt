@@ -56,4 +56,3 @@ columns-below-spec =
     loop-less
     loop-again
     returns-2)
-

@@ -59,4 +59,3 @@ fields-of-spec =
     loop-less
     loop-again
     returns)
-

@@ -70,4 +70,3 @@ holds-spec =
     returns
     returns-2
     returns-3)
-

@@ -85,4 +85,3 @@ join-shape-spec =
     mul-result-2
     add-result-2
     returns-6)
-

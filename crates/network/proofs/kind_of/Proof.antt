@@ -82,4 +82,3 @@ kind-of-spec =
     returns-6
     returns-7
     returns-8)
-

@@ -44,9 +44,12 @@ loop-less c = omega arith
 
 loop-again : tie.Need-loop-again Inv-loop μ-loop
 loop-again c =
-    let s = c .before .before .before .before .args .t1 .slots in
-    (omega arith, simp length-set (c .before .before .before .loop .inv .1), kinds-more s (c .before .before .before .loop .i) (c .kind-of .result) (c .before .before .before .loop .kinds) (omega (arith, c .before .before .before .before .pre .sound .few, c .before .before .before .before .pre .slots-length)) (omega (arith, c .before .before .before .before .pre .sound .few)) (c .before .before .before .loop .inv .2)
-    (c .kind-of .ensures (getD s (c .before .before .before .loop .i) noSlot .columns) (getD s (c .before .before .before .loop .i) noSlot .pairs)))
+    let s = c .before .before .before .before .args .t1 .slots in (
+      omega arith,
+      simp length-set (c .before .before .before .loop .inv .1),
+      kinds-more s (c .before .before .before .loop .i) (c .kind-of .result) (c .before .before .before .loop .kinds) (omega (arith, c .before .before .before .before .pre .sound .few, c .before .before .before .before .pre .slots-length)) (omega (arith, c .before .before .before .before .pre .sound .few)) (c .before .before .before .loop .inv .2)
+          (c .kind-of .ensures (getD s (c .before .before .before .loop .i) noSlot .columns) (getD s (c .before .before .before .loop .i) noSlot .pairs)),
+    )
 
 returns : tie.Need-returns Inv-loop μ-loop
 returns c = let e : c .before .loop .i ≡ c .before .before .args .t1 .count = omega arith in c .before .loop .inv .2 ∙ rw e
@@ -67,4 +70,3 @@ kinds-of-spec =
     loop-less
     loop-again
     returns)
-

@@ -127,4 +127,3 @@ level-of-spec =
     returns-3
     returns-4
     returns-5)
-

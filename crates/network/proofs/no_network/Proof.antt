@@ -12,20 +12,21 @@ use Rattle.network.proofs.no_network.Lts as lts
 
 returns : tie.Need-returns
 unfolding model.widths model.levels build
-returns c =
-    (record {
-      slots-length = refl;
-      widths-length = refl;
-      levels-length = refl;
-      signs-length = refl;
-      sound = record { few = omega arith; widths = refl; levels = refl };
-      narrow = λ i. omega (arith, zero-at 32 i);
-      low = λ i. omega (arith, zero-at 32 i);
-      unwatched = λ i h. zero-at 32 i;
-      widths-end = λ i h. zero-at 32 i;
-      levels-end = λ i h. zero-at 32 i
-    }, refl)
+returns c = (
+  record {
+    slots-length = refl;
+    widths-length = refl;
+    levels-length = refl;
+    signs-length = refl;
+    sound = record { few = omega arith; widths = refl; levels = refl };
+    narrow = λ i. omega (arith, zero-at 32 i);
+    low = λ i. omega (arith, zero-at 32 i);
+    unwatched = λ i h. zero-at 32 i;
+    widths-end = λ i h. zero-at 32 i;
+    levels-end = λ i h. zero-at 32 i;
+  },
+  refl,
+)
 
 pub no-network-spec : {M : Type 1} → statement M
 no-network-spec = tie.close (tie.spec returns)
-

@@ -76,4 +76,3 @@ pairs-below-spec =
     loop-less
     loop-again
     returns-3)
-

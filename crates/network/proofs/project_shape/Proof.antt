@@ -49,4 +49,3 @@ project-shape-spec =
     mul-result
     add-result
     returns-4)
-

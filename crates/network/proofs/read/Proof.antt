@@ -19,4 +19,3 @@ returns c = answered (c .before .before .before .before .before .before .before 
 
 pub read-spec : {M : Type 1} → statement M
 read-spec = tie.close (tie.spec read-network-requires kinds-of-requires returns)
-

@@ -128,4 +128,3 @@ read-join-spec =
     columns-below-requires
     returns-5
     returns-6)
-

@@ -61,7 +61,7 @@ returns-2 c =
     record {
       is = c .refused-reading2 .ensures .0
           ∙ reached-refused (a .bytes .now) (c .before .before .before .before .before .before .before .before .before .before .before .loop .net) (c .before .before .before .before .before .before .before .before .before .before .before .loop .at) (c .before .before .before .before .before .before .before .before .before .before .before .loop .inv) (c .before .before .before .before .before .before .before .before .before .before .loop-test .taken) (c .before .before .before .before .read-record .result) (c .before .before .before .before .read-record .ensures) (c .before .number-of .result) (sym (c .before .number-of .ensures)) (rw (c .before .number-of .ensures, told .1) fits);
-      built = c .refused-reading2 .ensures .1
+      built = c .refused-reading2 .ensures .1;
     }
 
 with-item-requires : tie.Need-with-item-requires Inv-loop μ-loop
@@ -120,4 +120,3 @@ read-network-spec =
     loop-less
     loop-again
     returns-3)
-

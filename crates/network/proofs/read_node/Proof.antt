@@ -77,4 +77,3 @@ read-node-spec =
     returns-4
     returns-5
     returns-6)
-

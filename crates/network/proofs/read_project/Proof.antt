@@ -58,4 +58,3 @@ read-project-spec =
     columns-below-requires
     returns-3
     returns-4)
-

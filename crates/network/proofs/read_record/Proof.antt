@@ -76,4 +76,3 @@ read-record-spec =
     returns-4
     returns-5
     returns-6)
-

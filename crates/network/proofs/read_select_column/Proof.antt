@@ -74,4 +74,3 @@ read-select-column-spec =
     field-at-requires-3
     field-at-requires-4
     returns-4)
-

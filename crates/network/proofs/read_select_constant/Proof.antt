@@ -59,4 +59,3 @@ read-select-constant-spec =
     add-u32-at
     u32-at-requires
     returns-3)
-

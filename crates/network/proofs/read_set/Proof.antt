@@ -65,4 +65,3 @@ read-set-spec =
     shared-slice-read-if4-2
     returns-4
     returns-5)
-

@@ -34,4 +34,3 @@ returns-4 c = let a = c .before .before .before .before .before .before .args in
 pub read-table-spec : {M : Type 1} → statement M
 read-table-spec =
     tie.close (tie.spec u16-at-requires returns field-at-requires returns-2 returns-3 returns-4)
-

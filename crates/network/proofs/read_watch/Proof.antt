@@ -61,4 +61,3 @@ read-watch-spec =
     shared-slice-read-if5
     returns-5
     returns-6)
-

@@ -16,4 +16,3 @@ returns c = ((λ i. record { verdict = record { number = c .before .args .number
 
 pub refused-reading-spec : {M : Type 1} → statement M
 refused-reading-spec = tie.close (tie.spec no-network-requires returns)
-

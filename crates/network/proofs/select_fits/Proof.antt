@@ -48,4 +48,3 @@ select-fits-spec =
     returns-2
     field-at-requires-3
     returns-3)
-

@@ -21,4 +21,3 @@ returns-3 c = let e : c .before .args .kind ≡ 8 = omega arith in rw e
 
 pub set-operation-spec : {M : Type 1} → statement M
 set-operation-spec = tie.close (tie.spec returns returns-2 returns-3)
-

@@ -86,4 +86,3 @@ slot-at-spec =
     returns-3
     returns-4
     returns-5)
-

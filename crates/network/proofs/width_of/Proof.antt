@@ -69,4 +69,3 @@ width-of-spec =
     returns-3
     returns-4
     returns-5)
-

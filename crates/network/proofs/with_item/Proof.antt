@@ -37,4 +37,3 @@ with-item-spec =
     with-watch-requires
     returns
     returns-2)
-

@@ -32,4 +32,3 @@ pub with-node-spec : {M : Type 1} → statement M
 with-node-spec =
     tie.close
     (tie.spec slot-at-requires width-of-requires level-of-requires with-slot-requires returns)
-

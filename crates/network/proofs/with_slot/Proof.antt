@@ -42,4 +42,3 @@ with-slot-spec =
     element-write-next-2
     add-next
     returns)
-

@@ -17,4 +17,3 @@ returns c = let a = c .args in extends-watch (a .net) (a .node) (a .sign) (c .pr
 
 pub with-watch-spec : {M : Type 1} → statement M
 with-watch-spec = tie.close (tie.spec mul-next element-write-next returns)
-

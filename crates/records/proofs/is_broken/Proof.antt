@@ -35,4 +35,3 @@ returns-3 c =
 
 pub is-broken-spec : {M : Type 1} → statement M
 is-broken-spec = tie.close (tie.spec sub-rest returns u16-at-requires returns-2 returns-3)
-

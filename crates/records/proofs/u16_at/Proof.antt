@@ -43,4 +43,3 @@ u16-at-spec =
     mul-result
     add-result
     returns)
-

@@ -60,4 +60,3 @@ all-zero-spec =
     loop-less
     loop-again
     returns-2)
-

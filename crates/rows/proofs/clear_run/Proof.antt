@@ -61,4 +61,3 @@ clear-run-spec =
     loop-again
     same-length
     returns)
-

@@ -76,4 +76,3 @@ close-gap-spec =
     loop-again
     same-length
     returns)
-

@@ -78,4 +78,3 @@ compare-fields-spec =
     loop-less
     loop-again
     returns-3)
-

@@ -23,4 +23,3 @@ returns c = c .compare-fields .ensures
 pub compare-rows-spec : {M : Type 1} → statement M
 compare-rows-spec =
     tie.close (tie.spec mul-compare-fields mul-compare-fields-2 compare-fields-requires returns)
-

@@ -75,4 +75,3 @@ copy-run-spec =
     loop-again
     same-length
     returns)
-

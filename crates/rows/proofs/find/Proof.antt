@@ -43,9 +43,12 @@ loop-again c =
     let at = c .before .before .before .before in
     let start = at .before .before .before in
     let a = start .args in
-    let mid : ℕ = at .loop .low + (at .loop .high - at .loop .low) / 2 in
-    (omega arith, omega arith, narrowed-less stride (rowAt stride (a .src .now) (a .at)) (a .words .now) (a .n) (ascending-holds (firstRows (a .words .now) (a .n)) (start .pre .2))
-    (at .loop .low) (at .loop .high) mid (omega arith) (ap orderOf (sym (c .enum-told .given .1)) ∙ c .before .before .compare-rows .ensures) (at .loop .inv .2))
+    let mid : ℕ = at .loop .low + (at .loop .high - at .loop .low) / 2 in (
+      omega arith,
+      omega arith,
+      narrowed-less stride (rowAt stride (a .src .now) (a .at)) (a .words .now) (a .n) (ascending-holds (firstRows (a .words .now) (a .n)) (start .pre .2))
+          (at .loop .low) (at .loop .high) mid (omega arith) (ap orderOf (sym (c .enum-told .given .1)) ∙ c .before .before .compare-rows .ensures) (at .loop .inv .2),
+    )
 
 enum-told-2 : tie.Need-enum-told-2 Inv-loop μ-loop
 enum-told-2 c = search needs
@@ -73,9 +76,12 @@ loop-again-2 c =
     let at = c .before .before .before .before in
     let start = at .before .before .before in
     let a = start .args in
-    let mid : ℕ = at .loop .low + (at .loop .high - at .loop .low) / 2 in
-    (omega arith, omega arith, narrowed-greater stride (rowAt stride (a .src .now) (a .at)) (a .words .now) (a .n) (ascending-holds (firstRows (a .words .now) (a .n)) (start .pre .2))
-    (at .loop .low) (at .loop .high) mid (omega arith) (ap orderOf (sym (c .enum-told3 .given .1)) ∙ c .before .before .compare-rows .ensures) (at .loop .inv .2))
+    let mid : ℕ = at .loop .low + (at .loop .high - at .loop .low) / 2 in (
+      omega arith,
+      omega arith,
+      narrowed-greater stride (rowAt stride (a .src .now) (a .at)) (a .words .now) (a .n) (ascending-holds (firstRows (a .words .now) (a .n)) (start .pre .2))
+          (at .loop .low) (at .loop .high) mid (omega arith) (ap orderOf (sym (c .enum-told3 .given .1)) ∙ c .before .before .compare-rows .ensures) (at .loop .inv .2),
+    )
 
 returns-2 : tie.Need-returns-2 Inv-loop μ-loop
 returns-2 c =
@@ -105,4 +111,3 @@ find-spec =
     loop-less-2
     loop-again-2
     returns-2)
-

@@ -86,4 +86,3 @@ good-row-spec =
     returns-3
     returns-4
     returns-5)
-

@@ -60,4 +60,3 @@ good-rows-spec =
     loop-less
     loop-again
     returns-2)
-

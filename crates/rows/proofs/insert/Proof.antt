@@ -105,4 +105,3 @@ insert-spec =
     returns-2
     same-length-3
     returns-3)
-

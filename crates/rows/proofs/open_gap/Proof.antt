@@ -70,4 +70,3 @@ open-gap-spec =
     loop-again
     same-length
     returns)
-

@@ -33,4 +33,3 @@ returns c =
 pub read-row-spec : {M : Type 1} → statement M
 read-row-spec =
     tie.close (tie.spec mul-copy-run slice-aggregate-copy-run copy-run-requires returns)
-

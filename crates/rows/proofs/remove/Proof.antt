@@ -92,4 +92,3 @@ remove-spec =
     returns
     same-length-2
     returns-2)
-

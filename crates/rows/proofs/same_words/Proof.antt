@@ -68,4 +68,3 @@ same-words-spec =
     loop-less
     loop-again
     returns-2)
-
