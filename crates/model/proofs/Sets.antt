@@ -87,6 +87,10 @@ asc-keep p (x ∷ l) a = go (p x) (asc-keep p l (a .1))
     go true m = (above-keep p x l (a .0), m)
     go false m = m
 
+pub asc-delete : (r : Row) (l : List Row) → Ascending l → Ascending (deleteRow r l)
+unfolding deleteRow
+asc-delete r l a = asc-keep (λ s. not (sameRow s r)) l a
+
 pub asc-setOf : (l : List Row) → Ascending (setOf l)
 asc-setOf [] = tt
 asc-setOf (x ∷ l) = asc-insert x (setOf l) (asc-setOf l)

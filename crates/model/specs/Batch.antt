@@ -20,6 +20,7 @@ abbrev pub rowIn : Bytes → ℕ → ℕ → Row
 rowIn bs at zero = []
 rowIn bs at (suc w) = u32 bs at ∷ rowIn bs (at + 4) w
 
+-- a put where the test says so, else a removal
 abbrev pub eventOf : Bool → ℕ → Row → Event
 eventOf true t r = put t r
 eventOf false t r = remove t r

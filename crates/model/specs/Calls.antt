@@ -99,6 +99,7 @@ pub data Free (a : Areas) (r : Result) : Type 0 where
   freelyAccepted : r .verdict ≡ accepted → KeepsRest layout a (r .areas) → Free a r
   freelyRefused : r .verdict .number ≡ 14 → r .areas ≡ a → Free a r
 
+-- a result keeps a promise: it is the settled one, or it stays within what is free
 abbrev pub Keeps : Promise → Areas → Result → Type 0
 Keeps (settled expected) a r = r ≡ expected
 Keeps free a r = Free a r
@@ -109,6 +110,7 @@ Applied net batch a r = Keeps (applyPromise net batch a) a r
 
 -- ---- the coherence check: 1 to 8
 
+-- a verdict, and whether the areas are coherent (no beside a refusal)
 pub record CheckAnswer : Type 0 where
   pub verdict : Verdict
   pub yes? : Bool
@@ -129,10 +131,11 @@ unfoldable pub changeRecord : ℕ → ℕ → Row → Bytes
 unfolding flatMap
 changeRecord kind node r = bytes16 (6 + 4 * length r) ++ bytes16 kind ++ bytes16 node ++ flatMap bytes32 r
 
--- signs 1 and 3 allow gained rows, 2 and 3 lost ones
+-- signs 1 and 3 allow gained rows
 abbrev pub allowsGained : ℕ → Bool
 allowsGained sign = eqb sign 1 || eqb sign 3
 
+-- signs 2 and 3 allow lost rows
 abbrev pub allowsLost : ℕ → Bool
 allowsLost sign = eqb sign 2 || eqb sign 3
 
@@ -169,6 +172,7 @@ pub record ReportAnswer : Type 0 where
 abbrev pub writtenTo : Bytes → Bytes → Bytes
 writtenTo out text = text ++ drop (length text) out
 
+-- "A report is for one watched node"; a refusal writes nothing
 unfoldable pub reportCall : Bytes → ℕ → Areas → Bytes → ReportAnswer
 unfolding reportVerdict reportOf readNetwork
 reportCall net node a out =

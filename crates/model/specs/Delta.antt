@@ -11,6 +11,7 @@ pub record Change : Type 0 where
   pub gained : Relation
   pub lost : Relation
 
+-- nothing gained and nothing lost
 abbrev pub noChange : Change
 noChange = record { gained = []; lost = [] }
 

@@ -39,6 +39,7 @@ pub record Network : Type 0 where
   pub nodes : List Node
   pub signs : List ℕ
 
+-- what stands beside a refusal
 abbrev pub noNetwork : Network
 noNetwork = record { nodes = []; signs = [] }
 
@@ -82,15 +83,18 @@ isTable (setOperation o l r) = false
 -- ---- one value for each node, made from its node and the values of the nodes before it
 
 module _ {A : Type 0} where
+  -- the values of some nodes, after those already there
   abbrev pub buildOn : (Node → List A → A) → List A → List Node → List A
   buildOn f done [] = done
   buildOn f done (n ∷ nodes) = buildOn f (done ++ (f n done ∷ [])) nodes
 
+  -- the values of all nodes, by number
   unfoldable pub build : (Node → List A → A) → List Node → List A
   build f nodes = buildOn f [] nodes
 
 -- ---- widths and levels
 
+-- every node's width, by number
 unfoldable pub widths : List Node → List ℕ
 unfolding build
 widths nodes = build widthOf nodes
@@ -104,6 +108,7 @@ highest levels (i ∷ inputs) = max (getD levels i 0) (highest levels inputs)
 abbrev pub levelOf : Node → List ℕ → ℕ
 levelOf n levels = cond (isTable n) 0 (suc (highest levels (inputsOf n)))
 
+-- every node's level, by number
 unfoldable pub levels : List Node → List ℕ
 unfolding build
 levels nodes = build levelOf nodes
@@ -148,6 +153,7 @@ kinds =
 unfoldable pub kindNumbered : ℕ → Kind
 kindNumbered k = getD kinds k unknownKind
 
+-- rule 4: "a kind outside 1 to 9"
 abbrev pub isUnknown : Kind → Bool
 isUnknown unknownKind = true
 isUnknown tableKind = false
@@ -233,6 +239,7 @@ columnsBelow w columns = allOf (λ c. ltb c w) columns
 abbrev pub pairsBelow : ℕ → ℕ → List Pair → Bool
 pairsBelow left right pairs = allOf (λ p. ltb (p .left) left && ltb (p .right) right) pairs
 
+-- an operand that is a column is below a width
 abbrev pub operandBelow : ℕ → Operand → Bool
 operandBelow w (constant v) = true
 operandBelow w (column c) = ltb c w
@@ -284,6 +291,7 @@ pub record Reading : Type 0 where
   pub verdict : Verdict
   pub network : Network
 
+-- "A refusal returns its number and a place"
 abbrev pub refusedReading : ℕ → ℕ → Reading
 refusedReading number place = record { verdict = refused number place; network = noNetwork }
 

@@ -5,6 +5,7 @@ use Prim.Native.Nat.{ℕ, zero, suc, _+_, _-_, _*_, _/_, _%_}
 use lib.Dec.{leb, ltb, eqb}
 use lib.ListN.{getD, length}
 
+-- a network's or a batch's bytes, each below 256
 abbrev pub Bytes : Type 0
 Bytes = List ℕ
 
@@ -18,9 +19,11 @@ u16 bs at = getD bs at 0 + 256 * getD bs (at + 1) 0
 abbrev pub u32 : Bytes → ℕ → ℕ
 u32 bs at = u16 bs at + 65536 * u16 bs (at + 2)
 
+-- a number in 2 bytes
 abbrev pub bytes16 : ℕ → Bytes
 bytes16 x = (x % 256) ∷ ((x / 256) % 256) ∷ []
 
+-- a number in 4 bytes
 abbrev pub bytes32 : ℕ → Bytes
 bytes32 x = bytes16 x ++ bytes16 (x / 65536)
 
@@ -30,6 +33,7 @@ bytes32 x = bytes16 x ++ bytes16 (x / 65536)
 abbrev pub lengthAt : Bytes → ℕ → ℕ
 lengthAt bs at = u16 bs at
 
+-- the kind of the record at an offset
 abbrev pub kindAt : Bytes → ℕ → ℕ
 kindAt bs at = u16 bs (at + 2)
 
@@ -67,12 +71,15 @@ pub record Verdict : Type 0 where
   pub number : ℕ
   pub place : ℕ
 
+-- not refused
 abbrev pub accepted : Verdict
 accepted = record { number = 0; place = 0 }
 
+-- refused by a number, at a place
 abbrev pub refused : ℕ → ℕ → Verdict
 refused number place = record { number = number; place = place }
 
+-- the number is 0
 abbrev pub isAccepted : Verdict → Bool
 isAccepted v = eqb (v .number) 0
 
@@ -81,6 +88,7 @@ pub record Rule : Type 0 where
   pub number : ℕ
   pub broken : Bool
 
+-- a rule by its number
 abbrev pub rule : ℕ → Bool → Rule
 rule number broken = record { number = number; broken = broken }
 

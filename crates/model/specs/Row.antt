@@ -41,6 +41,7 @@ order [] (y ∷ s) = Ordering·lt
 order (x ∷ r) [] = Ordering·gt
 order (x ∷ r) (y ∷ s) = andThen (compare x y) (order r s)
 
+-- the first is below the second
 abbrev pub isLess : Ordering → Bool
 isLess Ordering·lt = true
 isLess Ordering·eq = false

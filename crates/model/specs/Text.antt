@@ -23,6 +23,7 @@ pub data Piece : Type 0 where
   broken : ℕ → Piece  -- a broken length, by its offset from its batch's first byte
   unfinished : Piece  -- whole records without a mark
 
+-- the bytes from one offset up to another
 abbrev pub bytesBetween : Bytes → ℕ → ℕ → Bytes
 bytesBetween file from to = take (to - from) (drop from file)
 
@@ -42,9 +43,11 @@ pieces file = piecesFrom file 0 (offsets file)
 
 -- ---- lines
 
+-- "one space between"
 abbrev pub space : ℕ
 space = 32
 
+-- the end of a line
 abbrev pub newline : ℕ
 newline = 10
 
@@ -103,6 +106,7 @@ unfoldable pub batchLines : Network → State → Bytes
 unfolding line nodeLines flatMap
 batchLines net s = line batchWord (s .number ∷ []) ++ flatMap (nodeLines net (s .changes)) (numbersBelow (length (net .nodes)))
 
+-- what a batch prints
 unfoldable pub stepLines : Network → Step → Bytes
 unfolding batchLines refusedLine
 stepLines net st = cond (isAccepted (st .verdict)) (batchLines net (st .state)) (refusedLine (st .verdict .number) (st .verdict .place))

@@ -12,12 +12,13 @@ use Rattle.model.specs.Record.{Bytes, fieldsAt}
 use Rattle.model.specs.Network as model
 use Rattle.model.specs.Network.{nodeItem, watchItem, isTable, inputsOf, highest, widthOf, levelOf, noNetwork, withItem}
 use Rattle.model.proofs.Build.{build-more}
-use Rattle.network.specs.Reading.{nodeAt, slotNode, nodesOf, networkOf, Sound, Built, Extends, NextSlot, NodeFits, InputsBelow, widthIn, levelIn, Narrow, Ends}
-use Rattle.network.specs.declared.Node.{Node}
-use Rattle.network.specs.declared.Node.the-variants.{Table, Select, Project, Join, Set}
+use Rattle.nodes.specs.Nodes.{nodeAt, NodeFits, Narrow}
+use Rattle.network.specs.Reading.{slotNode, nodesOf, networkOf, Sound, Built, Extends, NextSlot, InputsBelow, widthIn, levelIn, Ends}
+use Rattle.nodes.specs.declared.Node.{Node}
+use Rattle.nodes.specs.declared.Node.the-variants.{Table, Select, Project, Join, Set}
 use Rattle.network.specs.declared.Slot.{Slot}
 use Rattle.network.specs.declared.Network.{Network}
-use Rattle.network.proofs.Lists.{length-fieldsAt}
+use Rattle.nodes.proofs.Lists.{length-fieldsAt}
 
 -- ---- bounds of a list with one element changed
 

@@ -13,12 +13,13 @@ use Rattle.model.specs.Network as model
 use Rattle.model.specs.Network.{Item, kindNumbered, itemAt, recordFault, withItem, noNetwork, refusedReading, readRecords, readNetwork}
 use Rattle.records.proofs.Header.{Whole, whole}
 use Rattle.records.proofs.Offsets.{remaining, remaining-all, remaining-none, remaining-broken, remaining-whole}
-use Rattle.network.specs.Reading.{numberOf, itemOf, networkOf, Built, Extends, Fits, Room, Follows, ReadsRecord}
-use Rattle.network.specs.declared.Item as declaredItem
-use Rattle.network.specs.declared.Item.the-variants.{Node as NodeBrought, Watch as WatchBrought}
-use Rattle.network.specs.declared.Record.the-variants.{Item as Brought, Refused}
+use Rattle.nodes.specs.Nodes.{numberOf, itemOf, Fits, Room, ReadsRecord}
+use Rattle.network.specs.Reading.{networkOf, Built, Extends, Follows}
+use Rattle.nodes.specs.declared.Item as declaredItem
+use Rattle.nodes.specs.declared.Item.the-variants.{Node as NodeBrought, Watch as WatchBrought}
+use Rattle.nodes.specs.declared.Record.the-variants.{Item as Brought, Refused}
 use lib.Seq.{length-take-le}
-use Rattle.network.specs.declared.Record.{Record}
+use Rattle.nodes.specs.declared.Record.{Record}
 use Rattle.network.specs.declared.Network.{Network}
 
 -- a record without a fault is whole

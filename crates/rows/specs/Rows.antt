@@ -55,6 +55,7 @@ abbrev pub later : Found → Found
 later (At p) = At (suc p)
 later (Missing p) = Missing (suc p)
 
+-- where a row stands before, at or behind a first row
 abbrev pub locateBy : Ordering → Found → Found
 locateBy Ordering·lt f = Missing zero
 locateBy Ordering·eq f = At zero

@@ -2,7 +2,7 @@ use mathlib.Core.Path.{_≡_, refl, sym, ap, _∙_}
 use Prim.Native.Nat.{ℕ, _+_, _-_, _*_, _≤_, _<_}
 use lib.ListN.{length, getD, take, length-set}
 use Rattle.model.specs.Record.{fieldsAt}
-use Rattle.network.proofs.Lists.{fields-turn}
+use Rattle.nodes.proofs.Lists.{fields-turn}
 use native.Mathlib.Omega.{arith}
 use borrow.Author.Needs.{needs}
 use Rattle.network.proofs.fields_of.Statement.{statement}

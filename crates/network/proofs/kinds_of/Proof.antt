@@ -10,7 +10,7 @@ use Rattle.network.proofs.kinds_of.Statement.{statement}
 use Rattle.network.proofs.kinds_of.Tie as tie
 use Rattle.network.proofs.kinds_of.Reads as reads
 use Rattle.network.proofs.kinds_of.Lts as lts
-use Rattle.network.proofs.kind_of.Reads as kind-of-reads
+use Rattle.nodes.proofs.kind_of.Reads as kind-of-reads
 
 abbrev Inv-loop : tie.InvT-loop
 Inv-loop net kinds₀ count i₀ kinds i = (i ≤ count) × (length kinds ≡ 32) × (kinds ≡ padded 32 (kindsTo (net .slots) i))

@@ -3,7 +3,7 @@ use Prim.Native.Nat.{ℕ, _≤_, _-_, _+_}
 use lib.ListN.{length}
 use Rattle.model.specs.Network.{readNetwork, refusedReading}
 use Rattle.records.proofs.Header.{Whole}
-use Rattle.network.specs.Reading.{numberOf, Fits}
+use Rattle.nodes.specs.Nodes.{numberOf, Fits}
 use Rattle.network.proofs.ReadAll.{Reached, reached-start, reached-refused, reached-whole, reached-next, reached-end, reached-empty, follows}
 use native.Mathlib.Omega.{arith}
 use borrow.Author.Needs.{needs}
@@ -12,8 +12,8 @@ use Rattle.network.proofs.read_network.Tie as tie
 use Rattle.network.proofs.read_network.Reads as reads
 use Rattle.network.proofs.read_network.Lts as lts
 use Rattle.network.proofs.no_network.Reads as no-network-reads
-use Rattle.network.proofs.number_of.Reads as number-of-reads
-use Rattle.network.proofs.read_record.Reads as read-record-reads
+use Rattle.nodes.proofs.number_of.Reads as number-of-reads
+use Rattle.nodes.proofs.read_record.Reads as read-record-reads
 use Rattle.network.proofs.refused_reading.Reads as refused-reading-reads
 use Rattle.network.proofs.with_item.Reads as with-item-reads
 use Rattle.records.proofs.u16_at.Reads as u16-at-reads

@@ -2,8 +2,9 @@ use mathlib.Core.Path.{_≡_, refl, sym, ap, _∙_}
 use Prim.Native.Nat.{ℕ, _+_, _-_, _*_, _≤_, _<_}
 use lib.ListN.{length, take}
 use Rattle.model.specs.Network.{pairsAt}
-use Rattle.network.specs.Reading.{NodeFits, slotNode, nodeAt, nodeOf, pairsOf}
-use Rattle.network.proofs.Lists.{pairs-fields, pairs-take}
+use Rattle.nodes.specs.Nodes.{NodeFits, nodeAt, nodeOf, pairsOf}
+use Rattle.network.specs.Reading.{slotNode}
+use Rattle.nodes.proofs.Lists.{pairs-fields, pairs-take}
 use native.Mathlib.Omega.{arith}
 use borrow.Author.Needs.{needs}
 use Rattle.network.proofs.slot_at.Statement.{statement}

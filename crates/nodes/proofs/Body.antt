@@ -1,0 +1,367 @@
+-- Rules 6 and 7 on a record of each kind, by the tests that the readings make. Assumes nothing.
+use mathlib.Core.Path.{_≡_, refl, sym, ap, _∙_}
+use mathlib.Core.Bool.{Bool, true, false, not, _&&_, true≢false}
+use mathlib.Core.List.{List, [], _∷_, _++_}
+use Prim.Native.Nat.{ℕ, zero, suc, _+_, _-_, _*_, _≤_, _<_}
+use native.Mathlib.Omega.{arith}
+use lib.Dec.{ltb, leb, eqb, lit≤}
+use lib.ListN.{length, getD, take, drop}
+use lib.Seq.{length-take-le, getD-take}
+use borrow.Author.Tests.{lt-ltb, le-ltb, le-leb, lt-leb, eq-eqb, ne-eqb, ltb-true, leb-true, eqb-true}
+use Rattle.model.specs.Record.{Bytes, u32, lengthAt, fieldAt, fieldsAt}
+use Rattle.model.specs.Network.{Kind, tableKind, selectConstantKind, selectColumnKind, projectKind, joinKind, setKind, watchKind, hasShape, projectShape, joinShape, itemAt, itemFits, nodeFits, watchFits, columnsBelow, pairsBelow, pairsAt}
+use Rattle.model.proofs.Sets.{and-first, and-second}
+use Rattle.nodes.specs.Nodes.{NodeRecord, WatchRecord, numberOf, itemOf, operationOf, bodyFault, selectFits, Fits, ReadsBody}
+use Rattle.nodes.specs.declared.Operand.the-variants.{Constant, Column}
+use Rattle.nodes.specs.declared.SetOperation.{SetOperation}
+use Rattle.nodes.specs.declared.Node.the-variants.{Table, Select, Project, Join, Set}
+use Rattle.nodes.specs.declared.Record.{Record}
+use Rattle.nodes.specs.declared.Record.the-variants.{Refused}
+
+pub no-first : (a b : Bool) → a ≡ false → (a && b) ≡ false
+no-first a b e = rw e
+
+pub no-second : (a b : Bool) → b ≡ false → (a && b) ≡ false
+no-second true b e = e
+no-second false b e = refl
+
+-- ---- the three outcomes
+
+module _ (ws signs : List ℕ) (bs : Bytes) (at : ℕ) (kind : Kind) where
+  pub reads-6 : hasShape kind bs at ≡ false → ReadsBody ws signs kind bs at (Refused 6)
+  unfolding bodyFault
+  reads-6 e = record { number = rw e; item = λ z. absurd (omega arith); fits = lit≤ tt }
+
+  pub reads-7 : hasShape kind bs at ≡ true → itemFits ws signs (itemAt kind bs at) ≡ false → ReadsBody ws signs kind bs at (Refused 7)
+  unfolding bodyFault
+  reads-7 e f = record { number = rw (e, f); item = λ z. absurd (omega arith); fits = lit≤ tt }
+
+  pub reads-ok : (r : Record) → hasShape kind bs at ≡ true → itemFits ws signs (itemAt kind bs at) ≡ true → numberOf r ≡ 0 → itemOf r bs at ≡ itemAt kind bs at → Fits r ws signs bs at → ReadsBody ws signs kind bs at r
+  unfolding bodyFault
+  reads-ok r e f n i g = record { number = n ∙ rw (e, f); item = λ z. i; fits = g }
+
+-- ---- kind 1
+
+module _ (ws signs : List ℕ) (bs : Bytes) (at size : ℕ) (sized : size ≡ lengthAt bs at) where
+  pub table-size : (size ≡ 6 → ⊥) → ReadsBody ws signs tableKind bs at (Refused 6)
+  unfolding hasShape
+  table-size h = reads-6 ws signs bs at tableKind (rw (← sized) (ne-eqb size 6 h))
+
+  module _ (six : size ≡ 6) (w : ℕ) (is : w ≡ fieldAt bs at 0) where
+    shaped : hasShape tableKind bs at ≡ true
+    unfolding hasShape
+    shaped = rw (← sized) (eq-eqb size 6 six)
+
+    pub table-low : w < 1 → ReadsBody ws signs tableKind bs at (Refused 7)
+    unfolding itemFits itemAt nodeFits
+    table-low h = reads-7 ws signs bs at tableKind shaped (rw (← is, lt-leb 1 w h))
+
+    pub table-high : 4 < w → ReadsBody ws signs tableKind bs at (Refused 7)
+    unfolding itemFits itemAt nodeFits
+    table-high h = reads-7 ws signs bs at tableKind shaped (rw (← is) (no-second (leb 1 w) (leb w 4) (lt-leb w 4 h)))
+
+    pub table-ok : 1 ≤ w → w ≤ 4 → ReadsBody ws signs tableKind bs at (NodeRecord (Table w))
+    unfolding itemFits itemAt nodeFits
+    table-ok h g = reads-ok ws signs bs at tableKind (NodeRecord (Table w)) shaped (rw (← is, le-leb 1 w h, le-leb w 4 g)) refl (rw is) g
+
+-- ---- kinds 2 and 3
+
+-- an index below the count reads the same in the first widths as in all
+pub first-at : (xs : List ℕ) (count i : ℕ) → i < count → getD (take count xs) i 0 ≡ getD xs i 0
+first-at xs count i h = getD-take count xs i 0 h
+
+-- a select that fits has an input before it
+select-below : (ws : List ℕ) (bs : Bytes) (at : ℕ) → selectFits ws bs at ≡ true → fieldAt bs at 0 < length ws
+unfolding selectFits
+select-below ws bs at e =
+    let a : Bool = ltb (fieldAt bs at 0) (length ws) in
+    let b : Bool = ltb (fieldAt bs at 1) (getD ws (fieldAt bs at 0) 0) in
+    ltb-true (fieldAt bs at 0) (length ws) (and-first a b (and-first (a && b) (ltb (fieldAt bs at 2) 6) e))
+
+module _ (xs : List ℕ) (count : ℕ) (long : count ≤ length xs) (bs : Bytes) (at : ℕ) where
+  counted : length (take count xs) ≡ count
+  counted = length-take-le count xs long
+
+  module _ (i : ℕ) (is : i ≡ fieldAt bs at 0) where
+    pub select-no-input : count ≤ i → selectFits (take count xs) bs at ≡ false
+    unfolding selectFits
+    select-no-input h = rw (← is, counted, le-ltb i count h)
+
+    module _ (within : i < count) (c : ℕ) (of : c ≡ fieldAt bs at 1) where
+      pub select-no-column : getD xs i 0 ≤ c → selectFits (take count xs) bs at ≡ false
+      unfolding selectFits
+      select-no-column h = rw (← is, ← of, counted, lt-ltb i count within, first-at xs count i within, le-ltb c (getD xs i 0) h)
+
+      pub select-code : (k : ℕ) → k ≡ fieldAt bs at 2 → c < getD xs i 0 → ltb k 6 ≡ selectFits (take count xs) bs at
+      unfolding selectFits
+      select-code k e h = sym (rw (← is, ← of, ← e, counted, lt-ltb i count within, first-at xs count i within, lt-ltb c (getD xs i 0) h))
+
+  -- where it fits, the input is below the count
+  pub select-input : selectFits (take count xs) bs at ≡ true → fieldAt bs at 0 < count
+  select-input e = rw counted at (select-below (take count xs) bs at e)
+
+module _ (ws signs : List ℕ) (bs : Bytes) (at size : ℕ) (sized : size ≡ lengthAt bs at) where
+  pub constant-size : (size ≡ 14 → ⊥) → ReadsBody ws signs selectConstantKind bs at (Refused 6)
+  unfolding hasShape
+  constant-size h = reads-6 ws signs bs at selectConstantKind (rw (← sized) (ne-eqb size 14 h))
+
+  pub constant-not : size ≡ 14 → selectFits ws bs at ≡ false → ReadsBody ws signs selectConstantKind bs at (Refused 7)
+  unfolding hasShape itemFits itemAt nodeFits selectFits
+  constant-not s e = reads-7 ws signs bs at selectConstantKind (rw (← sized) (eq-eqb size 14 s)) (rw e)
+
+  pub constant-ok : size ≡ 14 → selectFits ws bs at ≡ true → (i c k v : ℕ) → i ≡ fieldAt bs at 0 → c ≡ fieldAt bs at 1 → k ≡ fieldAt bs at 2 → v ≡ u32 bs (at + 10) →
+      ReadsBody ws signs selectConstantKind bs at (NodeRecord (Select i c k (Constant v)))
+  unfolding hasShape itemFits itemAt nodeFits selectFits
+  constant-ok s e i c k v p q r t =
+      reads-ok ws signs bs at selectConstantKind (NodeRecord (Select i c k (Constant v))) (rw (← sized) (eq-eqb size 14 s)) (rw e) refl (rw (p, q, r, t)) (rw p (select-below ws bs at e))
+
+  pub column-size : (size ≡ 12 → ⊥) → ReadsBody ws signs selectColumnKind bs at (Refused 6)
+  unfolding hasShape
+  column-size h = reads-6 ws signs bs at selectColumnKind (rw (← sized) (ne-eqb size 12 h))
+
+  pub column-not : size ≡ 12 → selectFits ws bs at ≡ false → ReadsBody ws signs selectColumnKind bs at (Refused 7)
+  unfolding hasShape itemFits itemAt nodeFits selectFits
+  column-not s e = reads-7 ws signs bs at selectColumnKind (rw (← sized) (eq-eqb size 12 s)) (rw e)
+
+  module _ (i o : ℕ) (is : i ≡ fieldAt bs at 0) (other : o ≡ fieldAt bs at 3) where
+    pub column-high : size ≡ 12 → selectFits ws bs at ≡ true → getD ws i 0 ≤ o → ReadsBody ws signs selectColumnKind bs at (Refused 7)
+    unfolding hasShape itemFits itemAt nodeFits selectFits
+    column-high s e h = reads-7 ws signs bs at selectColumnKind (rw (← sized) (eq-eqb size 12 s)) (rw (e, ← is, ← other) (le-ltb o (getD ws i 0) h))
+
+    pub column-ok : size ≡ 12 → selectFits ws bs at ≡ true → o < getD ws i 0 → (c k : ℕ) → c ≡ fieldAt bs at 1 → k ≡ fieldAt bs at 2 →
+        ReadsBody ws signs selectColumnKind bs at (NodeRecord (Select i c k (Column o)))
+    unfolding hasShape itemFits itemAt nodeFits selectFits
+    column-ok s e h c k q r =
+        reads-ok ws signs bs at selectColumnKind (NodeRecord (Select i c k (Column o))) (rw (← sized) (eq-eqb size 12 s)) (rw (e, ← is, ← other) (lt-ltb o (getD ws i 0) h)) refl (rw (is, other, q, r)) (rw is (select-below ws bs at e))
+
+-- ---- kind 4
+
+module _ (bs : Bytes) (at size : ℕ) (sized : size ≡ lengthAt bs at) where
+  pub project-short : size < 8 → projectShape bs at ≡ false
+  unfolding projectShape
+  project-short h = rw (← sized, lt-leb 8 size h)
+
+  module _ (long : 8 ≤ size) (c : ℕ) (is : c ≡ fieldAt bs at 1) where
+    pub project-none : c < 1 → projectShape bs at ≡ false
+    unfolding projectShape
+    project-none h = rw (← sized, ← is, le-leb 8 size long, lt-leb 1 c h)
+
+    pub project-many : 1 ≤ c → 4 < c → projectShape bs at ≡ false
+    unfolding projectShape
+    project-many h g = rw (← sized, ← is, le-leb 8 size long, le-leb 1 c h, lt-leb c 4 g)
+
+    pub project-size : 1 ≤ c → c ≤ 4 → eqb size (8 + 2 * c) ≡ projectShape bs at
+    unfolding projectShape
+    project-size h g = sym (rw (← sized, ← is, le-leb 8 size long, le-leb 1 c h, le-leb c 4 g))
+
+-- the counts of a project's record, and its length
+pub record ProjectShape (bs : Bytes) (at : ℕ) : Type 0 where
+  pub size : lengthAt bs at ≡ 8 + 2 * fieldAt bs at 1
+  pub few : fieldAt bs at 1 ≤ 4
+  pub some : 1 ≤ fieldAt bs at 1
+
+pub project-shaped : (bs : Bytes) (at : ℕ) → projectShape bs at ≡ true → ProjectShape bs at
+unfolding projectShape
+project-shaped bs at e =
+    let l : Bool = leb 8 (lengthAt bs at) in
+    let w : Bool = leb 1 (fieldAt bs at 1) && leb (fieldAt bs at 1) 4 in
+    let s : Bool = eqb (lengthAt bs at) (8 + 2 * fieldAt bs at 1) in
+    let range : w ≡ true = and-second l w (and-first (l && w) s e) in
+    record {
+      size = eqb-true (lengthAt bs at) (8 + 2 * fieldAt bs at 1) (and-second (l && w) s e);
+      few = leb-true (fieldAt bs at 1) 4 (and-second (leb 1 (fieldAt bs at 1)) (leb (fieldAt bs at 1) 4) range);
+      some = leb-true 1 (fieldAt bs at 1) (and-first (leb 1 (fieldAt bs at 1)) (leb (fieldAt bs at 1) 4) range);
+    }
+
+module _ (xs : List ℕ) (count : ℕ) (long : count ≤ length xs) (signs : List ℕ) (bs : Bytes) (at : ℕ) where
+  pub project-unshaped : projectShape bs at ≡ false → ReadsBody (take count xs) signs projectKind bs at (Refused 6)
+  unfolding hasShape
+  project-unshaped e = reads-6 (take count xs) signs bs at projectKind e
+
+  module _ (shape : projectShape bs at ≡ true) (i : ℕ) (is : i ≡ fieldAt bs at 0) where
+    pub project-no-input : count ≤ i → ReadsBody (take count xs) signs projectKind bs at (Refused 7)
+    unfolding hasShape itemFits itemAt nodeFits
+    project-no-input h = reads-7 (take count xs) signs bs at projectKind shape (rw (← is, counted xs count long bs at, le-ltb i count h))
+
+    module _ (within : i < count) (n : ℕ) (of : n ≡ fieldAt bs at 1) where
+      pub project-high : columnsBelow (getD xs i 0) (fieldsAt bs at 2 n) ≡ false → ReadsBody (take count xs) signs projectKind bs at (Refused 7)
+      unfolding hasShape itemFits itemAt nodeFits
+      project-high e = reads-7 (take count xs) signs bs at projectKind shape (rw (← is, ← of, counted xs count long bs at, lt-ltb i count within, first-at xs count i within) e)
+
+      pub project-ok : columnsBelow (getD xs i 0) (fieldsAt bs at 2 n) ≡ true → at + lengthAt bs at ≤ length bs → ReadsBody (take count xs) signs projectKind bs at (NodeRecord (Project i n))
+      unfolding hasShape itemFits itemAt nodeFits
+      project-ok e inside =
+          let sh : ProjectShape bs at = project-shaped bs at shape in
+          reads-ok (take count xs) signs bs at projectKind (NodeRecord (Project i n)) shape (rw (← is, ← of, counted xs count long bs at, lt-ltb i count within, first-at xs count i within) e) refl (rw (is, of))
+          (rw (counted xs count long bs at) within, rw of (sh .few), omega (arith, sh .size, of))
+
+-- ---- kind 5
+
+module _ (bs : Bytes) (at size : ℕ) (sized : size ≡ lengthAt bs at) where
+  pub join-short : size < 10 → joinShape bs at ≡ false
+  unfolding joinShape
+  join-short h = rw (← sized, lt-leb 10 size h)
+
+  module _ (long : 10 ≤ size) (p : ℕ) (is : p ≡ fieldAt bs at 2) where
+    pub join-pairs : 2 < p → joinShape bs at ≡ false
+    unfolding joinShape
+    join-pairs h = rw (← sized, ← is, le-leb 10 size long, lt-leb p 2 h)
+
+    module _ (few : p ≤ 2) where
+      pub join-no-count : size < 12 + 4 * p → joinShape bs at ≡ false
+      unfolding joinShape
+      join-no-count h = rw (← sized, ← is, le-leb 10 size long, le-leb p 2 few, lt-leb (12 + 4 * p) size h)
+
+      module _ (room : 12 + 4 * p ≤ size) (c : ℕ) (of : c ≡ fieldAt bs at (3 + 2 * p)) where
+        pub join-none : c < 1 → joinShape bs at ≡ false
+        unfolding joinShape
+        join-none h = rw (← sized, ← is, ← of, le-leb 10 size long, le-leb p 2 few, le-leb (12 + 4 * p) size room, lt-leb 1 c h)
+
+        pub join-many : 1 ≤ c → 4 < c → joinShape bs at ≡ false
+        unfolding joinShape
+        join-many h g = rw (← sized, ← is, ← of, le-leb 10 size long, le-leb p 2 few, le-leb (12 + 4 * p) size room, le-leb 1 c h, lt-leb c 4 g)
+
+        pub join-size : 1 ≤ c → c ≤ 4 → eqb size (12 + 4 * p + 2 * c) ≡ joinShape bs at
+        unfolding joinShape
+        join-size h g = sym (rw (← sized, ← is, ← of, le-leb 10 size long, le-leb p 2 few, le-leb (12 + 4 * p) size room, le-leb 1 c h, le-leb c 4 g))
+
+-- the counts of a join's record, and its length
+pub record JoinShape (bs : Bytes) (at : ℕ) : Type 0 where
+  pub pairs : fieldAt bs at 2 ≤ 2
+  pub few : fieldAt bs at (3 + 2 * fieldAt bs at 2) ≤ 4
+  pub some : 1 ≤ fieldAt bs at (3 + 2 * fieldAt bs at 2)
+  pub size : lengthAt bs at ≡ 12 + 4 * fieldAt bs at 2 + 2 * fieldAt bs at (3 + 2 * fieldAt bs at 2)
+
+pub join-shaped : (bs : Bytes) (at : ℕ) → joinShape bs at ≡ true → JoinShape bs at
+unfolding joinShape
+join-shaped bs at e =
+    let p : ℕ = fieldAt bs at 2 in
+    let c : ℕ = fieldAt bs at (3 + 2 * p) in
+    let a : Bool = leb 10 (lengthAt bs at) in
+    let b : Bool = leb p 2 in
+    let d : Bool = leb (12 + 4 * p) (lengthAt bs at) in
+    let w : Bool = leb 1 c && leb c 4 in
+    let s : Bool = eqb (lengthAt bs at) (12 + 4 * p + 2 * c) in
+    let first : (a && b && d && w) ≡ true = and-first (a && b && d && w) s e in
+    let range : w ≡ true = and-second (a && b && d) w first in
+    record {
+      pairs = leb-true p 2 (and-second a b (and-first (a && b) d (and-first (a && b && d) w first)));
+      few = leb-true c 4 (and-second (leb 1 c) (leb c 4) range);
+      some = leb-true 1 c (and-first (leb 1 c) (leb c 4) range);
+      size = eqb-true (lengthAt bs at) (12 + 4 * p + 2 * c) (and-second (a && b && d && w) s e);
+    }
+
+module _ (xs : List ℕ) (count : ℕ) (long : count ≤ length xs) (signs : List ℕ) (bs : Bytes) (at : ℕ) where
+  pub join-unshaped : joinShape bs at ≡ false → ReadsBody (take count xs) signs joinKind bs at (Refused 6)
+  unfolding hasShape
+  join-unshaped e = reads-6 (take count xs) signs bs at joinKind e
+
+  module _ (shape : joinShape bs at ≡ true) (l : ℕ) (is : l ≡ fieldAt bs at 0) where
+    pub join-no-left : count ≤ l → ReadsBody (take count xs) signs joinKind bs at (Refused 7)
+    unfolding hasShape itemFits itemAt nodeFits
+    join-no-left h = reads-7 (take count xs) signs bs at joinKind shape (rw (← is, counted xs count long bs at, le-ltb l count h))
+
+    module _ (left : l < count) (r : ℕ) (of : r ≡ fieldAt bs at 1) where
+      pub join-no-right : count ≤ r → ReadsBody (take count xs) signs joinKind bs at (Refused 7)
+      unfolding hasShape itemFits itemAt nodeFits
+      join-no-right h = reads-7 (take count xs) signs bs at joinKind shape (rw (← is, ← of, counted xs count long bs at, lt-ltb l count left, le-ltb r count h))
+
+      module _ (right : r < count) (p : ℕ) (paired : p ≡ fieldAt bs at 2) where
+        pub join-bad-pair : pairsBelow (getD xs l 0) (getD xs r 0) (pairsAt bs at 3 p) ≡ false → ReadsBody (take count xs) signs joinKind bs at (Refused 7)
+        unfolding hasShape itemFits itemAt nodeFits
+        join-bad-pair e =
+            reads-7 (take count xs) signs bs at joinKind shape
+            (rw (← is, ← of, ← paired, counted xs count long bs at, lt-ltb l count left, lt-ltb r count right, first-at xs count l left, first-at xs count r right, e))
+
+        module _ (good : pairsBelow (getD xs l 0) (getD xs r 0) (pairsAt bs at 3 p) ≡ true) (c : ℕ) (columns : c ≡ fieldAt bs at (3 + 2 * p)) where
+          pub join-high : columnsBelow (getD xs l 0 + getD xs r 0) (fieldsAt bs at (4 + 2 * p) c) ≡ false → ReadsBody (take count xs) signs joinKind bs at (Refused 7)
+          unfolding hasShape itemFits itemAt nodeFits
+          join-high e =
+              reads-7 (take count xs) signs bs at joinKind shape
+              (rw (← is, ← of, ← paired, ← columns, counted xs count long bs at, lt-ltb l count left, lt-ltb r count right, first-at xs count l left, first-at xs count r right, good, e))
+
+          pub join-ok : columnsBelow (getD xs l 0 + getD xs r 0) (fieldsAt bs at (4 + 2 * p) c) ≡ true → at + lengthAt bs at ≤ length bs → ReadsBody (take count xs) signs joinKind bs at (NodeRecord (Join l r p c))
+          unfolding hasShape itemFits itemAt nodeFits
+          join-ok e inside =
+              let sh : JoinShape bs at = join-shaped bs at shape in
+              let same : c ≡ fieldAt bs at (3 + 2 * fieldAt bs at 2) = rw paired at columns in
+              reads-ok (take count xs) signs bs at joinKind (NodeRecord (Join l r p c)) shape
+              (rw (← is, ← of, ← paired, ← columns, counted xs count long bs at, lt-ltb l count left, lt-ltb r count right, first-at xs count l left, first-at xs count r right, good, e)) refl
+              (rw (is, of, columns, paired))
+              (rw (counted xs count long bs at) left, rw (counted xs count long bs at) right, rw paired (sh .pairs), rw same (sh .few), omega (arith, sh .size, paired, same))
+
+-- ---- kinds 6, 7, 8
+
+module _ (xs : List ℕ) (count : ℕ) (long : count ≤ length xs) (signs : List ℕ) (bs : Bytes) (at : ℕ) (o : SetOperation) (size : ℕ) (sized : size ≡ lengthAt bs at) where
+  pub set-size : (size ≡ 8 → ⊥) → ReadsBody (take count xs) signs (setKind (operationOf o)) bs at (Refused 6)
+  unfolding hasShape
+  set-size h = reads-6 (take count xs) signs bs at (setKind (operationOf o)) (rw (← sized) (ne-eqb size 8 h))
+
+  module _ (eight : size ≡ 8) (l : ℕ) (is : l ≡ fieldAt bs at 0) where
+    set-shaped : hasShape (setKind (operationOf o)) bs at ≡ true
+    unfolding hasShape
+    set-shaped = rw (← sized) (eq-eqb size 8 eight)
+
+    pub set-no-left : count ≤ l → ReadsBody (take count xs) signs (setKind (operationOf o)) bs at (Refused 7)
+    unfolding itemFits itemAt nodeFits
+    set-no-left h = reads-7 (take count xs) signs bs at (setKind (operationOf o)) set-shaped (rw (← is, counted xs count long bs at, le-ltb l count h))
+
+    module _ (left : l < count) (r : ℕ) (of : r ≡ fieldAt bs at 1) where
+      pub set-no-right : count ≤ r → ReadsBody (take count xs) signs (setKind (operationOf o)) bs at (Refused 7)
+      unfolding itemFits itemAt nodeFits
+      set-no-right h = reads-7 (take count xs) signs bs at (setKind (operationOf o)) set-shaped (rw (← is, ← of, counted xs count long bs at, lt-ltb l count left, le-ltb r count h))
+
+      module _ (right : r < count) where
+        pub set-unequal : (getD xs l 0 ≡ getD xs r 0 → ⊥) → ReadsBody (take count xs) signs (setKind (operationOf o)) bs at (Refused 7)
+        unfolding itemFits itemAt nodeFits
+        set-unequal h =
+            reads-7 (take count xs) signs bs at (setKind (operationOf o)) set-shaped
+            (rw (← is, ← of, counted xs count long bs at, lt-ltb l count left, lt-ltb r count right, first-at xs count l left, first-at xs count r right) (ne-eqb (getD xs l 0) (getD xs r 0) h))
+
+        pub set-ok : getD xs l 0 ≡ getD xs r 0 → ReadsBody (take count xs) signs (setKind (operationOf o)) bs at (NodeRecord (Set o l r))
+        unfolding itemFits itemAt nodeFits
+        set-ok h =
+            reads-ok (take count xs) signs bs at (setKind (operationOf o)) (NodeRecord (Set o l r)) set-shaped
+            (rw (← is, ← of, counted xs count long bs at, lt-ltb l count left, lt-ltb r count right, first-at xs count l left, first-at xs count r right) (eq-eqb (getD xs l 0) (getD xs r 0) h)) refl
+            (rw (is, of))
+            (rw (counted xs count long bs at) left, rw (counted xs count long bs at) right)
+
+-- ---- kind 9
+
+module _ (xs : List ℕ) (count : ℕ) (long : count ≤ length xs) (ws : List ℕ) (bs : Bytes) (at : ℕ) (size : ℕ) (sized : size ≡ lengthAt bs at) where
+  pub watch-size : (size ≡ 8 → ⊥) → ReadsBody ws (take count xs) watchKind bs at (Refused 6)
+  unfolding hasShape
+  watch-size h = reads-6 ws (take count xs) bs at watchKind (rw (← sized) (ne-eqb size 8 h))
+
+  module _ (eight : size ≡ 8) (n : ℕ) (is : n ≡ fieldAt bs at 0) where
+    watch-shaped : hasShape watchKind bs at ≡ true
+    unfolding hasShape
+    watch-shaped = rw (← sized) (eq-eqb size 8 eight)
+
+    pub watch-no-node : count ≤ n → ReadsBody ws (take count xs) watchKind bs at (Refused 7)
+    unfolding itemFits itemAt watchFits
+    watch-no-node h = reads-7 ws (take count xs) bs at watchKind watch-shaped (rw (← is, counted xs count long bs at, le-ltb n count h))
+
+    module _ (within : n < count) (s : ℕ) (of : s ≡ fieldAt bs at 1) where
+      pub watch-low : s < 1 → ReadsBody ws (take count xs) watchKind bs at (Refused 7)
+      unfolding itemFits itemAt watchFits
+      watch-low h = reads-7 ws (take count xs) bs at watchKind watch-shaped (rw (← is, ← of, counted xs count long bs at, lt-ltb n count within, lt-leb 1 s h))
+
+      pub watch-high : 1 ≤ s → 3 < s → ReadsBody ws (take count xs) watchKind bs at (Refused 7)
+      unfolding itemFits itemAt watchFits
+      watch-high h g = reads-7 ws (take count xs) bs at watchKind watch-shaped (rw (← is, ← of, counted xs count long bs at, lt-ltb n count within, le-leb 1 s h, lt-leb s 3 g))
+
+      module _ (low : 1 ≤ s) (high : s ≤ 3) where
+        pub watch-second : (getD xs n 0 ≡ 0 → ⊥) → ReadsBody ws (take count xs) watchKind bs at (Refused 7)
+        unfolding itemFits itemAt watchFits
+        watch-second h =
+            reads-7 ws (take count xs) bs at watchKind watch-shaped
+            (rw (← is, ← of, counted xs count long bs at, lt-ltb n count within, le-leb 1 s low, le-leb s 3 high, first-at xs count n within) (ne-eqb (getD xs n 0) 0 h))
+
+        pub watch-ok : getD xs n 0 ≡ 0 → ReadsBody ws (take count xs) watchKind bs at (WatchRecord n s)
+        unfolding itemFits itemAt watchFits
+        watch-ok h =
+            reads-ok ws (take count xs) bs at watchKind (WatchRecord n s) watch-shaped
+            (rw (← is, ← of, counted xs count long bs at, lt-ltb n count within, le-leb 1 s low, le-leb s 3 high, first-at xs count n within) (eq-eqb (getD xs n 0) 0 h)) refl
+            (rw (is, of))
+            (rw (counted xs count long bs at) within)

@@ -1,0 +1,4 @@
+pub mod Lists
+pub mod Body
+pub mod ByKind
+pub mod Truth
