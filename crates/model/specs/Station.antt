@@ -2,7 +2,7 @@
 use mathlib.Core.Bool.{Bool, true, false, not, _&&_, cond}
 use mathlib.Core.List.{List, [], _∷_, _++_, zipWith, flatMap}
 use Prim.Native.Nat.{ℕ, zero, suc, _+_}
-use lib.Dec.{leb, eqb}
+use lib.Dec.{eqb}
 use lib.ListN.{getD, length, replicate}
 use Rattle.model.specs.Row.{Row, Relation, keep, someOf, numbersBelow}
 use Rattle.model.specs.Record.{Bytes, Verdict, accepted, refused, isAccepted}
@@ -92,7 +92,7 @@ unfolding readBatch applyEvents
 step nodes s batch =
     let reading : BatchReading = readBatch nodes batch in
     let result : Step = applyEvents nodes s (reading .events) in
-    cond (leb lastNumber (s .number)) (refusedStep (refused 9 0) s) (cond (isAccepted (reading .verdict)) result (refusedStep (reading .verdict) s))
+    cond (eqb (s .number) lastNumber) (refusedStep (refused 9 0) s) (cond (isAccepted (reading .verdict)) result (refusedStep (reading .verdict) s))
 
 -- ---- a list of batches, refused ones included
 

@@ -21,7 +21,7 @@ fn print_node(kind: usize, width: usize, level: usize) {
 fn print_nodes(answer: Answer) {
     let count = answer.count;
     let mut i = 0;
-    while i < network::MAX_NODES {
+    while i < nodes::MAX_NODES {
         if count <= i {
             return;
         }

@@ -1,0 +1,60 @@
+-- Relations in places of 64 rows: what the operators read and leave.
+use mathlib.Core.Path.{_≡_}
+use mathlib.Core.Bool.{Bool, true, false}
+use mathlib.Core.List.{List, [], _∷_, map}
+use Prim.Native.Nat.{ℕ, _≤_, _<_}
+use lib.ListN.{length, take, getD, replicate}
+use Rattle.model.specs.Row.{Row, Relation, keep}
+use Rattle.rows.specs.Rows.{firstRows, stored}
+use Rattle.model.specs.Algebra.{holdsOf, compareFields}
+use Rattle.model.specs.Network as model
+use Rattle.model.specs.Areas.{layout, heldIn, goodPlace, placeOf}
+use Rattle.nodes.specs.declared.Operand.{Operand}
+use Rattle.nodes.specs.declared.Operand.the-variants.{Constant, Column}
+
+-- the relation that a place holds
+abbrev pub relationIn : ℕ → List ℕ → ℕ → Relation
+relationIn w words n = heldIn layout w n words 0
+
+-- a place of good form, of a width
+pub record Place (w : ℕ) (words : List ℕ) (n : ℕ) : Type 0 where
+  pub long : length words ≡ 256
+  pub narrow : w ≤ 4
+  pub good : goodPlace layout w n words 0 ≡ true
+
+-- an empty place
+abbrev pub Blank : List ℕ → Type 0
+Blank words = words ≡ replicate 256 0
+
+-- a row passes a select's test
+abbrev pub passesRow : ℕ → ℕ → model.Operand → Row → Bool
+passesRow column code (model.constant v) r = holdsOf code (compareFields (getD r column 0) v)
+passesRow column code (model.column other) r = holdsOf code (compareFields (getD r column 0) (getD r other 0))
+
+-- an operand's column is inside a row
+abbrev pub OperandBelow : Operand → Type 0
+OperandBelow (Constant v) = Unit {0}
+OperandBelow (Column c) = c < 4
+
+-- an operand's column is inside rows of a width
+abbrev pub OperandIn : ℕ → Operand → Type 0
+OperandIn w (Constant v) = Unit {0}
+OperandIn w (Column c) = c < w
+
+-- a select's columns are inside rows of a width
+pub record Selects (w column : ℕ) (operand : Operand) : Type 0 where
+  pub first : column < w
+  pub second : OperandIn w operand
+
+-- the relation stands in the place, with its count
+pub record Fills (rel : Relation) (after : List ℕ) (n : ℕ) : Type 0 where
+  pub count : n ≡ length rel
+  pub few : n ≤ 64
+  pub is : after ≡ placeOf layout rel
+
+-- of the first i rows of some words those that pass a test stand in a place that was empty
+pub record Kept (p : Row → Bool) (s : List ℕ) (i : ℕ) (out : List ℕ) (m : ℕ) : Type 0 where
+  pub count : m ≡ length (keep p (firstRows s i))
+  pub is : out ≡ stored (keep p (firstRows s i)) (replicate 256 0)
+  pub few : m ≤ i
+  pub size : length out ≡ 256
