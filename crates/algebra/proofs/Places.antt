@@ -49,19 +49,19 @@ module _ (w : ℕ) (s : List ℕ) (n : ℕ) (p : Place w s n) where
       sym (take-all 256 s (omega (arith, p .long)))
       ∙ place-words layout w s 0 n (p .narrow) place-few (omega (arith, p .long)) (and-second (leb n 64 && ascending (relationIn w s n)) (unusedZero layout w n s 0) (p .good))
 
+pub length-padded : (r : Relation) → length (map (padded 4) r) ≡ length r
+length-padded [] = refl
+length-padded (x ∷ r) = ap suc (length-padded r)
+
 -- the rows of a place, padded
 pub placed-rows : (w : ℕ) (rel : Relation) → w ≤ 4 → Wide w rel → length rel ≤ 64 → firstRows (placeOf layout rel) (length rel) ≡ map (padded 4) rel
 placed-rows w rel h a f =
     let l : List Row = map (padded 4) rel in
     let rest : List Row = replicate (64 - length rel) (replicate 4 0) in
-    let size : length (map (padded 4) rel) ≡ length rel = length-map rel in
+    let size : length (map (padded 4) rel) ≡ length rel = length-padded rel in
     ap (λ (s : List ℕ). firstRows s (length rel)) (sym (placed-words layout w rel h a f) ∙ words-append l rest)
     ∙ ap (firstRows (words l ++ words rest)) (sym size)
     ∙ rows-words 4 l (words rest) (wide-padded w 4 rel h a)
-  where
-    length-map : (r : Relation) → length (map (padded 4) r) ≡ length r
-    length-map [] = refl
-    length-map (x ∷ r) = ap suc (length-map r)
 
 pub place-rows : (w : ℕ) (s : List ℕ) (n : ℕ) → Place w s n → firstRows s n ≡ map (padded 4) (relationIn w s n)
 place-rows w s n p =
@@ -151,10 +151,6 @@ kept-fills w s n p q out m pl e k =
       few = few;
       is = k .is ∙ ap (λ (l : List Row). stored l (replicate 256 0)) same ∙ stored-blank w (keep q rel) (pl .narrow) wide (rw (← count) few);
     }
-  where
-    length-padded : (r : Relation) → length (map (padded 4) r) ≡ length r
-    length-padded [] = refl
-    length-padded (x ∷ r) = ap suc (length-padded r)
 
 -- kinds 2 and 3
 pub select-fills : (w column code : ℕ) (o : Operand) (s : List ℕ) (n : ℕ) (out : List ℕ) (m : ℕ) → Place w s n → Selects w column o → Kept (passesRow column code (operandOf o)) s n out m → Fills (evaluateSelect column code (operandOf o) (relationIn w s n)) out m

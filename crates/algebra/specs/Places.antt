@@ -10,6 +10,8 @@ use Rattle.model.specs.Algebra.{holdsOf, compareFields}
 use Rattle.model.specs.Network as model
 use Rattle.model.specs.Areas.{layout, heldIn, goodPlace, placeOf}
 use Rattle.nodes.specs.declared.Operand.{Operand}
+use Rattle.algebra.specs.declared.Made.{Made}
+use Rattle.algebra.specs.declared.Made.the-variants.{Rows, Over}
 use Rattle.nodes.specs.declared.Operand.the-variants.{Constant, Column}
 
 -- the relation that a place holds
@@ -58,3 +60,19 @@ pub record Kept (p : Row → Bool) (s : List ℕ) (i : ℕ) (out : List ℕ) (m 
   pub is : out ≡ stored (keep p (firstRows s i)) (replicate 256 0)
   pub few : m ≤ i
   pub size : length out ≡ 256
+
+-- some rows stand in a place that was empty, with their count
+pub record Stands (l : List Row) (out : List ℕ) (n : ℕ) : Type 0 where
+  pub count : n ≡ length l
+  pub few : n ≤ 64
+  pub is : out ≡ stored l (replicate 256 0)
+
+-- some rows stand in the place, or they are more than 64
+abbrev pub Stored : List Row → List ℕ → Made → Type 0
+Stored l out (Rows n) = Stands l out n
+Stored l out Over = (64 < length l) × (length out ≡ 256)
+
+-- a relation stands in the place, or it has more than 64 rows
+abbrev pub Makes : Relation → List ℕ → Made → Type 0
+Makes rel out (Rows n) = Fills rel out n
+Makes rel out Over = (64 < length rel) × (length out ≡ 256)

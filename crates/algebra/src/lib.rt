@@ -3,15 +3,22 @@ ghost use mathlib.Core.Path.{_≡_};
 ghost use mathlib.Core.Bool.{Bool, true, false, Bool·beq};
 ghost use Prim.Native.Nat.{ℕ, _+_, _*_, _≤_, _<_};
 ghost use lib.ListN.{length};
-ghost use Rattle.model.specs.Row.{member, ascending};
-ghost use Rattle.model.specs.Algebra.{compareFields, differenceRows, intersectRows};
+ghost use Rattle.model.specs.Row.{member, ascending, insertRow};
+ghost use Rattle.model.specs.Algebra.{compareFields, unionRows, differenceRows, intersectRows};
 ghost use Rattle.model.specs.Evaluation.{evaluateSelect};
 ghost use Rattle.rows.specs.Rows.{stride, rowAt, firstRows, orderOf};
 ghost use Rattle.nodes.specs.Nodes.{operandOf};
-ghost use Rattle.algebra.specs.Places.{passesRow, OperandBelow, Selects, Place, Blank, relationIn, Fills, Kept};
+ghost use Rattle.algebra.specs.Places.{passesRow, OperandBelow, Selects, Place, Blank, relationIn, Fills, Kept, Stands, Stored, Makes};
 use nodes::Operand;
+use rows::Inserted;
 use rows::Order;
 use rows::STRIDE;
+
+// How many rows an operator made, or that they are more than 64.
+pub enum Made {
+    Rows(usize),
+    Over,
+}
 
 // How two fields compare in a select.
 fn compare_values(left: u32, right: u32) -> Order
@@ -114,4 +121,38 @@ pub fn intersect_rows(left: &[u32], n: usize, right: &[u32], m: usize, out: &mut
     ensures { λ r. ⌜ ((w : ℕ) → Place w (now (left .entry)) n → Place w (now (right .entry)) m → Fills (intersectRows (relationIn w (now (left .entry)) n) (relationIn w (now (right .entry)) m)) (now (out .exit)) r) ⌝ }
 {
     keep_rows(left, n, right, m, true, out)
+}
+
+// Row i of src put among the rows of a place, which ascend.
+fn put_row(out: &mut [u32], n: usize, src: &[u32], i: usize) -> Made
+    requires { ⌜ Stands (firstRows (now out) n) (now out) n × (i * stride + stride ≤ length (now src)) × (ascending (firstRows (now out) n) ≡ true) × (length (now out) ≡ 256) ⌝ }
+    ensures { λ r. ⌜ Stored (insertRow (rowAt stride (now (src .entry)) i) (firstRows (now (out .entry)) n)) (now (out .exit)) r ⌝ }
+{
+    match rows::insert(out, n, src, i, 64) {
+        Inserted::New => Made::Rows(n + 1),
+        Inserted::Present => Made::Rows(n),
+        Inserted::Full => Made::Over,
+    }
+}
+
+// The rows of both places, in an empty place: how many, or that they are more than 64.
+pub fn union_rows(left: &[u32], n: usize, right: &[u32], m: usize, out: &mut [u32]) -> Made
+    requires { ⌜ (n * stride ≤ length (now left)) × (m ≤ 64) × (m * stride ≤ length (now right)) × (ascending (firstRows (now right) m) ≡ true) × Blank (now out) ⌝ }
+    ensures { λ r. ⌜ ((w : ℕ) → Place w (now (left .entry)) n → Place w (now (right .entry)) m → Makes (unionRows (relationIn w (now (left .entry)) n) (relationIn w (now (right .entry)) m)) (now (out .exit)) r) ⌝ }
+{
+    rows::copy_run(right, 0, out, 0, m * STRIDE);
+    let mut count = m;
+    let mut i = n;
+    while 0 < i {
+        i -= 1;
+        match put_row(out, count, left, i) {
+            Made::Rows(more) => {
+                count = more;
+            }
+            Made::Over => {
+                return Made::Over;
+            }
+        }
+    }
+    Made::Rows(count)
 }
