@@ -19,7 +19,7 @@ use Rattle.model.specs.Areas.{layout, fields, heldIn, unusedZero, goodPlace, pa
 use Rattle.model.proofs.Sets.{Ascending, ascending-holds, and-first, and-second}
 use Rattle.rows.specs.Rows.{rowAt, rowsFrom, firstRows, words, stored}
 use Rattle.rows.proofs.Words.{Wide, length-row, length-words, rows-words, words-append, rows-snoc, keep-append, wide-keep, wide-rows, stored-push, paste-sets, fields-part, drop-zeros}
-use Rattle.rows.proofs.Place.{held-wide, length-held, place-words, placed-words, wide-padded, words-map}
+use Rattle.rows.proofs.Place.{held-wide, length-held, length-map-padded, place-words, placed-words, wide-padded, words-map}
 use Rattle.rows.proofs.Padding.{ascending-padded, keep-padded, field-padded, member-padded}
 use Rattle.algebra.specs.Places.{relationIn, Place, Blank, passesRow, OperandIn, Selects, Fills, Kept}
 
@@ -49,16 +49,12 @@ module _ (w : ℕ) (s : List ℕ) (n : ℕ) (p : Place w s n) where
       sym (take-all 256 s (omega (arith, p .long)))
       ∙ place-words layout w s 0 n (p .narrow) place-few (omega (arith, p .long)) (and-second (leb n 64 && ascending (relationIn w s n)) (unusedZero layout w n s 0) (p .good))
 
-pub length-padded : (r : Relation) → length (map (padded 4) r) ≡ length r
-length-padded [] = refl
-length-padded (x ∷ r) = ap suc (length-padded r)
-
 -- the rows of a place, padded
 pub placed-rows : (w : ℕ) (rel : Relation) → w ≤ 4 → Wide w rel → length rel ≤ 64 → firstRows (placeOf layout rel) (length rel) ≡ map (padded 4) rel
 placed-rows w rel h a f =
     let l : List Row = map (padded 4) rel in
     let rest : List Row = replicate (64 - length rel) (replicate 4 0) in
-    let size : length (map (padded 4) rel) ≡ length rel = length-padded rel in
+    let size : length (map (padded 4) rel) ≡ length rel = length-map-padded 4 rel in
     ap (λ (s : List ℕ). firstRows s (length rel)) (sym (placed-words layout w rel h a f) ∙ words-append l rest)
     ∙ ap (firstRows (words l ++ words rest)) (sym size)
     ∙ rows-words 4 l (words rest) (wide-padded w 4 rel h a)
@@ -136,6 +132,11 @@ row-field zero s at k h = absurd (not-suc-le-zero h)
 row-field (suc n) s at zero h = let e : at + 0 ≡ at = omega arith in rw e
 row-field (suc n) s at (suc k) h = let e : at + suc k ≡ suc at + k = omega arith in rw e (row-field n s (suc at) k (le-of-suc-le-suc h))
 
+-- field k of row i
+pub row-cell : (s : List ℕ) (i k : ℕ) → k < 4 → getD (rowAt 4 s i) k 0 ≡ getD s (i * 4 + k) 0
+unfolding rowAt
+row-cell s i k h = row-field 4 s (i * 4) k h
+
 -- ---- the model's rows
 
 -- rows kept from a place are the model's rows kept, in their place
@@ -144,7 +145,7 @@ kept-fills w s n p q out m pl e k =
     let rel : Relation = relationIn w s n in
     let same : keep p (firstRows s n) ≡ map (padded 4) (keep q rel) = ap (keep p) (place-rows w s n pl) ∙ keep-padded 4 w p q rel (place-wide w s n pl) e in
     let wide : Wide w (keep q rel) = wide-keep w q rel (place-wide w s n pl) in
-    let count : m ≡ length (keep q rel) = k .count ∙ ap length same ∙ length-padded (keep q rel) in
+    let count : m ≡ length (keep q rel) = k .count ∙ ap length same ∙ length-map-padded 4 (keep q rel) in
     let few : m ≤ 64 = omega (arith, k .few, place-few w s n pl) in
     record {
       count = count;

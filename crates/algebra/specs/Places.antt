@@ -1,16 +1,20 @@
 -- Relations in places of 64 rows: what the operators read and leave.
 use mathlib.Core.Path.{_≡_}
-use mathlib.Core.Bool.{Bool, true, false}
+use mathlib.Core.Bool.{Bool, true, false, cond}
 use mathlib.Core.List.{List, [], _∷_, map}
-use Prim.Native.Nat.{ℕ, _≤_, _<_}
+use Prim.Native.Nat.{ℕ, _+_, _-_, _*_, _≤_, _<_}
+use lib.Dec.{ltb}
 use lib.ListN.{length, take, getD, replicate}
-use Rattle.model.specs.Row.{Row, Relation, keep}
+use Rattle.model.specs.Row.{Row, Relation, keep, insertRow}
 use Rattle.rows.specs.Rows.{firstRows, stored}
-use Rattle.model.specs.Algebra.{holdsOf, compareFields}
+use Rattle.model.specs.Algebra.{holdsOf, compareFields, agree}
 use Rattle.model.specs.Network as model
-use Rattle.model.specs.Areas.{layout, heldIn, goodPlace, placeOf}
+use Rattle.model.specs.Network.{columnsBelow, pairsBelow}
+use Rattle.nodes.specs.Nodes.{pairsOf}
+use Rattle.model.specs.Areas.{layout, heldIn, goodPlace, padded, placeOf}
 use Rattle.nodes.specs.declared.Operand.{Operand}
 use Rattle.algebra.specs.declared.Made.{Made}
+use Rattle.algebra.specs.declared.Joining.{Joining}
 use Rattle.algebra.specs.declared.Made.the-variants.{Rows, Over}
 use Rattle.nodes.specs.declared.Operand.the-variants.{Constant, Column}
 
@@ -76,3 +80,36 @@ Stored l out Over = (64 < length l) × (length out ≡ 256)
 abbrev pub Makes : Relation → List ℕ → Made → Type 0
 Makes rel out (Rows n) = Fills rel out n
 Makes rel out Over = (64 < length rel) × (length out ≡ 256)
+
+-- ---- rows made of rows
+
+-- a column of a left row of that many fields followed by a right row, each in words
+abbrev pub joinedField : ℕ → Row → Row → ℕ → ℕ
+joinedField split l r c = cond (ltb c split) (getD l c 0) (getD r (c - split) 0)
+
+-- the named columns of it, then zeros
+abbrev pub joinedRow : ℕ → List ℕ → Row → Row → Row
+joinedRow split columns l r = padded 4 (map (joinedField split l r) columns)
+
+-- the rows of a put into b, from the last to the first
+abbrev pub insertAll : List Row → List Row → List Row
+insertAll [] b = b
+insertAll (r ∷ a) b = insertRow r (insertAll a b)
+
+-- a left row with each right row that agrees
+abbrev pub joinedWith : Joining → List Row → Row → List Row
+joinedWith how right l = map (joinedRow (how .split) (take (how .n) (how .columns)) l) (keep (agree (pairsOf (how .p) (how .pairs)) l) right)
+
+-- a join's columns are inside the words of its rows
+pub record JoinFits (how : Joining) : Type 0 where
+  pub split : how .split ≤ 4
+  pub pairs-long : 2 * how .p ≤ length (how .pairs)
+  pub pairs : pairsBelow 4 4 (pairsOf (how .p) (how .pairs)) ≡ true
+  pub few : how .n ≤ 4
+  pub columns-long : how .n ≤ length (how .columns)
+  pub columns : columnsBelow (how .split + 4) (take (how .n) (how .columns)) ≡ true
+
+-- a join's columns are inside its rows, the right ones of a width
+pub record JoinsIn (how : Joining) (w : ℕ) : Type 0 where
+  pub pairs : pairsBelow (how .split) w (pairsOf (how .p) (how .pairs)) ≡ true
+  pub columns : columnsBelow (how .split + w) (take (how .n) (how .columns)) ≡ true

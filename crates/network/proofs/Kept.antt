@@ -11,18 +11,12 @@ use Rattle.model.specs.Network as model
 use Rattle.model.specs.Network.{kindOf}
 use Rattle.model.specs.Record.{Bytes}
 use Rattle.model.specs.Calls.{ReadAnswer, readCall}
+use Rattle.rows.proofs.Padding.{padded-more}
 use Rattle.network.specs.Reading.{Ends, slotNode, noSlot, nodesOf, verdictOf, readingOf, answerOf, Built, ReadsNetwork}
 use Rattle.network.specs.declared.Network.{Network}
 use Rattle.network.specs.declared.Reading.{Reading}
 use Rattle.network.specs.declared.Slot.{Slot}
 use Rattle.network.proofs.Building.{zero-at}
-
--- one number more, at the place of the first zero
-pub padded-more : (n : ℕ) (l : List ℕ) (x i : ℕ) → length l ≡ i → i < n → set (padded n l) i x ≡ padded n (l ++ (x ∷ []))
-padded-more n l x i e h =
-    let f : n - length l ≡ suc (n - (length l + 1)) = omega arith in
-    let g : length (l ++ (x ∷ [])) ≡ length l + 1 = length-append l (x ∷ []) in
-    rw (f, g) (set-at l 0 (replicate (n - (length l + 1)) 0) x i e ∙ sym (append-assoc l (x ∷ []) (replicate (n - (length l + 1)) 0)))
 
 -- a list that ends in zeros is its first numbers, padded
 pub ends-padded : (n count : ℕ) (l : List ℕ) → length l ≡ n → count ≤ n → Ends count l → l ≡ padded n (take count l)

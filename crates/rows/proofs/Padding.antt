@@ -1,18 +1,25 @@
 -- Rows padded with zeros to a number of words: the order, membership and each set operation are those of the rows. For rows of any width. Assumes nothing.
 use mathlib.Core.Path.{_≡_, refl, sym, ap, ap₂, _∙_}
 use mathlib.Core.Bool.{Bool, true, false, not, _&&_, _||_}
-use mathlib.Core.List.{List, [], _∷_, _++_, map}
+use mathlib.Core.List.{List, [], _∷_, _++_, map, append-assoc}
 use Prim.Native.Nat.{ℕ, zero, suc, _+_, _-_, _≤_, _<_, compare, Ordering, Ordering·lt, Ordering·eq, Ordering·gt}
 use native.Mathlib.Omega.{arith}
 use lib.Dec.{isEq}
-use lib.ListN.{length, getD, take, drop, replicate, List·getD-append, List·getD-eq-default, length-replicate}
-use lib.Seq.{take-at, getD-append-add}
+use lib.ListN.{length, length-append, getD, set, take, drop, replicate, List·getD-append, List·getD-eq-default, length-replicate}
+use lib.Seq.{set-at, take-at, getD-append-add}
 use Rattle.model.specs.Row.{Row, Relation, andThen, order, isLess, sameRow, belowFirst, ascending, member, place, insertRow, keepIf, keep, setOf, deleteRow}
 use Rattle.model.specs.Algebra.{unionRows, differenceRows, intersectRows}
 use Rattle.model.specs.Areas.{padded}
 use Rattle.model.proofs.Order.{order-refl}
 use Rattle.rows.proofs.Words.{Wide, wide-insert}
 use Rattle.rows.proofs.Place.{wide-append}
+
+-- one number more, at the place of the first zero
+pub padded-more : (n : ℕ) (l : List ℕ) (x i : ℕ) → length l ≡ i → i < n → set (padded n l) i x ≡ padded n (l ++ (x ∷ []))
+padded-more n l x i e h =
+    let f : n - length l ≡ suc (n - (length l + 1)) = omega arith in
+    let g : length (l ++ (x ∷ [])) ≡ length l + 1 = length-append l (x ∷ []) in
+    rw (f, g) (set-at l 0 (replicate (n - (length l + 1)) 0) x i e ∙ sym (append-assoc l (x ∷ []) (replicate (n - (length l + 1)) 0)))
 
 order-append : (r s z : Row) → length r ≡ length s → order (r ++ z) (s ++ z) ≡ order r s
 order-append [] [] z e = order-refl z
@@ -35,6 +42,10 @@ module _ (n : ℕ) where
   -- a field of the row is the same field of the padded one
   pub field-padded : (r : Row) (k : ℕ) → k < length r → getD (padded n r) k 0 ≡ getD r k 0
   field-padded r k h = List·getD-append r (replicate (n - length r) 0) 0 k h
+
+  pub map-append : (a b : List Row) → map (padded n) (a ++ b) ≡ map (padded n) a ++ map (padded n) b
+  map-append [] b = refl
+  map-append (r ∷ a) b = ap (λ (l : List Row). padded n r ∷ l) (map-append a b)
 
   module _ (w : ℕ) where
     pub same-padded : (r s : Row) → length r ≡ w → length s ≡ w → sameRow (padded n r) (padded n s) ≡ sameRow r s
@@ -89,10 +100,6 @@ module _ (n : ℕ) where
     pub intersect-padded : (a b : Relation) → Wide w a → Wide w b → intersectRows (map (padded n) a) (map (padded n) b) ≡ map (padded n) (intersectRows a b)
     unfolding intersectRows
     intersect-padded a b h g = keep-padded (λ s. member s (map (padded n) b)) (λ s. member s b) a h (λ s f. member-padded s b f g)
-
-    map-append : (a b : List Row) → map (padded n) (a ++ b) ≡ map (padded n) a ++ map (padded n) b
-    map-append [] b = refl
-    map-append (r ∷ a) b = ap (λ (l : List Row). padded n r ∷ l) (map-append a b)
 
     pub union-padded : (a b : Relation) → Wide w a → Wide w b → unionRows (map (padded n) a) (map (padded n) b) ≡ map (padded n) (unionRows a b)
     unfolding unionRows

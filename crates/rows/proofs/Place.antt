@@ -119,14 +119,14 @@ pub wide-append : (w : ℕ) (a b : List Row) → Wide w a → Wide w b → Wide 
 wide-append w [] b ha hb = hb
 wide-append w (r ∷ a) b ha hb = (ha .0, wide-append w a b (ha .1) hb)
 
-length-padded : (n : ℕ) (r : Row) → length r ≤ n → length (padded n r) ≡ n
+pub length-padded : (n : ℕ) (r : Row) → length r ≤ n → length (padded n r) ≡ n
 length-padded n r h = length-append r (replicate (n - length r) 0) ∙ rw length-replicate (omega arith)
 
 pub wide-padded : (w n : ℕ) (l : List Row) → w ≤ n → Wide w l → Wide n (map (padded n) l)
 wide-padded w n [] h a = tt
 wide-padded w n (r ∷ l) h a = (length-padded n r (rw (a .0) h), wide-padded w n l h (a .1))
 
-length-map-padded : (n : ℕ) (l : List Row) → length (map (padded n) l) ≡ length l
+pub length-map-padded : (n : ℕ) (l : List Row) → length (map (padded n) l) ≡ length l
 length-map-padded n [] = refl
 length-map-padded n (r ∷ l) = ap suc (length-map-padded n l)
 
