@@ -1,3 +1,4 @@
 pub mod Joins
 pub mod Places
 pub mod Puts
+pub mod Inside

@@ -3,3 +3,4 @@ pub mod Sets
 pub mod Algebra
 pub mod Build
 pub mod Delta
+pub mod Fits

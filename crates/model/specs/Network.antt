@@ -1,10 +1,11 @@
 -- Networks: document 01, "Rows, nodes, levels", "Records", and refusals 2 to 7.
 use mathlib.Core.Bool.{Bool, true, false, not, _&&_, cond}
 use mathlib.Core.List.{List, [], _∷_, _++_}
-use Prim.Native.Nat.{ℕ, zero, suc, _+_, _*_, max}
+use mathlib.Core.Path.{_≡_}
+use Prim.Native.Nat.{ℕ, zero, suc, _+_, _*_, max, _<_}
 use lib.Dec.{leb, ltb, eqb}
-use lib.ListN.{getD, length, set}
-use Rattle.model.specs.Row.{maxWidth, maxNodes, allOf, isEmpty}
+use lib.ListN.{getD, length, set, take}
+use Rattle.model.specs.Row.{maxWidth, maxNodes, allOf, isEmpty, place}
 use Rattle.model.specs.Algebra.{Pair}
 use Rattle.model.specs.Record.{Bytes, u32, lengthAt, kindAt, fieldAt, fieldsAt, isBroken, offsets, Verdict, accepted, refused, Rule, rule, firstBroken}
 
@@ -255,6 +256,10 @@ nodeFits ws (join l r pairs columns) =
     && pairsBelow (getD ws l 0) (getD ws r 0) pairs
     && columnsBelow (getD ws l 0 + getD ws r 0) columns
 nodeFits ws (setOperation o l r) = ltb l (length ws) && ltb r (length ws) && eqb (getD ws l 0) (getD ws r 0)
+
+-- in a network that reading accepts each node's fields are right, given the widths of the nodes before it
+abbrev pub AllFit : List Node → Type 0
+AllFit nodes = (i : ℕ) → i < length nodes → nodeFits (take i (widths nodes)) (nodeAt nodes i) ≡ true
 
 -- "names an earlier node, and a node has at most one"; signs are those of the nodes before it
 unfoldable pub watchFits : List ℕ → Watch → Bool

@@ -7,18 +7,20 @@ use native.Mathlib.Nat.{le-trans, le-refl, not-suc-le-zero, le-of-suc-le-suc}
 use native.Mathlib.Numerals.{add-one}
 use native.Mathlib.Omega.{arith}
 use lib.ListN.{length, getD, set, take, drop, replicate, length-set}
-use lib.Seq.{take-suc, take-suc-set, take-set-lt, getD-take, getD-set-other}
+use lib.Seq.{take-suc, take-suc-set, take-set-lt, getD-take, getD-set-other, getD-set-same}
+use lib.Dec.{ltb}
+use borrow.Author.Tests.{ltb-false, ltb-true}
 use Rattle.model.specs.Record.{Bytes, fieldsAt}
-use Rattle.model.specs.Network as model
-use Rattle.model.specs.Network.{nodeItem, watchItem, isTable, inputsOf, highest, widthOf, levelOf, noNetwork, withItem}
+use Rattle.model.specs.Network.{nodeItem, watchItem, isTable, inputsOf, highest, widthOf, levelOf, noNetwork, withItem, levels, widths}
 use Rattle.model.proofs.Build.{build-more}
 use Rattle.nodes.specs.Nodes.{nodeAt, NodeFits, Narrow}
-use Rattle.network.specs.Reading.{slotNode, nodesOf, networkOf, Sound, Built, Extends, NextSlot, InputsBelow, widthIn, levelIn, Ends}
+use Rattle.network.specs.Reading.{slotNode, nodesOf, networkOf, Sound, Built, Extends, NextSlot, InputsBelow, widthIn, levelIn, Ends, Shaped, noSlot, CountsFit}
 use Rattle.nodes.specs.declared.Node.{Node}
 use Rattle.nodes.specs.declared.Node.the-variants.{Table, Select, Project, Join, Set}
 use Rattle.network.specs.declared.Slot.{Slot}
 use Rattle.network.specs.declared.Network.{Network}
 use Rattle.nodes.proofs.Lists.{length-fieldsAt}
+use Rattle.model.specs.Network as model
 
 -- ---- bounds of a list with one element changed
 
@@ -88,6 +90,16 @@ module _ (net : Network) (slot : Slot) (width level : ℕ) (next : NextSlot net 
             ∙ sym (ap model.levels nodes-grown ∙ levels-more (nodesOf net) (slotNode slot));
       }
 
+  shaped-grown : (i : ℕ) → i < net .count + 1 → Shaped (getD (set (net .slots) (net .count) slot) i noSlot)
+  shaped-grown i h = go (ltb i (net .count)) refl
+    where
+      go : (t : Bool) → ltb i (net .count) ≡ t → Shaped (getD (set (net .slots) (net .count) slot) i noSlot)
+      go true e = let k : i < net .count = ltb-true i (net .count) e in rw (getD-set-other (net .slots) (net .count) i slot noSlot (omega arith)) (next .built .shaped i k)
+      go false e =
+          let k : net .count ≤ i = ltb-false i (net .count) e in
+          let same : i ≡ net .count = omega arith in
+          rw (same, getD-set-same (net .slots) (net .count) slot noSlot (omega (arith, next .room, next .built .slots-length))) (next .shaped)
+
   pub extends-node : Extends net (nodeItem (slotNode slot)) grown
   extends-node =
       record {
@@ -97,6 +109,7 @@ module _ (net : Network) (slot : Slot) (width level : ℕ) (next : NextSlot net 
           levels-length = length-set (net .levels) (net .count) level ∙ next .built .levels-length;
           signs-length = next .built .signs-length;
           sound = sound-grown;
+          shaped = shaped-grown;
           narrow = set-below (λ i. 4) (net .widths) (net .count) width (next .built .narrow) (next .narrow);
           low = set-below (λ i. i) (net .levels) (net .count) level (next .built .low) (next .low);
           unwatched = λ i h. next .built .unwatched i (omega arith);
@@ -118,6 +131,7 @@ module _ (net : Network) (node sign : ℕ) (b : Built net) (within : node < net 
           levels-length = b .levels-length;
           signs-length = length-set (net .signs) node sign ∙ b .signs-length;
           sound = record { few = b .sound .few; widths = b .sound .widths; levels = b .sound .levels };
+          shaped = b .shaped;
           narrow = b .narrow;
           low = b .low;
           unwatched = λ i h. getD-set-other (net .signs) node i sign 0 (omega arith) ∙ b .unwatched i h;
@@ -136,6 +150,9 @@ fits-inputs (Select i c k o) count m bs at f h = omega arith
 fits-inputs (Project i n) count m bs at f h = omega (arith, f .0)
 fits-inputs (Join l r p n) count m bs at f h = (omega (arith, f .0), omega (arith, f .1))
 fits-inputs (Set o l r) count m bs at f h = (omega (arith, f .0), omega (arith, f .1))
+
+pub counts-are : (n m : Node) → n ≡ m → CountsFit m → CountsFit n
+counts-are n m e f = rw e f
 
 pub width-agrees : (n : Node) (ws : List ℕ) (count : ℕ) (bs : Bytes) (at : ℕ) → NodeFits n count bs at → widthIn n ws ≡ widthOf (nodeAt n bs at) (take count ws)
 width-agrees (Table w) ws count bs at f = refl
@@ -175,11 +192,12 @@ level-low (Set o l r) ls count bs at f h = omega (arith, h l, h r, f .0, f .1)
 
 -- the node that comes next, from the arrays
 pub next-slot : (net : Network) (n : Node) (bs : Bytes) (at : ℕ) (slot : Slot) (width level : ℕ) → Built net → net .count < 32 → NodeFits n (net .count) bs at →
-    slotNode slot ≡ nodeAt n bs at → width ≡ widthIn n (net .widths) → level ≡ levelIn n (net .levels) → NextSlot net slot width level
-next-slot net n bs at slot width level b room f s w l =
+    slotNode slot ≡ nodeAt n bs at → Shaped slot → width ≡ widthIn n (net .widths) → level ≡ levelIn n (net .levels) → NextSlot net slot width level
+next-slot net n bs at slot width level b room f s shape w l =
     record {
       built = b;
       room = room;
+      shaped = shape;
       width-is = w ∙ width-agrees n (net .widths) (net .count) bs at f ∙ ap₂ {A = model.Node} {B = List ℕ} {C = ℕ} (λ x ws. widthOf x ws) (sym s) (b .sound .widths);
       level-is = l ∙ level-agrees n (net .levels) (net .count) bs at f ∙ ap₂ {A = model.Node} {B = List ℕ} {C = ℕ} (λ x ls. levelOf x ls) (sym s) (b .sound .levels);
       narrow = rw w (width-narrow n (net .widths) (net .count) bs at f (b .narrow));

@@ -45,6 +45,20 @@ verdictOf v = record { number = v .number; place = v .place }
 abbrev pub readingOf : Reading → model.Reading
 readingOf r = record { verdict = verdictOf (r .verdict); network = networkOf (r .network) }
 
+-- a node's numbers of columns and of pairs are those that its slot has room for
+abbrev pub CountsFit : Node → Type 0
+CountsFit (Table w) = Unit {0}
+CountsFit (Select i c k o) = Unit {0}
+CountsFit (Project i n) = n ≤ 4
+CountsFit (Join l r p n) = (p ≤ 2) × (n ≤ 4)
+CountsFit (Set o l r) = Unit {0}
+
+-- a slot has room for its node's columns and pairs
+pub record Shaped (s : Slot) : Type 0 where
+  pub columns-length : length (s .columns) ≡ 4
+  pub pairs-length : length (s .pairs) ≡ 4
+  pub counts : CountsFit (s .node)
+
 -- the arrays beside the nodes hold their widths and levels
 pub record Sound (net : Network) : Type 0 where
   pub few : net .count ≤ 32
@@ -62,6 +76,7 @@ pub record Built (net : Network) : Type 0 where
   pub levels-length : length (net .levels) ≡ 32
   pub signs-length : length (net .signs) ≡ 32
   pub sound : Sound net
+  pub shaped : (i : ℕ) → i < net .count → Shaped (getD (net .slots) i noSlot)
   pub narrow : Narrow (net .widths)
   pub low : (i : ℕ) → getD (net .levels) i 0 ≤ i
   pub unwatched : Ends (net .count) (net .signs)
@@ -106,6 +121,7 @@ InputsBelow (Set o l r) n = (l < n) × (r < n)
 pub record NextSlot (net : Network) (slot : Slot) (width level : ℕ) : Type 0 where
   pub built : Built net
   pub room : net .count < 32
+  pub shaped : Shaped slot
   pub width-is : width ≡ model.widthOf (slotNode slot) (model.widths (nodesOf net))
   pub level-is : level ≡ model.levelOf (slotNode slot) (model.levels (nodesOf net))
   pub narrow : width ≤ 4

@@ -8,7 +8,7 @@ ghost use Rattle.model.specs.Record.{fieldsAt};
 ghost use Rattle.model.specs.Areas.{padded};
 ghost use Rattle.model.specs.Calls.{readCall};
 ghost use Rattle.nodes.specs.Nodes.{nodeAt, NodeFits, broughtBy};
-ghost use Rattle.network.specs.Reading.{ReadsNetwork, slotNode, InputsBelow, widthIn, levelIn, Built, Extends, NextSlot, Follows, nodesOf, networkOf, readingOf, answerOf};
+ghost use Rattle.network.specs.Reading.{ReadsNetwork, slotNode, Shaped, InputsBelow, widthIn, levelIn, Built, Extends, NextSlot, Follows, nodesOf, networkOf, readingOf, answerOf};
 use nodes::Item;
 use nodes::MAX_NODES;
 use nodes::MAX_WIDTH;
@@ -62,7 +62,7 @@ fn fields_of(bytes: &[u8], at: usize, k: usize, n: usize) -> [usize; MAX_WIDTH]
 // A node with its lists, read from its record.
 fn slot_at(bytes: &[u8], at: usize, node: Node, count: usize) -> Slot
     requires { ⌜ NodeFits node count (now bytes) at ⌝ }
-    ensures { λ r. ⌜ slotNode r ≡ nodeAt node (now (bytes .entry)) at ⌝ }
+    ensures { λ r. ⌜ (slotNode r ≡ nodeAt node (now (bytes .entry)) at) × Shaped r ⌝ }
 {
     let none = [0usize; MAX_WIDTH];
     match node {

@@ -1,11 +1,12 @@
 use mathlib.Core.Path.{_≡_, refl}
-use lib.ListN.{length, getD, replicate}
-use Rattle.model.specs.Network as model
-use Rattle.model.specs.Network.{build}
-use Rattle.network.proofs.Building.{zero-at}
 use native.Mathlib.Omega.{arith}
+use native.Mathlib.Nat.{not-suc-le-zero}
+use lib.ListN.{length, getD, replicate}
 use borrow.Author.Needs.{needs}
+use Rattle.model.specs.Network.{build, levels, widths}
+use Rattle.network.proofs.Building.{zero-at}
 use Rattle.network.proofs.no_network.Statement.{statement}
+use Rattle.model.specs.Network as model
 use Rattle.network.proofs.no_network.Tie as tie
 use Rattle.network.proofs.no_network.Reads as reads
 use Rattle.network.proofs.no_network.Lts as lts
@@ -19,6 +20,7 @@ returns c = (
     levels-length = refl;
     signs-length = refl;
     sound = record { few = omega arith; widths = refl; levels = refl };
+    shaped = λ i h. absurd (not-suc-le-zero h);
     narrow = λ i. omega (arith, zero-at 32 i);
     low = λ i. omega (arith, zero-at 32 i);
     unwatched = λ i h. zero-at 32 i;

@@ -1,13 +1,14 @@
 use mathlib.Core.Path.{_≡_, refl, sym, ap, _∙_}
 use Prim.Native.Nat.{ℕ, _+_, _-_, _*_, _≤_, _<_}
+use native.Mathlib.Omega.{arith}
 use lib.ListN.{length, take}
+use borrow.Author.Needs.{needs}
 use Rattle.model.specs.Network.{pairsAt}
 use Rattle.nodes.specs.Nodes.{NodeFits, nodeAt, nodeOf, pairsOf}
 use Rattle.network.specs.Reading.{slotNode}
 use Rattle.nodes.proofs.Lists.{pairs-fields, pairs-take}
-use native.Mathlib.Omega.{arith}
-use borrow.Author.Needs.{needs}
 use Rattle.network.proofs.slot_at.Statement.{statement}
+use Rattle.network.proofs.Building.{counts-are}
 use Rattle.network.proofs.slot_at.Tie as tie
 use Rattle.network.proofs.slot_at.Reads as reads
 use Rattle.network.proofs.slot_at.Lts as lts
@@ -47,7 +48,9 @@ enum-told-3 : tie.Need-enum-told-3
 enum-told-3 c = search needs
 
 returns : tie.Need-returns
-returns c = rw (c .before .before .node .given .1, c .fields-of .ensures .0)
+returns c =
+    let f = rw (c .before .before .node .given .1) at (c .before .before .before .before .before .pre) in
+    (rw (c .before .before .node .given .1, c .fields-of .ensures .0), record { columns-length = c .fields-of .ensures .1; pairs-length = refl; counts = f .1 })
 
 returns-2 : tie.Need-returns-2
 returns-2 c =
@@ -56,16 +59,16 @@ returns-2 c =
     let p : ℕ = c .before .before .before .node2 .given .0 .1 .1 .0 in
     let pairs : pairsOf p (c .before .fields-of2 .result) ≡ pairsAt (a .bytes .now) (a .at) 3 p =
     pairs-take p (c .before .fields-of2 .result) (omega (arith, f .2, c .before .fields-of2 .ensures .1)) ∙ ap (pairsOf p) (c .before .fields-of2 .ensures .0) ∙ pairs-fields (a .bytes .now) (a .at) 3 p in
-    rw (c .before .before .before .node2 .given .1, pairs, c .fields-of3 .ensures .0)
+    (rw (c .before .before .before .node2 .given .1, pairs, c .fields-of3 .ensures .0), record { columns-length = c .fields-of3 .ensures .1; pairs-length = c .before .fields-of2 .ensures .1; counts = (f .2, f .3) })
 
 returns-3 : tie.Need-returns-3
-returns-3 c = rw (c .enum-told .given .1)
+returns-3 c = (rw (c .enum-told .given .1), record { columns-length = refl; pairs-length = refl; counts = counts-are _ _ (c .enum-told .given .1) tt })
 
 returns-4 : tie.Need-returns-4
-returns-4 c = rw (c .enum-told2 .given .1)
+returns-4 c = (rw (c .enum-told2 .given .1), record { columns-length = refl; pairs-length = refl; counts = counts-are _ _ (c .enum-told2 .given .1) tt })
 
 returns-5 : tie.Need-returns-5
-returns-5 c = rw (c .enum-told3 .given .1)
+returns-5 c = (rw (c .enum-told3 .given .1), record { columns-length = refl; pairs-length = refl; counts = counts-are _ _ (c .enum-told3 .given .1) tt })
 
 pub slot-at-spec : {M : Type 1} → statement M
 slot-at-spec =

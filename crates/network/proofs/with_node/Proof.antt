@@ -23,10 +23,10 @@ level-of-requires c κs =
     (fits-inputs (a .node) (a .t1 .count) _ (a .bytes .now) (a .at) (c .before .before .before .before .before .before .before .before .before .pre .2) (rw (c .before .before .before .before .before .before .before .before .before .pre .0 .levels-length) (omega (arith, c .before .before .before .before .before .before .before .before .before .pre .1))), c .before .before .before .before .before .before .before .before .before .pre .0 .low, rw (c .before .before .before .before .before .before .before .before .before .pre .0 .levels-length) (omega arith))
 
 with-slot-requires : tie.Need-with-slot-requires
-with-slot-requires c κs = let a = c .before .before .before .before .before .before .before .before .before .before .args in next-slot (a .t1) (a .node) (a .bytes .now) (a .at) (c .before .before .before .before .before .before .before .before .slot-at .result) (c .before .before .before .before .width-of .result) (c .level-of .result) (c .before .before .before .before .before .before .before .before .before .before .pre .0) (c .before .before .before .before .before .before .before .before .before .before .pre .1) (c .before .before .before .before .before .before .before .before .before .before .pre .2) (c .before .before .before .before .before .before .before .before .slot-at .ensures) (c .before .before .before .before .width-of .ensures) (c .level-of .ensures)
+with-slot-requires c κs = let a = c .before .before .before .before .before .before .before .before .before .before .args in next-slot (a .t1) (a .node) (a .bytes .now) (a .at) (c .before .before .before .before .before .before .before .before .slot-at .result) (c .before .before .before .before .width-of .result) (c .level-of .result) (c .before .before .before .before .before .before .before .before .before .before .pre .0) (c .before .before .before .before .before .before .before .before .before .before .pre .1) (c .before .before .before .before .before .before .before .before .before .before .pre .2) (c .before .before .before .before .before .before .before .before .slot-at .ensures .0) (c .before .before .before .before .before .before .before .before .slot-at .ensures .1) (c .before .before .before .before .width-of .ensures) (c .level-of .ensures)
 
 returns : tie.Need-returns
-returns c = as-item (c .before .before .before .before .before .before .before .before .before .slot-at .ensures) (c .with-slot .ensures)
+returns c = as-item (c .before .before .before .before .before .before .before .before .before .slot-at .ensures .0) (c .with-slot .ensures)
 
 pub with-node-spec : {M : Type 1} → statement M
 with-node-spec =

@@ -1,0 +1,93 @@
+-- A network that reading accepts: each node's fields are right, given the nodes before it. Assumes nothing.
+use mathlib.Core.Bool.{_&&_, Bool, cond, false, not, true}
+use mathlib.Core.List.{_++_, List, [], _∷_}
+use mathlib.Core.Path.{ap, refl, sym, _∙_, _≡_}
+use Prim.Native.Nat.{_+_, _<_, suc, zero, ℕ, _≤_}
+use native.Mathlib.Omega.{arith}
+use native.Mathlib.Nat.{le-of-suc-le-suc, not-suc-le-zero}
+use lib.ListN.{List·getD-append, length, length-append, take}
+use lib.Dec.{eqb, leb, ltb}
+use lib.Seq.{getD-at, take-at}
+use borrow.Author.Tests.{eqb-true, ltb-false, ltb-true}
+use Rattle.model.specs.Network.{AllFit, Item, Kind, Network, Node, hasShape, isUnknown, isWatch, itemAt, itemFits, kindNumbered, noNetwork, nodeAt, nodeFits, nodeItem, readNetwork, readRecords, recordFault, refusedReading, table, watchItem, widthOf, widths, withItem}
+use Rattle.model.specs.Record.{Bytes, firstBroken, isBroken, kindAt, offsets, rule}
+use Rattle.model.proofs.Build.{build-more, length-build}
+use Rattle.model.specs.Row.{isEmpty, maxNodes}
+
+-- rule 7 of a record that breaks none
+last-holds : (a b c d e : Bool) → firstBroken (rule 3 a ∷ rule 4 b ∷ rule 5 c ∷ rule 6 d ∷ rule 7 (not e) ∷ []) ≡ 0 → e ≡ true
+last-holds true b c d e h = absurd (omega arith)
+last-holds false true c d e h = absurd (omega arith)
+last-holds false false true d e h = absurd (omega arith)
+last-holds false false false true e h = absurd (omega arith)
+last-holds false false false false true h = refl
+last-holds false false false false false h = absurd (omega arith)
+
+fault-fits : (ws signs : List ℕ) (bs : Bytes) (at : ℕ) → recordFault ws signs bs at ≡ 0 → itemFits ws signs (itemAt (kindNumbered (kindAt bs at)) bs at) ≡ true
+unfolding recordFault
+fault-fits ws signs bs at e =
+    let kind : Kind = kindNumbered (kindAt bs at) in
+    last-holds (isBroken bs at) (isUnknown kind) (not (isWatch kind) && leb maxNodes (length ws)) (not (hasShape kind bs at)) (itemFits ws signs (itemAt kind bs at)) e
+
+pub widths-more : (nodes : List Node) (n : Node) → widths (nodes ++ (n ∷ [])) ≡ widths nodes ++ (widthOf n (widths nodes) ∷ [])
+unfolding widths
+widths-more nodes n = build-more widthOf nodes n
+
+pub length-widths : (nodes : List Node) → length (widths nodes) ≡ length nodes
+unfolding widths
+length-widths nodes = length-build widthOf nodes
+
+take-front : (k : ℕ) (a b : List ℕ) → k ≤ length a → take k (a ++ b) ≡ take k a
+take-front zero a b h = refl
+take-front (suc k) [] b h = absurd (not-suc-le-zero h)
+take-front (suc k) (x ∷ a) b h = ap (λ (l : List ℕ). x ∷ l) (take-front k a b (le-of-suc-le-suc h))
+
+-- one node more that fits
+fit-more : (nodes : List Node) (n : Node) → AllFit nodes → nodeFits (widths nodes) n ≡ true → AllFit (nodes ++ (n ∷ []))
+fit-more nodes n all f i h = go (ltb i (length nodes)) refl
+  where
+    new : take i (widths (nodes ++ (n ∷ []))) ≡ take i (widths nodes ++ (widthOf n (widths nodes) ∷ []))
+    new = ap (take i) (widths-more nodes n)
+
+    size : length (nodes ++ (n ∷ [])) ≡ length nodes + 1
+    size = length-append nodes (n ∷ [])
+
+    go : (t : Bool) → ltb i (length nodes) ≡ t → nodeFits (take i (widths (nodes ++ (n ∷ [])))) (nodeAt (nodes ++ (n ∷ [])) i) ≡ true
+    go true e =
+        let k : i < length nodes = ltb-true i (length nodes) e in
+        let ws : take i (widths (nodes ++ (n ∷ []))) ≡ take i (widths nodes) = new ∙ take-front i (widths nodes) (widthOf n (widths nodes) ∷ []) (rw (length-widths nodes) (omega arith)) in
+        rw (ws, List·getD-append nodes (n ∷ []) (table 0) i k) (all i k)
+    go false e =
+        let k : length nodes ≤ i = ltb-false i (length nodes) e in
+        let at : i ≡ length nodes = omega (arith, size) in
+        let ws : take i (widths (nodes ++ (n ∷ []))) ≡ widths nodes = new ∙ take-at (widths nodes) (widthOf n (widths nodes) ∷ []) i (length-widths nodes ∙ sym at) in
+        rw (ws, getD-at nodes n [] (table 0) i (sym at)) f
+
+item-more : (net : Network) (item : Item) → AllFit (net .nodes) → itemFits (widths (net .nodes)) (net .signs) item ≡ true → AllFit (withItem net item .nodes)
+unfolding itemFits
+item-more net (nodeItem n) all f = fit-more (net .nodes) n all f
+item-more net (watchItem w) all f = all
+
+records-fit : (bs : Bytes) (net : Network) (ats : List ℕ) → AllFit (net .nodes) → AllFit (readRecords bs net ats .network .nodes)
+unfolding readRecords
+records-fit bs net [] all = all
+records-fit bs net (at ∷ rest) all =
+    go (eqb (recordFault (widths (net .nodes)) (net .signs) bs at) 0) refl (records-fit bs (withItem net (itemAt (kindNumbered (kindAt bs at)) bs at)) rest)
+  where
+    next : Network
+    next = withItem net (itemAt (kindNumbered (kindAt bs at)) bs at)
+
+    go : (t : Bool) → eqb (recordFault (widths (net .nodes)) (net .signs) bs at) 0 ≡ t → (AllFit (next .nodes) → AllFit (readRecords bs next rest .network .nodes)) → AllFit (cond t (readRecords bs next rest) (refusedReading (recordFault (widths (net .nodes)) (net .signs) bs at) at) .network .nodes)
+    go true e ih =
+        let none : recordFault (widths (net .nodes)) (net .signs) bs at ≡ 0 = eqb-true (recordFault (widths (net .nodes)) (net .signs) bs at) 0 e in
+        ih (item-more net (itemAt (kindNumbered (kindAt bs at)) bs at) all (fault-fits (widths (net .nodes)) (net .signs) bs at none))
+    go false e ih = λ i h. absurd (not-suc-le-zero h)
+
+-- a network that is read fits; beside a refusal it has no node
+pub read-fits : (bs : Bytes) → AllFit (readNetwork bs .network .nodes)
+unfolding readNetwork
+read-fits bs = go (isEmpty bs)
+  where
+    go : (t : Bool) → AllFit (cond t (refusedReading 2 0) (readRecords bs noNetwork (offsets bs)) .network .nodes)
+    go true = λ i h. absurd (not-suc-le-zero h)
+    go false = records-fit bs noNetwork (offsets bs) (λ i h. absurd (not-suc-le-zero h))
