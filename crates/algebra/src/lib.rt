@@ -366,14 +366,7 @@ pub struct Held {
 }
 
 // A derived node's rows from those of its inputs, in an empty place: how many, or that they are more than 64. A table's kind gives none.
-pub fn evaluate(
-    slot: Slot,
-    left: &[u32],
-    l: Held,
-    right: &[u32],
-    r: Held,
-    out: &mut [u32],
-) -> Made
+pub fn evaluate(slot: Slot, left: &[u32], l: Held, right: &[u32], r: Held, out: &mut [u32]) -> Made
     requires { ⌜ Shaped slot × Place (l .width) (now left) (l .count) × Place (r .width) (now right) (r .count) × (fitsOn (l .width) (r .width) (slotNode slot) ≡ true) × Blank (now out) ⌝ }
     ensures { λ made. ⌜ Makes (evaluateOn (slotNode slot) (relationIn (l .width) (now (left .entry)) (l .count)) (relationIn (r .width) (now (right .entry)) (r .count))) (now (out .exit)) made ⌝ }
 {

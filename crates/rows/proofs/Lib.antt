@@ -5,3 +5,4 @@ pub mod Form
 pub mod Edit
 pub mod Place
 pub mod Padding
+pub mod Checked

@@ -1,0 +1,117 @@
+-- Good form, part by part. Assumes nothing.
+use mathlib.Core.Bool.{_&&_, Bool, cond, false, true}
+use mathlib.Core.List.{List}
+use mathlib.Core.Path.{ap, ap₂, refl, sym, _∙_, _≡_}
+use Prim.Native.Nat.{_*_, _+_, _<_, suc, zero, ℕ, _≤_, _-_}
+use native.Mathlib.Omega.{arith}
+use lib.ListN.{drop, getD, length, take}
+use lib.Dec.{eqb, ltb, leb}
+use lib.Seq.{getD-take, length-take-le, slice}
+use borrow.Author.Tests.{lt-leb, ltb-true, leb-true}
+use Rattle.model.specs.Row.{allOf, countFrom, numbersBelow}
+use Rattle.model.specs.Areas.{allZero, emptyPlace, goodArea, goodPlace, heldIn, layout, goodForm, goodStamps, goodWorked, longEnough}
+use Rattle.rows.specs.Rows.{firstRows, goodRows}
+use Rattle.rows.proofs.Checked.{place-checked}
+use Rattle.rows.proofs.Form.{slice-part}
+use Rattle.areas.proofs.All.{all-ext}
+use Rattle.model.specs.Network.{Node, widths}
+use Rattle.model.proofs.Sets.{and-first, and-second}
+use Rattle.areas.specs.Lent.{countsFrom, lent}
+use Rattle.model.proofs.Fits.{length-widths}
+
+-- ---- long enough
+
+-- each test of a conjunction that fails
+pub long-first : (a b c d : Bool) → a ≡ false → false ≡ (a && b && c && d)
+long-first a b c d e = rw e
+
+pub long-second : (a b c d : Bool) → a ≡ true → b ≡ false → false ≡ (a && b && c && d)
+long-second a b c d e f = rw (e, f)
+
+pub long-third : (a b c d : Bool) → a ≡ true → b ≡ true → c ≡ false → false ≡ (a && b && c && d)
+long-third a b c d e f g = rw (e, f, g)
+
+pub long-last : (a b c d : Bool) → a ≡ true → b ≡ true → c ≡ true → (a && b && c && d) ≡ d
+long-last a b c d e f g = rw (e, f, g)
+
+-- ---- places
+
+pub too-many : (w count : ℕ) (area : List ℕ) (i : ℕ) → 64 < count → goodPlace layout w count area i ≡ false
+unfolding goodPlace
+too-many w count area i h = rw (lt-leb count 64 h)
+
+pub empty-is : (area : List ℕ) (i count : ℕ) → count ≡ 0 → goodPlace layout 0 0 area i ≡ emptyPlace layout count area i
+unfolding goodPlace emptyPlace heldIn
+empty-is area i count e = rw e
+
+pub empty-not : (area : List ℕ) (i count : ℕ) → eqb count 0 ≡ false → emptyPlace layout count area i ≡ false
+unfolding emptyPlace
+empty-not area i count e = rw e
+
+-- the part of an area that is lent as a node's place
+abbrev pub placeAt : List ℕ → ℕ → List ℕ
+placeAt area i = take (i * 256 + 256 - i * 256) (drop (i * 256) area)
+
+pub part-is : (area : List ℕ) (i : ℕ) → placeAt area i ≡ take 256 (drop (256 * i) area)
+part-is area i =
+    let e : i * 256 ≡ 256 * i = omega arith in
+    let f : i * 256 + 256 - i * 256 ≡ 256 = omega arith in
+    ap₂ {A = ℕ} {B = ℕ} {C = List ℕ} (λ a b. take a (drop b area)) f e
+
+-- what the check of a place says
+pub place-form : (w count : ℕ) (area part : List ℕ) (i : ℕ) (good clean : Bool) → w ≤ 4 → count ≤ 64 → i < 32 → 8192 ≤ length area → part ≡ take 256 (drop (256 * i) area) →
+    good ≡ goodRows w (firstRows part count) → clean ≡ allZero (slice (count * 4) 256 part) → goodPlace layout w count area i ≡ (good && clean)
+place-form w count area part i good clean narrow few h l p g z =
+    sym (place-checked w count area i narrow few (omega arith))
+    ∙ ap (λ (s : List ℕ). goodRows w (firstRows s count) && allZero (slice (count * 4) 256 s)) (sym p)
+    ∙ ap₂ {A = Bool} {B = Bool} {C = Bool} (λ a b. a && b) (sym g) (sym z)
+
+-- the place with number i is of good form
+abbrev pub nodeGood : List ℕ → ℕ → (ℕ → ℕ) → List ℕ → ℕ → Bool
+nodeGood ws n count area i = cond (ltb i n) (goodPlace layout (getD ws i 0) (count i) area i) (emptyPlace layout (count i) area i)
+
+pub area-is : (ws : List ℕ) (n : ℕ) (count : ℕ → ℕ) (area : List ℕ) → n ≤ length ws → goodArea layout (take n ws) count area ≡ allOf (nodeGood ws n count area) (numbersBelow 32)
+unfolding goodArea
+area-is ws n count area h =
+    all-ext (λ i. cond (ltb i (length (take n ws))) (goodPlace layout (getD (take n ws) i 0) (count i) area i) (emptyPlace layout (count i) area i)) (nodeGood ws n count area) 0 32 (λ i. go i (ltb i n) refl)
+  where
+    go : (i : ℕ) (t : Bool) → ltb i n ≡ t → cond (ltb i (length (take n ws))) (goodPlace layout (getD (take n ws) i 0) (count i) area i) (emptyPlace layout (count i) area i) ≡ nodeGood ws n count area i
+    go i true e = rw (length-take-le n ws h, e, getD-take n ws i 0 (ltb-true i n e))
+    go i false e = rw (length-take-le n ws h, e)
+
+-- ---- all four areas
+
+pub long-parts : (rows gained lost head : List ℕ) → longEnough layout (lent rows gained lost head) ≡ true → (8192 ≤ length rows) × (8192 ≤ length gained) × (8192 ≤ length lost) × (162 ≤ length head)
+unfolding longEnough
+long-parts rows gained lost head e =
+    let three : (leb 8192 (length rows) && leb 8192 (length gained) && leb 8192 (length lost)) ≡ true = and-first (leb 8192 (length rows) && leb 8192 (length gained) && leb 8192 (length lost)) (leb 162 (length head)) e in
+    let two : (leb 8192 (length rows) && leb 8192 (length gained)) ≡ true = and-first (leb 8192 (length rows) && leb 8192 (length gained)) (leb 8192 (length lost)) three in (
+      leb-true 8192 (length rows) (and-first (leb 8192 (length rows)) (leb 8192 (length gained)) two),
+      leb-true 8192 (length gained) (and-second (leb 8192 (length rows)) (leb 8192 (length gained)) two),
+      leb-true 8192 (length lost) (and-second (leb 8192 (length rows) && leb 8192 (length gained)) (leb 8192 (length lost)) three),
+      leb-true 162 (length head) (and-second (leb 8192 (length rows) && leb 8192 (length gained) && leb 8192 (length lost)) (leb 162 (length head)) e),
+    )
+
+-- good form from the widths alone
+pub form-is : (n : ℕ) (ws rows gained lost head : List ℕ) (nodes : List Node) → n ≤ length ws → take n ws ≡ widths nodes → goodForm layout nodes (lent rows gained lost head)
+    ≡ (goodArea layout (take n ws) (countsFrom head 1) rows && goodArea layout (take n ws) (countsFrom head 65) gained && goodArea layout (take n ws) (countsFrom head 97) lost && goodStamps n head && goodWorked n head)
+unfolding goodForm
+form-is n ws rows gained lost head nodes h e =
+    let size : length nodes ≡ n = sym (length-widths nodes) ∙ ap length (sym e) ∙ length-take-le n ws h in
+    ap₂ {A = List ℕ} {B = ℕ} {C = Bool} (λ v k. goodArea layout v (countsFrom head 1) rows && goodArea layout v (countsFrom head 65) gained && goodArea layout v (countsFrom head 97) lost && goodStamps k head && goodWorked k head) (sym e) size
+
+module _ (a b c d e : Bool) where
+  pub form-first : a ≡ false → (a && b && c && d && e) ≡ false
+  form-first f = rw f
+
+  pub form-second : a ≡ true → b ≡ false → (a && b && c && d && e) ≡ false
+  form-second f g = rw (f, g)
+
+  pub form-third : a ≡ true → b ≡ true → c ≡ false → (a && b && c && d && e) ≡ false
+  form-third f g h = rw (f, g, h)
+
+  pub form-fourth : a ≡ true → b ≡ true → c ≡ true → d ≡ false → (a && b && c && d && e) ≡ false
+  form-fourth f g h i = rw (f, g, h, i)
+
+  pub form-last : a ≡ true → b ≡ true → c ≡ true → d ≡ true → (a && b && c && d && e) ≡ e
+  form-last f g h i = rw (f, g, h, i)

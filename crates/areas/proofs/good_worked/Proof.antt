@@ -1,0 +1,70 @@
+use mathlib.Core.Bool.{cond}
+use mathlib.Core.Path.{refl, sym, _∙_}
+use Prim.Native.Nat.{_-_, _≤_}
+use native.Mathlib.Omega.{arith}
+use lib.Dec.{eqb, ltb}
+use borrow.Author.Tests.{le-leb, lt-leb, not-false, not-true}
+use borrow.Author.Needs.{needs}
+use Rattle.areas.proofs.good_worked.Statement.{statement}
+use Rattle.areas.proofs.All.{AllTo, all-done, all-more, all-none, all-not}
+use Rattle.model.specs.Areas.{goodWorked, workedAt, workedCount}
+use Rattle.areas.proofs.good_worked.Tie as tie
+use Rattle.areas.proofs.good_worked.Reads as reads
+use Rattle.areas.proofs.good_worked.Lts as lts
+use Rattle.areas.proofs.good_entry.Reads as good-entry-reads
+
+abbrev Inv-loop : tie.InvT-loop
+Inv-loop head n k₀ k = (k ≤ 32) × AllTo (λ j. cond (ltb j (workedCount head)) (ltb (workedAt head j) n) (eqb (workedAt head j) 0)) 32 k
+
+abbrev μ-loop : tie.MeasureT-loop
+μ-loop head n k₀ k = 32 - k
+
+shared-slice-read-if1 : tie.Need-shared-slice-read-if1 Inv-loop μ-loop
+shared-slice-read-if1 c = omega arith
+
+cast-if1 : tie.Need-cast-if1 Inv-loop μ-loop
+cast-if1 c = let a = c .before .before .args in omega (arith, c .shared-slice-known2 .given 129)
+
+returns : tie.Need-returns Inv-loop μ-loop
+unfolding goodWorked
+returns c = let a = c .before .before .before .args in rw (lt-leb (workedCount (a .head .now)) (a .n) (c .if1 .taken)) refl
+
+loop-holds : tie.Need-loop-holds Inv-loop μ-loop
+loop-holds c = let a = c .before .before .before .args in (omega arith, all-none (λ k. cond (ltb k (workedCount (a .head .now))) (ltb (workedAt (a .head .now) k) (a .n)) (eqb (workedAt (a .head .now) k) 0)) 32)
+
+good-entry-requires : tie.Need-good-entry-requires Inv-loop μ-loop
+good-entry-requires c κs = search needs
+
+returns-2 : tie.Need-returns-2 Inv-loop μ-loop
+unfolding goodWorked
+returns-2 c = let a = c .before .before .before .before .before .before .before .args in rw (le-leb (workedCount (a .head .now)) (a .n) (omega (arith, c .before .before .before .before .if1 .left))) (sym (all-not (λ k. cond (ltb k (workedCount (a .head .now))) (ltb (workedAt (a .head .now) k) (a .n)) (eqb (workedAt (a .head .now) k) 0)) 32 (c .before .before .before .loop .k) (omega arith) (sym (c .before .good-entry .ensures) ∙ not-true (c .before .good-entry .result) (c .if2 .taken))))
+
+add-k : tie.Need-add-k Inv-loop μ-loop
+add-k c = omega arith
+
+loop-less : tie.Need-loop-less Inv-loop μ-loop
+loop-less c = omega arith
+
+loop-again : tie.Need-loop-again Inv-loop μ-loop
+loop-again c = let a = c .before .before .before .before .before .before .before .args in (omega arith, all-more (λ k. cond (ltb k (workedCount (a .head .now))) (ltb (workedAt (a .head .now) k) (a .n)) (eqb (workedAt (a .head .now) k) 0)) 32 (c .before .before .before .loop .k) (c .before .before .before .loop .inv .1) (sym (c .before .good-entry .ensures) ∙ not-false (c .before .good-entry .result) (c .if2 .left)))
+
+returns-3 : tie.Need-returns-3 Inv-loop μ-loop
+unfolding goodWorked
+returns-3 c = let a = c .before .before .before .before .before .args in rw (le-leb (workedCount (a .head .now)) (a .n) (omega (arith, c .before .before .if1 .left))) (sym (all-done (λ k. cond (ltb k (workedCount (a .head .now))) (ltb (workedAt (a .head .now) k) (a .n)) (eqb (workedAt (a .head .now) k) 0)) 32 (c .before .loop .k) (omega arith) (c .before .loop .inv .1)))
+
+pub good-worked-spec : {M : Type 1} → statement M
+good-worked-spec =
+    tie.close
+    (tie.spec
+    Inv-loop
+    μ-loop
+    shared-slice-read-if1
+    cast-if1
+    returns
+    loop-holds
+    good-entry-requires
+    returns-2
+    add-k
+    loop-less
+    loop-again
+    returns-3)

@@ -1,0 +1,13 @@
+-- The areas of a call, from the four slices that are lent.
+use mathlib.Core.List.{List}
+use Prim.Native.Nat.{ℕ, _+_}
+use lib.ListN.{getD}
+use Rattle.model.specs.Areas.{Areas}
+
+-- the four areas
+abbrev pub lent : List ℕ → List ℕ → List ℕ → List ℕ → Areas
+lent rows gained lost head = record { rows = rows; gained = gained; lost = lost; head = head }
+
+-- the counts of the head from a word on, by node number
+abbrev pub countsFrom : List ℕ → ℕ → ℕ → ℕ
+countsFrom head first i = getD head (first + i) 0

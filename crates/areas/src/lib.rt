@@ -1,0 +1,191 @@
+// The areas that the caller lends: whether they are long enough, and of good form.
+ghost use mathlib.Core.Path.{_≡_};
+ghost use mathlib.Core.Bool.{Bool, true, false, cond};
+ghost use mathlib.Core.List.{List};
+ghost use Prim.Native.Nat.{ℕ, _+_, _*_, _≤_, _<_};
+ghost use lib.Dec.{ltb, leb, eqb};
+ghost use lib.ListN.{length, getD, take};
+ghost use Rattle.model.specs.Network.{Node, widths};
+ghost use Rattle.model.specs.Areas.{layout, longEnough, goodPlace, emptyPlace, goodArea, goodStamps, goodWorked, goodForm, stampAt, batchNumber, workedAt, workedCount};
+ghost use Rattle.nodes.specs.Nodes.{Narrow};
+ghost use Rattle.areas.specs.Lent.{lent, countsFrom};
+use rows::STRIDE;
+
+// How many rows and words a node's place has, and how many nodes there may be.
+pub const CAPACITY: usize = 64;
+
+pub const PLACE: usize = 256;
+
+pub const NODES: usize = 32;
+
+// The named words of rows, gained and lost, and those of the head.
+pub const AREA: usize = 8192;
+
+pub const HEAD: usize = 162;
+
+// Where the head's lists begin.
+pub const COUNTS: usize = 1;
+
+pub const STAMPS: usize = 33;
+
+pub const GAINED: usize = 65;
+
+pub const LOST: usize = 97;
+
+pub const WORKED: usize = 129;
+
+// Whether every area has its named words.
+pub fn long_enough(rows: &[u32], gained: &[u32], lost: &[u32], head: &[u32]) -> bool
+    ensures { λ r. ⌜ r ≡ longEnough layout (lent (now (rows .entry)) (now (gained .entry)) (now (lost .entry)) (now (head .entry))) ⌝ }
+{
+    if rows.len() < AREA {
+        return false;
+    }
+    if gained.len() < AREA {
+        return false;
+    }
+    if lost.len() < AREA {
+        return false;
+    }
+    if head.len() < HEAD {
+        return false;
+    }
+    true
+}
+
+// Whether node i's place is of good form, given its rows' width and their count.
+fn good_place(area: &[u32], i: usize, width: usize, count: usize) -> bool
+    requires { ⌜ (i < 32) × (8192 ≤ length (now area)) × (width ≤ 4) ⌝ }
+    ensures { λ r. ⌜ r ≡ goodPlace layout width count (now (area .entry)) i ⌝ }
+{
+    if CAPACITY < count {
+        return false;
+    }
+    let place = &area[i * PLACE..i * PLACE + PLACE];
+    if !rows::good_rows(place, count, width) {
+        return false;
+    }
+    rows::all_zero(place, count * STRIDE, PLACE)
+}
+
+// Whether the place of a number past the last node has 0 throughout.
+fn empty_place(area: &[u32], i: usize, count: usize) -> bool
+    requires { ⌜ (i < 32) × (8192 ≤ length (now area)) ⌝ }
+    ensures { λ r. ⌜ r ≡ emptyPlace layout count (now (area .entry)) i ⌝ }
+{
+    if count != 0 {
+        return false;
+    }
+    good_place(area, i, 0, 0)
+}
+
+// Whether the place with number i is of good form, in a network of n nodes.
+fn good_node(area: &[u32], widths: &[usize], n: usize, head: &[u32], first: usize, i: usize) -> bool
+    requires { ⌜ (i < 32) × (8192 ≤ length (now area)) × (n ≤ length (now widths)) × Narrow (now widths) × (162 ≤ length (now head)) × (first ≤ 130) ⌝ }
+    ensures { λ r. ⌜ r ≡ cond (ltb i n) (goodPlace layout (getD (now (widths .entry)) i 0) (countsFrom (now (head .entry)) first i) (now (area .entry)) i) (emptyPlace layout (countsFrom (now (head .entry)) first i) (now (area .entry)) i) ⌝ }
+{
+    let count = head[first + i] as usize;
+    if i < n {
+        return good_place(area, i, widths[i], count);
+    }
+    empty_place(area, i, count)
+}
+
+// Whether every place of an area is of good form, in a network of n nodes, the counts standing in the head from a word on.
+fn good_area(area: &[u32], widths: &[usize], n: usize, head: &[u32], first: usize) -> bool
+    requires { ⌜ (8192 ≤ length (now area)) × (n ≤ length (now widths)) × Narrow (now widths) × (162 ≤ length (now head)) × (first ≤ 130) ⌝ }
+    ensures { λ r. ⌜ r ≡ goodArea layout (take n (now (widths .entry))) (countsFrom (now (head .entry)) first) (now (area .entry)) ⌝ }
+{
+    let mut i = 0;
+    while i < NODES {
+        if !good_node(area, widths, n, head, first, i) {
+            return false;
+        }
+        i += 1;
+    }
+    true
+}
+
+// Whether node i's change stamp is at most the batch number, or 0 past the last node.
+fn good_stamp(head: &[u32], n: usize, i: usize) -> bool
+    requires { ⌜ (162 ≤ length (now head)) × (i < 32) ⌝ }
+    ensures { λ r. ⌜ r ≡ leb (stampAt (now (head .entry)) i) (cond (ltb i n) (batchNumber (now (head .entry))) 0) ⌝ }
+{
+    let stamp = head[STAMPS + i];
+    if i < n {
+        return stamp <= head[0];
+    }
+    stamp <= 0
+}
+
+// Whether every change stamp is in order, in a network of n nodes.
+fn good_stamps(head: &[u32], n: usize) -> bool
+    requires { ⌜ 162 ≤ length (now head) ⌝ }
+    ensures { λ r. ⌜ r ≡ goodStamps n (now (head .entry)) ⌝ }
+{
+    let mut i = 0;
+    while i < NODES {
+        if !good_stamp(head, n, i) {
+            return false;
+        }
+        i += 1;
+    }
+    true
+}
+
+// Whether entry k of the worked list is a node's number, or 0 past those that are counted.
+fn good_entry(head: &[u32], n: usize, k: usize) -> bool
+    requires { ⌜ (162 ≤ length (now head)) × (k < 32) ⌝ }
+    ensures { λ r. ⌜ r ≡ cond (ltb k (workedCount (now (head .entry)))) (ltb (workedAt (now (head .entry)) k) n) (eqb (workedAt (now (head .entry)) k) 0) ⌝ }
+{
+    let entry = head[WORKED + 1 + k];
+    if k < head[WORKED] as usize {
+        return (entry as usize) < n;
+    }
+    entry == 0
+}
+
+// Whether the worked list is in order, in a network of n nodes.
+fn good_worked(head: &[u32], n: usize) -> bool
+    requires { ⌜ 162 ≤ length (now head) ⌝ }
+    ensures { λ r. ⌜ r ≡ goodWorked n (now (head .entry)) ⌝ }
+{
+    if n < head[WORKED] as usize {
+        return false;
+    }
+    let mut k = 0;
+    while k < NODES {
+        if !good_entry(head, n, k) {
+            return false;
+        }
+        k += 1;
+    }
+    true
+}
+
+// Whether the areas are of good form for a network with these widths.
+pub fn good_form(
+    widths: &[usize],
+    n: usize,
+    rows: &[u32],
+    gained: &[u32],
+    lost: &[u32],
+    head: &[u32],
+) -> bool
+    requires { ⌜ (n ≤ length (now widths)) × Narrow (now widths) × (longEnough layout (lent (now rows) (now gained) (now lost) (now head)) ≡ true) ⌝ }
+    ensures { λ r. ⌜ ((nodes : List Node) → take n (now (widths .entry)) ≡ Rattle.model.specs.Network.widths nodes → r ≡ goodForm layout nodes (lent (now (rows .entry)) (now (gained .entry)) (now (lost .entry)) (now (head .entry)))) ⌝ }
+{
+    if !good_area(rows, widths, n, head, COUNTS) {
+        return false;
+    }
+    if !good_area(gained, widths, n, head, GAINED) {
+        return false;
+    }
+    if !good_area(lost, widths, n, head, LOST) {
+        return false;
+    }
+    if !good_stamps(head, n) {
+        return false;
+    }
+    good_worked(head, n)
+}

@@ -1,0 +1,137 @@
+-- A place of good form, checked row by row and then in its unused words. Assumes nothing.
+use mathlib.Core.Bool.{_&&_, Bool, false, true}
+use mathlib.Core.List.{_++_, List, [], map, _∷_}
+use mathlib.Core.Path.{ap, ap₂, refl, sym, _∙_, _≡_}
+use Prim.Native.Nat.{_*_, _+_, _-_, suc, ℕ, _≤_}
+use native.Mathlib.Omega.{arith}
+use native.Mathlib.Nat.{zero-mul}
+use lib.ListN.{drop, length, length-drop, replicate, take, take-append-drop}
+use lib.Seq.{drop-at, length-take-le, slice, take-all}
+use lib.Dec.{leb}
+use borrow.Author.Tests.{le-leb}
+use Rattle.model.specs.Row.{Relation, Row, allOf, ascending}
+use Rattle.rows.proofs.Words.{Wide, length-rows, length-words, rows-words, wide-rows, words-rows}
+use Rattle.model.specs.Areas.{allZero, goodPlace, heldIn, layout, padded, placeOf, unusedZero}
+use Rattle.model.proofs.Sets.{and-both, and-first, and-second}
+use Rattle.rows.specs.Rows.{firstRows, goodRows, words}
+use Rattle.rows.proofs.Place.{held-wide, length-held, length-map-padded, place-clean, place-reads, place-words, wide-padded, words-map, zeros-are, zeros-zero}
+use Rattle.rows.proofs.Form.{slice-part}
+use Rattle.rows.proofs.Padding.{unpadded}
+
+bool-same : (a b : Bool) → (a ≡ true → b ≡ true) → (b ≡ true → a ≡ true) → a ≡ b
+bool-same true true f g = refl
+bool-same true false f g = sym (f refl)
+bool-same false true f g = g refl
+bool-same false false f g = refl
+
+-- ---- rows with zeros past the width
+
+tail-padded : (w : ℕ) (l : List Row) → w ≤ 4 → Wide 4 l → allOf (λ r. allZero (drop w r)) l ≡ true → map (padded 4) (map (take w) l) ≡ l
+tail-padded w [] h a z = refl
+tail-padded w (r ∷ l) h a z =
+    let zr : allZero (drop w r) ≡ true = and-first (allZero (drop w r)) (allOf (λ s. allZero (drop w s)) l) z in
+    let zl : allOf (λ s. allZero (drop w s)) l ≡ true = and-second (allZero (drop w r)) (allOf (λ s. allZero (drop w s)) l) z in
+    let size : length (take w r) ≡ w = length-take-le w r (rw (a .0) h) in
+    let rest : length (drop w r) ≡ 4 - w = length-drop w r ∙ rw (a .0) refl in
+    let tail : replicate (4 - length (take w r)) 0 ≡ drop w r = ap (λ (k : ℕ). replicate (4 - k) 0) size ∙ ap (λ (k : ℕ). replicate k 0) (sym rest) ∙ sym (zeros-are (drop w r) zr) in
+    ap₂ {A = Row} {B = List Row} {C = List Row} (λ x y. x ∷ y) (ap (λ (t : List ℕ). take w r ++ t) tail ∙ take-append-drop w r) (tail-padded w l h (a .1) zl)
+
+wide-take : (w : ℕ) (l : List Row) → w ≤ 4 → Wide 4 l → Wide w (map (take w) l)
+wide-take w [] h a = tt
+wide-take w (r ∷ l) h a = (length-take-le w r (rw (a .0) h), wide-take w l h (a .1))
+
+length-taken : (w : ℕ) (l : List Row) → length (map (take w) l) ≡ length l
+length-taken w [] = refl
+length-taken w (r ∷ l) = ap suc (length-taken w l)
+
+tails-zero : (w : ℕ) (l : List Row) → Wide w l → allOf (λ r. allZero (drop w r)) (map (padded 4) l) ≡ true
+tails-zero w [] a = refl
+tails-zero w (r ∷ l) a =
+    let rest : drop w (padded 4 r) ≡ replicate (4 - length r) 0 = drop-at r (replicate (4 - length r) 0) w (a .0) in
+    and-both (allZero (drop w (padded 4 r))) (allOf (λ s. allZero (drop w s)) (map (padded 4) l)) (rw rest (zeros-zero (4 - length r))) (tails-zero w l (a .1))
+
+-- ---- the words of a place
+
+-- the padded rows of a relation, then zeros
+place-split : (rel : Relation) → placeOf layout rel ≡ words (map (padded 4) rel) ++ replicate (256 - length (words (map (padded 4) rel))) 0
+unfolding placeOf
+place-split rel = rw (words-map (padded 4) rel)
+
+pub placed-rows : (w : ℕ) (rel : Relation) → w ≤ 4 → Wide w rel → length rel ≤ 64 → firstRows (placeOf layout rel) (length rel) ≡ map (padded 4) rel
+placed-rows w rel h a f =
+    ap (λ (s : List ℕ). firstRows s (length rel)) (place-split rel)
+    ∙ ap (firstRows (words (map (padded 4) rel) ++ replicate (256 - length (words (map (padded 4) rel))) 0)) (sym (length-map-padded 4 rel))
+    ∙ rows-words 4 (map (padded 4) rel) (replicate (256 - length (words (map (padded 4) rel))) 0) (wide-padded w 4 rel h a)
+
+rest-zero : (w : ℕ) (rel : Relation) → w ≤ 4 → Wide w rel → length rel ≤ 64 → drop (length rel * 4) (placeOf layout rel) ≡ replicate (256 - length rel * 4) 0
+rest-zero w rel h a f =
+    let size : length (words (map (padded 4) rel)) ≡ length rel * 4 = length-words 4 (map (padded 4) rel) (wide-padded w 4 rel h a) ∙ ap (λ (k : ℕ). k * 4) (length-map-padded 4 rel) in
+    ap (drop (length rel * 4)) (place-split rel)
+    ∙ drop-at (words (map (padded 4) rel)) (replicate (256 - length (words (map (padded 4) rel))) 0) (length rel * 4) size
+    ∙ ap (λ (k : ℕ). replicate (256 - k) 0) size
+
+module _ (w count : ℕ) (area : List ℕ) (i : ℕ) (narrow : w ≤ 4) (few : count ≤ 64) (long : 256 * i + 256 ≤ length area) where
+  abbrev part : List ℕ
+  part = take 256 (drop (256 * i) area)
+
+  part-size : length part ≡ 256
+  part-size = length-take-le 256 (drop (256 * i) area) (rw length-drop (omega arith))
+
+  -- what is checked
+  abbrev checked : Bool
+  checked = goodRows w (firstRows part count) && allZero (slice (count * 4) 256 part)
+
+  slice-rest : slice (count * 4) 256 part ≡ drop (count * 4) part
+  slice-rest =
+      let e : count * 4 + (256 - count * 4) ≡ 256 = omega arith in
+      ap (λ (k : ℕ). slice (count * 4) k part) (sym e)
+      ∙ slice-part (count * 4) (256 - count * 4) part (rw part-size (omega arith))
+      ∙ take-all (256 - count * 4) (drop (count * 4) part) (rw (length-drop, part-size) (omega arith))
+
+  checked-good : checked ≡ true → goodPlace layout w count area i ≡ true
+  unfolding goodPlace goodRows
+  checked-good c =
+      let rows : List Row = firstRows part count in
+      let rel : Relation = map (take w) (firstRows part count) in
+      let good : (ascending (map (take w) (firstRows part count)) && allOf (λ r. allZero (drop w r)) (firstRows part count)) ≡ true = and-first (goodRows w (firstRows part count)) (allZero (slice (count * 4) 256 part)) c in
+      let asc : ascending (map (take w) (firstRows part count)) ≡ true = and-first (ascending (map (take w) (firstRows part count))) (allOf (λ r. allZero (drop w r)) (firstRows part count)) good in
+      let tails : allOf (λ r. allZero (drop w r)) (firstRows part count) ≡ true = and-second (ascending (map (take w) (firstRows part count))) (allOf (λ r. allZero (drop w r)) (firstRows part count)) good in
+      let wide4 : Wide 4 (firstRows part count) = wide-rows 4 part 0 count in
+      let same : map (padded 4) (map (take w) (firstRows part count)) ≡ firstRows part count = tail-padded w (firstRows part count) narrow wide4 tails in
+      let size : length (map (take w) (firstRows part count)) ≡ count = length-taken w (firstRows part count) ∙ length-rows 4 part 0 count in
+      let front : words (firstRows part count) ≡ take (count * 4) part = words-rows 4 part 0 count (rw part-size (omega (arith, zero-mul 4))) in
+      let front-size : length (take (count * 4) part) ≡ count * 4 = length-take-le (count * 4) part (rw part-size (omega arith)) in
+      let zeros : drop (count * 4) part ≡ replicate (256 - count * 4) 0 =
+      zeros-are (drop (count * 4) part) (rw (← slice-rest) (and-second (goodRows w (firstRows part count)) (allZero (slice (count * 4) 256 part)) c)) ∙ ap (λ (k : ℕ). replicate k 0) (length-drop (count * 4) part ∙ ap (λ (k : ℕ). k - count * 4) part-size) in
+      let is : part ≡ placeOf layout (map (take w) (firstRows part count)) =
+      sym (take-append-drop (count * 4) part)
+      ∙ ap₂ {A = List ℕ} {B = List ℕ} {C = List ℕ} (λ x y. x ++ y) (sym (ap words same ∙ front)) (zeros ∙ ap (λ (k : ℕ). replicate (256 - k) 0) (sym (ap (λ (l : List Row). length (words l)) same ∙ ap length front ∙ front-size)))
+      ∙ sym (place-split (map (take w) (firstRows part count))) in
+      let wide : Wide w (map (take w) (firstRows part count)) = wide-take w (firstRows part count) narrow wide4 in
+      let held : heldIn layout w count area i ≡ map (take w) (firstRows part count) =
+      ap (λ (k : ℕ). heldIn layout w k area i) (sym size) ∙ place-reads layout w area i (map (take w) (firstRows part count)) narrow wide (rw size few) long is in
+      let clean : unusedZero layout w count area i ≡ true =
+      ap (λ (k : ℕ). unusedZero layout w k area i) (sym size) ∙ place-clean layout w area i (map (take w) (firstRows part count)) narrow wide (rw size few) long is in
+      and-both (leb count 64 && ascending (heldIn layout w count area i)) (unusedZero layout w count area i) (and-both (leb count 64) (ascending (heldIn layout w count area i)) (le-leb count 64 few) (rw held asc)) clean
+
+  good-checked : goodPlace layout w count area i ≡ true → checked ≡ true
+  unfolding goodPlace goodRows
+  good-checked g =
+      let rel : Relation = heldIn layout w count area i in
+      let first : (leb count 64 && ascending (heldIn layout w count area i)) ≡ true = and-first (leb count 64 && ascending (heldIn layout w count area i)) (unusedZero layout w count area i) g in
+      let asc : ascending (heldIn layout w count area i) ≡ true = and-second (leb count 64) (ascending (heldIn layout w count area i)) first in
+      let clean : unusedZero layout w count area i ≡ true = and-second (leb count 64 && ascending (heldIn layout w count area i)) (unusedZero layout w count area i) g in
+      let is : part ≡ placeOf layout (heldIn layout w count area i) = place-words layout w area i count narrow few long clean in
+      let size : length (heldIn layout w count area i) ≡ count = length-held layout w count area i in
+      let wide : Wide w (heldIn layout w count area i) = held-wide layout w count area i in
+      let rows : firstRows part count ≡ map (padded 4) (heldIn layout w count area i) =
+      ap (λ (s : List ℕ). firstRows s count) is ∙ ap (firstRows (placeOf layout (heldIn layout w count area i))) (sym size) ∙ placed-rows w (heldIn layout w count area i) narrow wide (rw size few) in
+      let rest : drop (count * 4) part ≡ replicate (256 - count * 4) 0 =
+      ap (drop (count * 4)) is ∙ ap (λ (k : ℕ). drop (k * 4) (placeOf layout (heldIn layout w count area i))) (sym size) ∙ rest-zero w (heldIn layout w count area i) narrow wide (rw size few) ∙ ap (λ (k : ℕ). replicate (256 - k * 4) 0) size in
+      and-both (goodRows w (firstRows part count)) (allZero (slice (count * 4) 256 part))
+      (and-both (ascending (map (take w) (firstRows part count))) (allOf (λ r. allZero (drop w r)) (firstRows part count)) (rw (rows, unpadded 4 w (heldIn layout w count area i) wide) asc) (rw rows (tails-zero w (heldIn layout w count area i) wide)))
+      (rw (slice-rest, rest) (zeros-zero (256 - count * 4)))
+
+  -- the check is the good form of the place
+  pub place-checked : checked ≡ goodPlace layout w count area i
+  place-checked = bool-same checked (goodPlace layout w count area i) checked-good good-checked
