@@ -1,6 +1,6 @@
 -- A node's rows from those of its inputs: what each operator asks for, and what it leaves. Assumes nothing.
-use mathlib.Core.Bool.{_&&_, true, false, true≢false}
-use mathlib.Core.List.{List, [], flatMap, _∷_}
+use mathlib.Core.Bool.{_&&_, true, false, true≢false, not}
+use mathlib.Core.List.{List, [], flatMap, _∷_, _++_, map}
 use mathlib.Core.Path.{refl, _≡_}
 use Prim.Native.Nat.{_+_, _<_, zero-le, ℕ, _≤_}
 use native.Mathlib.Omega.{arith}
@@ -11,15 +11,19 @@ use Rattle.nodes.specs.declared.Operand.{Operand}
 use Rattle.algebra.specs.Places.{Blank, Fills, JoinFits, JoinsIn, OperandBelow, OperandIn}
 use Rattle.nodes.specs.declared.Operand.the-variants.{Column, Constant}
 use Rattle.algebra.specs.declared.Joining.{Joining}
-use Rattle.model.specs.Network.{columnsBelow, operandBelow, pairsBelow, isTable, nodeFits}
-use Rattle.model.specs.Algebra.{Pair}
+use Rattle.model.specs.Network.{columnsBelow, operandBelow, pairsBelow, isTable, nodeFits, widthOf}
+use Rattle.model.specs.Algebra.{Pair, agree, columnsOf, compareFields, differenceRows, holdsOf, intersectRows, joinOne, joinRows, projectRows, selectColumns, selectConstant, unionRows}
 use Rattle.model.proofs.Sets.{and-both, and-first, and-second}
-use Rattle.algebra.proofs.Puts.{columns-more}
+use Rattle.algebra.proofs.Puts.{columns-more, wide-each}
 use Rattle.algebra.specs.Evaluate.{fitsOn, evaluateOn, leftOf, rightOf}
 use Rattle.nodes.specs.Nodes.{operandOf, pairsOf}
-use Rattle.model.specs.Row.{Relation}
-use Rattle.model.specs.Evaluation.{evaluateNode, rowsAt}
+use Rattle.model.specs.Row.{Relation, Row, keep, member}
+use Rattle.model.specs.Evaluation.{evaluateNode, rowsAt, evaluateSelect, evaluateSet}
 use Rattle.model.specs.Areas.{placeOf}
+use Rattle.rows.proofs.Words.{Wide, wide-keep}
+use Rattle.algebra.proofs.Joins.{length-map}
+use Rattle.rows.proofs.Place.{wide-append}
+use Rattle.rows.proofs.Padding.{wide-setOf}
 use Rattle.model.specs.Network as model
 
 -- ---- rule 7, given the inputs' widths
@@ -108,3 +112,48 @@ inputs-fit ws (model.join l r pairs columns) e f =
 inputs-fit ws (model.setOperation o l r) e f =
     let f1 : (ltb l (length ws) && ltb r (length ws)) ≡ true = and-first (ltb l (length ws) && ltb r (length ws)) (eqb (getD ws l 0) (getD ws r 0)) f in
     (ltb-true l (length ws) (and-first (ltb l (length ws)) (ltb r (length ws)) f1), ltb-true r (length ws) (and-second (ltb l (length ws)) (ltb r (length ws)) f1), and-second (ltb l (length ws) && ltb r (length ws)) (eqb (getD ws l 0) (getD ws r 0)) f)
+
+-- ---- widths
+
+-- the width of a derived node's rows, given that of its first input
+abbrev pub widthOn : ℕ → model.Node → ℕ
+widthOn v (model.table w) = w
+widthOn v (model.select i c k o) = v
+widthOn v (model.project i columns) = length columns
+widthOn v (model.join l r pairs columns) = length columns
+widthOn v (model.setOperation o l r) = v
+
+pub width-on : (n : model.Node) (ws : List ℕ) → isTable n ≡ false → widthOf n ws ≡ widthOn (getD ws (leftOf n) 0) n
+width-on (model.table w) ws e = absurd (true≢false e)
+width-on (model.select i c k o) ws e = refl
+width-on (model.project i columns) ws e = refl
+width-on (model.join l r pairs columns) ws e = refl
+width-on (model.setOperation o l r) ws e = refl
+
+wide-map : (f : Row → Row) (v : ℕ) (l : List Row) → ((r : Row) → length (f r) ≡ v) → Wide v (map f l)
+wide-map f v [] h = tt
+wide-map f v (r ∷ l) h = (h r, wide-map f v l h)
+
+wide-one : (pairs : List Pair) (columns : List ℕ) (right : Relation) (l : Row) → Wide (length columns) (joinOne pairs columns right l)
+unfolding joinOne
+wide-one pairs columns right l = wide-map (λ r. columnsOf columns (l ++ r)) (length columns) (keep (agree pairs l) right) (λ r. length-map (λ c. getD (l ++ r) c 0) columns)
+
+wide-select : (v c k : ℕ) (o : model.Operand) (l : Relation) → Wide v l → Wide v (evaluateSelect c k o l)
+unfolding evaluateSelect selectConstant selectColumns
+wide-select v c k (model.constant x) l h = wide-keep v (λ r. holdsOf k (compareFields (getD r c 0) x)) l h
+wide-select v c k (model.column x) l h = wide-keep v (λ r. holdsOf k (compareFields (getD r c 0) (getD r x 0))) l h
+
+wide-operation : (v : ℕ) (o : model.SetOperation) (l r : Relation) → Wide v l → Wide v r → Wide v (evaluateSet o l r)
+unfolding evaluateSet unionRows differenceRows intersectRows
+wide-operation v model.union l r h g = wide-setOf 4 v (l ++ r) (wide-append v l r h g)
+wide-operation v model.difference l r h g = wide-keep v (λ x. not (member x r)) l h
+wide-operation v model.intersection l r h g = wide-keep v (λ x. member x r) l h
+
+-- what a node's kind gives has its width
+pub on-wide : (v w : ℕ) (n : model.Node) (l r : Relation) → isTable n ≡ false → fitsOn v w n ≡ true → Wide v l → Wide w r → Wide (widthOn v n) (evaluateOn n l r)
+unfolding evaluateOn projectRows joinRows
+on-wide v w (model.table x) l r e f h g = absurd (true≢false e)
+on-wide v w (model.select i c k o) l r e f h g = wide-select v c k o l h
+on-wide v w (model.project i columns) l r e f h g = wide-setOf 4 (length columns) (map (columnsOf columns) l) (wide-map (columnsOf columns) (length columns) l (λ s. length-map (λ c. getD s c 0) columns))
+on-wide v w (model.join i j pairs columns) l r e f h g = wide-setOf 4 (length columns) (flatMap (joinOne pairs columns r) l) (wide-each (length columns) (joinOne pairs columns r) l v h (λ s k. wide-one pairs columns r s))
+on-wide v w (model.setOperation o i j) l r e f h g = let same : v ≡ w = set-inside v w i j o f in wide-operation v o l r h (rw same g)

@@ -2,3 +2,4 @@ pub mod Joins
 pub mod Places
 pub mod Puts
 pub mod Inside
+pub mod Fresh

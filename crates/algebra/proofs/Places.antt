@@ -22,6 +22,7 @@ use Rattle.rows.proofs.Words.{Wide, length-row, length-words, rows-words, words
 use Rattle.rows.proofs.Place.{held-wide, length-held, length-map-padded, place-words, placed-words, wide-padded, words-map}
 use Rattle.rows.proofs.Padding.{ascending-padded, keep-padded, field-padded, member-padded}
 use Rattle.algebra.specs.Places.{relationIn, Place, Blank, passesRow, OperandIn, Selects, Fills, Kept}
+use Rattle.rows.proofs.Checked.{placed-rows}
 
 -- ---- a place of good form
 
@@ -48,16 +49,6 @@ module _ (w : ℕ) (s : List ℕ) (n : ℕ) (p : Place w s n) where
   place-is =
       sym (take-all 256 s (omega (arith, p .long)))
       ∙ place-words layout w s 0 n (p .narrow) place-few (omega (arith, p .long)) (and-second (leb n 64 && ascending (relationIn w s n)) (unusedZero layout w n s 0) (p .good))
-
--- the rows of a place, padded
-pub placed-rows : (w : ℕ) (rel : Relation) → w ≤ 4 → Wide w rel → length rel ≤ 64 → firstRows (placeOf layout rel) (length rel) ≡ map (padded 4) rel
-placed-rows w rel h a f =
-    let l : List Row = map (padded 4) rel in
-    let rest : List Row = replicate (64 - length rel) (replicate 4 0) in
-    let size : length (map (padded 4) rel) ≡ length rel = length-map-padded 4 rel in
-    ap (λ (s : List ℕ). firstRows s (length rel)) (sym (placed-words layout w rel h a f) ∙ words-append l rest)
-    ∙ ap (firstRows (words l ++ words rest)) (sym size)
-    ∙ rows-words 4 l (words rest) (wide-padded w 4 rel h a)
 
 pub place-rows : (w : ℕ) (s : List ℕ) (n : ℕ) → Place w s n → firstRows s n ≡ map (padded 4) (relationIn w s n)
 place-rows w s n p =

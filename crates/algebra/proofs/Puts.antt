@@ -151,7 +151,7 @@ all-more : (a b : List Row) → length b ≤ length (insertAll a b)
 all-more [] b = le-refl (length b)
 all-more (r ∷ a) b = le-trans (all-more a b) (insert-more r (insertAll a b))
 
-wide-each : (v : ℕ) (f : Row → List Row) (l : List Row) (w : ℕ) → Wide w l → ((r : Row) → length r ≡ w → Wide v (f r)) → Wide v (flatMap f l)
+pub wide-each : (v : ℕ) (f : Row → List Row) (l : List Row) (w : ℕ) → Wide w l → ((r : Row) → length r ≡ w → Wide v (f r)) → Wide v (flatMap f l)
 unfolding flatMap
 wide-each v f [] w h g = tt
 wide-each v f (r ∷ l) w h g = wide-append v (f r) (flatMap f l) (g r (h .0)) (wide-each v f l w (h .1) g)

@@ -6,7 +6,7 @@ ghost use lib.Dec.{eqb};
 ghost use lib.ListN.{length, getD, take};
 ghost use Rattle.model.specs.Row.{member, ascending, insertRow};
 ghost use Rattle.model.specs.Algebra.{compareFields, agree, projectRows, joinRows, unionRows, differenceRows, intersectRows};
-ghost use Rattle.model.specs.Network.{columnsBelow, pairsBelow};
+ghost use Rattle.model.specs.Network.{columnsBelow, pairsBelow, isTable};
 ghost use Rattle.model.specs.Evaluation.{evaluateSelect, evaluateSet};
 ghost use Rattle.rows.specs.Rows.{stride, rowAt, firstRows, orderOf};
 ghost use Rattle.nodes.specs.Nodes.{operandOf, operationOf, pairsOf};
@@ -328,6 +328,20 @@ fn set_rows(
         SetOperation::Union => union_rows(left, n, right, m, out),
         SetOperation::Difference => Made::Rows(difference_rows(left, n, right, m, out)),
         SetOperation::Intersection => Made::Rows(intersect_rows(left, n, right, m, out)),
+    }
+}
+
+// Whether the node is a table.
+pub fn is_table(slot: Slot) -> bool
+    ensures { λ r. ⌜ r ≡ isTable (slotNode slot) ⌝ }
+{
+    let node = slot.node;
+    match node {
+        Node::Table(_) => true,
+        Node::Select(_, _, _, _) => false,
+        Node::Project(_, _) => false,
+        Node::Join(_, _, _, _) => false,
+        Node::Set(_, _, _) => false,
     }
 }
 

@@ -4,8 +4,8 @@ use mathlib.Core.List.{_++_, List, [], map, _∷_}
 use mathlib.Core.Path.{ap, ap₂, refl, sym, _∙_, _≡_}
 use Prim.Native.Nat.{_*_, _+_, _-_, suc, ℕ, _≤_}
 use native.Mathlib.Omega.{arith}
-use native.Mathlib.Nat.{zero-mul}
-use lib.ListN.{drop, length, length-drop, replicate, take, take-append-drop}
+use native.Mathlib.Nat.{zero-mul, le-refl}
+use lib.ListN.{drop, length, length-drop, replicate, take, take-append-drop, length-append, length-replicate}
 use lib.Seq.{drop-at, length-take-le, slice, take-all}
 use lib.Dec.{leb}
 use borrow.Author.Tests.{le-leb}
@@ -18,7 +18,8 @@ use Rattle.rows.proofs.Place.{held-wide, length-held, length-map-padded
 use Rattle.rows.proofs.Form.{slice-part}
 use Rattle.rows.proofs.Padding.{unpadded}
 
-bool-same : (a b : Bool) → (a ≡ true → b ≡ true) → (b ≡ true → a ≡ true) → a ≡ b
+-- two truths that follow from each other
+pub bool-same : (a b : Bool) → (a ≡ true → b ≡ true) → (b ≡ true → a ≡ true) → a ≡ b
 bool-same true true f g = refl
 bool-same true false f g = sym (f refl)
 bool-same false true f g = g refl
@@ -56,6 +57,11 @@ tails-zero w (r ∷ l) a =
 place-split : (rel : Relation) → placeOf layout rel ≡ words (map (padded 4) rel) ++ replicate (256 - length (words (map (padded 4) rel))) 0
 unfolding placeOf
 place-split rel = rw (words-map (padded 4) rel)
+
+pub place-length : (w : ℕ) (rel : Relation) → w ≤ 4 → Wide w rel → length rel ≤ 64 → length (placeOf layout rel) ≡ 256
+place-length w rel h a f =
+    let size : length (words (map (padded 4) rel)) ≡ length rel * 4 = length-words 4 (map (padded 4) rel) (wide-padded w 4 rel h a) ∙ ap (λ (k : ℕ). k * 4) (length-map-padded 4 rel) in
+    ap length (place-split rel) ∙ length-append (words (map (padded 4) rel)) (replicate (256 - length (words (map (padded 4) rel))) 0) ∙ rw (length-replicate, size) (omega arith)
 
 pub placed-rows : (w : ℕ) (rel : Relation) → w ≤ 4 → Wide w rel → length rel ≤ 64 → firstRows (placeOf layout rel) (length rel) ≡ map (padded 4) rel
 placed-rows w rel h a f =
@@ -135,3 +141,32 @@ module _ (w count : ℕ) (area : List ℕ) (i : ℕ) (narrow : w ≤ 4) (few : c
   -- the check is the good form of the place
   pub place-checked : checked ≡ goodPlace layout w count area i
   place-checked = bool-same checked (goodPlace layout w count area i) checked-good good-checked
+
+-- the words of a node's place, taken out of the area, hold the same rows in the same form
+module _ (w count : ℕ) (area : List ℕ) (i : ℕ) (narrow : w ≤ 4) (few : count ≤ 64) (long : 256 * i + 256 ≤ length area) (good : goodPlace layout w count area i ≡ true) where
+  abbrev alone : List ℕ
+  alone = take 256 (drop (256 * i) area)
+
+  alone-size : length alone ≡ 256
+  alone-size = part-size w count area i narrow few long
+
+  alone-same : take 256 (drop (256 * 0) alone) ≡ alone
+  alone-same = take-all 256 alone (rw alone-size (le-refl 256))
+
+  pub part-good : goodPlace layout w count alone 0 ≡ true
+  part-good =
+      sym (place-checked w count alone 0 narrow few (rw alone-size (omega arith)))
+      ∙ ap (λ (s : List ℕ). goodRows w (firstRows s count) && allZero (slice (count * 4) 256 s)) alone-same
+      ∙ place-checked w count area i narrow few long
+      ∙ good
+
+  pub part-is : alone ≡ placeOf layout (heldIn layout w count area i)
+  unfolding goodPlace
+  part-is = place-words layout w area i count narrow few long (and-second (leb count 64 && ascending (heldIn layout w count area i)) (unusedZero layout w count area i) good)
+
+  pub part-held : heldIn layout w count alone 0 ≡ heldIn layout w count area i
+  part-held =
+      let rel : Relation = heldIn layout w count area i in
+      let size : length (heldIn layout w count area i) ≡ count = length-held layout w count area i in
+      ap (λ (k : ℕ). heldIn layout w k alone 0) (sym size)
+      ∙ place-reads layout w alone 0 (heldIn layout w count area i) narrow (held-wide layout w count area i) (rw size few) (rw alone-size (omega arith)) (alone-same ∙ part-is)

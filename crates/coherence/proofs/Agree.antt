@@ -1,0 +1,96 @@
+-- A node's rows against what its kind gives: equal counts and equal words are equal rows. Assumes nothing.
+use mathlib.Core.Bool.{Bool, false, true}
+use mathlib.Core.List.{List, map}
+use mathlib.Core.Path.{ap, ap₂, refl, sym, _∙_, _≡_}
+use Prim.Native.Nat.{_+_, _<_, ℕ, _≤_}
+use native.Mathlib.Omega.{arith}
+use native.Mathlib.Nat.{le-refl}
+use lib.ListN.{getD, length, take}
+use lib.Seq.{take-all}
+use Rattle.coherence.specs.Held.{Derived, Places, givenAt, heldAt}
+use Rattle.algebra.specs.Places.{Fills}
+use Rattle.model.specs.Row.{Relation, sameRow, sameRows}
+use Rattle.network.specs.declared.Slot.{Slot}
+use Rattle.rows.proofs.Words.{Wide}
+use Rattle.rows.proofs.Checked.{bool-same, placed-rows, place-length}
+use Rattle.rows.specs.Rows.{firstRows, sameFirst}
+use Rattle.rows.proofs.Place.{held-wide, length-held}
+use Rattle.model.specs.Areas.{layout, placeOf, rowCount}
+use Rattle.algebra.specs.Evaluate.{leftOf, rightOf}
+use Rattle.algebra.proofs.Inside.{on-wide, width-on}
+use Rattle.coherence.proofs.Placed.{place-at, rows-few, words-at}
+use Rattle.areas.proofs.Good.{placeAt}
+use Rattle.model.proofs.Order.{sameRow-eq, sameRow-refl}
+use Rattle.model.proofs.Sets.{sameRows-eq, sameRows-refl}
+use Rattle.network.specs.Reading.{slotNode}
+use Rattle.rows.proofs.Padding.{unpadded}
+
+-- the same with fewer nodes
+pub fewer : (ws : List ℕ) (n m : ℕ) (rows head : List ℕ) → m ≤ n → Places ws n rows head → Places ws m rows head
+fewer ws n m rows head h p =
+    record {
+      few = omega (arith, p .few);
+      widths-long = omega (arith, p .widths-long);
+      narrow = p .narrow;
+      rows-long = p .rows-long;
+      head-long = p .head-long;
+      good = λ i k. p .good i (omega arith);
+    }
+
+-- rows of one width and count with the same words are the same
+pub words-rows-same : (w : ℕ) (a b : Relation) → w ≤ 4 → Wide w a → Wide w b → length a ≤ 64 → length a ≡ length b → placeOf layout a ≡ placeOf layout b → a ≡ b
+words-rows-same w a b h wa wb few size e =
+    let read : (r : Relation) → Wide w r → length r ≤ 64 → map (take w) (firstRows (placeOf layout r) (length r)) ≡ r = λ r wr f. ap (map (take w)) (placed-rows w r h wr f) ∙ unpadded 4 w r wr in
+    sym (read a wa few)
+    ∙ ap₂ {A = List ℕ} {B = ℕ} {C = Relation} (λ s n. map (take w) (firstRows s n)) e size
+    ∙ read b wb (rw (← size) few)
+
+module _ (slot : Slot) (ws rows head : List ℕ) (i : ℕ) (p : Places ws (i + 1) rows head) (d : Derived slot ws i) where
+  here : i < i + 1
+  here = omega arith
+
+  wide-held : Wide (getD ws i 0) (heldAt ws head rows i)
+  wide-held = held-wide layout (getD ws i 0) (rowCount head i) rows i
+
+  wide-given : Wide (getD ws i 0) (givenAt slot ws head rows)
+  wide-given =
+      rw (d .width ∙ width-on (slotNode slot) ws (d .derived))
+      (on-wide (getD ws (leftOf (slotNode slot)) 0) (getD ws (rightOf (slotNode slot)) 0) (slotNode slot) (heldAt ws head rows (leftOf (slotNode slot))) (heldAt ws head rows (rightOf (slotNode slot))) (d .derived) (d .fits)
+      (held-wide layout (getD ws (leftOf (slotNode slot)) 0) (rowCount head (leftOf (slotNode slot))) rows (leftOf (slotNode slot)))
+      (held-wide layout (getD ws (rightOf (slotNode slot)) 0) (rowCount head (rightOf (slotNode slot))) rows (rightOf (slotNode slot))))
+
+  -- another count: other rows
+  pub count-differs : (out : List ℕ) (count : ℕ) → Fills (givenAt slot ws head rows) out count → (rowCount head i ≡ count → ⊥) → sameRows (heldAt ws head rows i) (givenAt slot ws head rows) ≡ false
+  count-differs out count f e = go (sameRows (heldAt ws head rows i) (givenAt slot ws head rows)) refl
+    where
+      go : (t : Bool) → sameRows (heldAt ws head rows i) (givenAt slot ws head rows) ≡ t → t ≡ false
+      go false g = refl
+      go true g = absurd (e (sym (length-held layout (getD ws i 0) (rowCount head i) rows i) ∙ ap length (sameRows-eq (heldAt ws head rows i) (givenAt slot ws head rows) g) ∙ sym (f .count)))
+
+  -- too many: other rows
+  pub over-differs : 64 < length (givenAt slot ws head rows) → sameRows (heldAt ws head rows i) (givenAt slot ws head rows) ≡ false
+  over-differs o = go (sameRows (heldAt ws head rows i) (givenAt slot ws head rows)) refl
+    where
+      go : (t : Bool) → sameRows (heldAt ws head rows i) (givenAt slot ws head rows) ≡ t → t ≡ false
+      go false g = refl
+      go true g = absurd (omega (arith, o, ap length (sameRows-eq (heldAt ws head rows i) (givenAt slot ws head rows) g), rows-few ws (i + 1) rows head p i here))
+
+  -- the same count: the same rows exactly if the words are the same
+  pub words-decide : (out : List ℕ) (count : ℕ) → Fills (givenAt slot ws head rows) out count → rowCount head i ≡ count → sameFirst 256 (placeAt rows i) out ≡ sameRows (heldAt ws head rows i) (givenAt slot ws head rows)
+  words-decide out count f e =
+      let size : length (heldAt ws head rows i) ≡ length (givenAt slot ws head rows) = length-held layout (getD ws i 0) (rowCount head i) rows i ∙ e ∙ f .count in
+      let held-words : placeAt rows i ≡ placeOf layout (heldAt ws head rows i) = words-at ws (i + 1) rows head p i here in
+      let long : length (placeAt rows i) ≡ 256 = place-at ws (i + 1) rows head p i here .long in
+      let whole : take 256 (placeAt rows i) ≡ placeAt rows i = take-all 256 (placeAt rows i) (rw long (le-refl 256)) in
+      let out-long : length out ≡ 256 = ap length (f .is) ∙ place-length (getD ws i 0) (givenAt slot ws head rows) (p .narrow i) wide-given (rw (← f .count) (f .few)) in
+      let whole-out : take 256 out ≡ out = take-all 256 out (rw out-long (le-refl 256)) in
+      bool-same (sameFirst 256 (placeAt rows i) out) (sameRows (heldAt ws head rows i) (givenAt slot ws head rows))
+      (λ g.
+      let words : placeAt rows i ≡ out = sym whole ∙ sameRow-eq (take 256 (placeAt rows i)) (take 256 out) g ∙ whole-out in
+      let same : heldAt ws head rows i ≡ givenAt slot ws head rows =
+      words-rows-same (getD ws i 0) (heldAt ws head rows i) (givenAt slot ws head rows) (p .narrow i) wide-held wide-given (rows-few ws (i + 1) rows head p i here) size (sym held-words ∙ words ∙ f .is) in
+      ap (sameRows (heldAt ws head rows i)) (sym same) ∙ sameRows-refl (heldAt ws head rows i))
+      (λ g.
+      let same : heldAt ws head rows i ≡ givenAt slot ws head rows = sameRows-eq (heldAt ws head rows i) (givenAt slot ws head rows) g in
+      let words : placeAt rows i ≡ out = held-words ∙ ap (placeOf layout) same ∙ sym (f .is) in
+      ap (λ (s : List ℕ). sameRow (take 256 (placeAt rows i)) (take 256 s)) (sym words) ∙ sameRow-refl (take 256 (placeAt rows i)))

@@ -1,0 +1,131 @@
+-- Areas whose rows are of good form: coherence judged node by node. Assumes nothing.
+use mathlib.Core.Bool.{Bool, false, true}
+use mathlib.Core.List.{List, [], map, _∷_}
+use mathlib.Core.Path.{ap, refl, sym, _∙_, _≡_}
+use Prim.Native.Nat.{_+_, _<_, suc, zero, ℕ}
+use native.Mathlib.Nat.{add-zero, le-of-suc-le-suc, not-suc-le-zero, zero-add}
+use native.Mathlib.Omega.{arith}
+use lib.ListN.{getD, length, take}
+use lib.Seq.{getD-take, length-take-le}
+use Rattle.rows.proofs.Place.{all-below, below-all}
+use Rattle.model.specs.Network.{AllFit, build, isTable, nodeAt, table, widthOf, widths}
+use Rattle.network.specs.declared.Network.{Network}
+use Rattle.network.specs.Reading.{Built, noSlot, nodesOf, slotNode}
+use Rattle.coherence.specs.Held.{Derived, freshIn, heldAt, rowsHeld, slotAgrees}
+use Rattle.model.specs.Row.{Relation, allOf, countFrom, numbersBelow}
+use Rattle.network.specs.declared.Slot.{Slot}
+use Rattle.algebra.proofs.Fresh.{agreesAt, columns-fit, fresh-checked, inputs-before}
+use Rattle.rows.proofs.Checked.{bool-same}
+use Rattle.model.proofs.Build.{build-at}
+use Rattle.algebra.specs.Evaluate.{fitsOn, leftOf, rightOf}
+use Rattle.model.specs.Areas.{heldIn, layout, relationsIn, rowCount}
+use Rattle.model.proofs.Fits.{length-widths}
+use Rattle.model.specs.Evaluation.{rowsAt}
+use Rattle.algebra.proofs.Inside.{width-on, widthOn}
+
+-- two tests that say the same of the numbers below n
+all-same : (p q : ℕ → Bool) (n : ℕ) → ((j : ℕ) → j < n → p j ≡ q j) → allOf p (numbersBelow n) ≡ allOf q (numbersBelow n)
+all-same p q n f =
+    bool-same (allOf p (numbersBelow n)) (allOf q (numbersBelow n))
+    (λ e. below-all q 0 n (λ j h. rw (zero-add j) (sym (f j h) ∙ ap p (sym (zero-add j)) ∙ all-below p 0 n e j h)))
+    (λ e. below-all p 0 n (λ j h. rw (zero-add j) (f j h ∙ ap q (sym (zero-add j)) ∙ all-below q 0 n e j h)))
+
+getD-map : (l : List Slot) (i : ℕ) → i < length l → getD (map slotNode l) i (table 0) ≡ slotNode (getD l i noSlot)
+getD-map [] i h = absurd (not-suc-le-zero h)
+getD-map (x ∷ l) zero h = refl
+getD-map (x ∷ l) (suc i) h = getD-map l i (le-of-suc-le-suc h)
+
+length-slots : (l : List Slot) → length (map slotNode l) ≡ length l
+length-slots [] = refl
+length-slots (x ∷ l) = ap suc (length-slots l)
+
+getD-held : (f : ℕ → Relation) (from n j : ℕ) → j < n → getD (map f (countFrom from n)) j [] ≡ f (from + j)
+getD-held f from zero j h = absurd (not-suc-le-zero h)
+getD-held f from (suc n) zero h = ap f (sym (add-zero from))
+getD-held f from (suc n) (suc j) h = let e : suc from + j ≡ from + suc j = omega arith in getD-held f (suc from) n j (le-of-suc-le-suc h) ∙ ap f e
+
+length-counted : (f : ℕ → Relation) (from n : ℕ) → length (map f (countFrom from n)) ≡ n
+length-counted f from zero = refl
+length-counted f from (suc n) = ap suc (length-counted f (suc from) n)
+
+module _ (net : Network) (b : Built net) where
+  pub nodes-count : length (nodesOf net) ≡ net .count
+  nodes-count = length-slots (take (net .count) (net .slots)) ∙ length-take-le (net .count) (net .slots) (omega (arith, b .sound .few, b .slots-length))
+
+  pub slot-node : (i : ℕ) → i < net .count → nodeAt (nodesOf net) i ≡ slotNode (getD (net .slots) i noSlot)
+  slot-node i h =
+      getD-map (take (net .count) (net .slots)) i (rw (length-take-le (net .count) (net .slots) (omega (arith, b .sound .few, b .slots-length))) h)
+      ∙ ap slotNode (getD-take (net .count) (net .slots) i noSlot h)
+
+  -- a width of the model's network is that of the array
+  pub width-is : (i : ℕ) → i < net .count → getD (widths (nodesOf net)) i 0 ≡ getD (net .widths) i 0
+  width-is i h = ap (λ (l : List ℕ). getD l i 0) (sym (b .sound .widths)) ∙ getD-take (net .count) (net .widths) i 0 h
+
+module _ (net : Network) (b : Built net) (fit : AllFit (nodesOf net)) where
+  width-of : (i : ℕ) → i < net .count → isTable (nodeAt (nodesOf net) i) ≡ false → getD (widths (nodesOf net)) i 0 ≡ widthOn (getD (widths (nodesOf net)) (leftOf (nodeAt (nodesOf net) i)) 0) (nodeAt (nodesOf net) i)
+  unfolding widths
+  width-of i h e =
+      let k : i < length (nodesOf net) = rw (nodes-count net b) h in
+      build-at widthOf i (nodesOf net) 0 k
+      ∙ width-on (nodeAt (nodesOf net) i) (take i (build widthOf (nodesOf net))) e
+      ∙ ap (λ (x : ℕ). widthOn x (nodeAt (nodesOf net) i)) (getD-take i (build widthOf (nodesOf net)) (leftOf (nodeAt (nodesOf net) i)) 0 (inputs-before (nodesOf net) fit i k e .0))
+
+  -- a derived node of a network that reading accepts
+  pub derived-at : (i : ℕ) → i < net .count → isTable (slotNode (getD (net .slots) i noSlot)) ≡ false → Derived (getD (net .slots) i noSlot) (net .widths) i
+  derived-at i h e =
+      let slot : Slot = getD (net .slots) i noSlot in
+      let node : nodeAt (nodesOf net) i ≡ slotNode (getD (net .slots) i noSlot) = slot-node net b i h in
+      let k : i < length (nodesOf net) = rw (nodes-count net b) h in
+      let e′ : isTable (nodeAt (nodesOf net) i) ≡ false = ap isTable node ∙ e in
+      let before : (leftOf (nodeAt (nodesOf net) i) < i) × (rightOf (nodeAt (nodesOf net) i) < i) = inputs-before (nodesOf net) fit i k e′ in
+      let left : leftOf (slotNode (getD (net .slots) i noSlot)) < i = rw node at (before .0) in
+      let right : rightOf (slotNode (getD (net .slots) i noSlot)) < i = rw node at (before .1) in
+      let columns : fitsOn (getD (widths (nodesOf net)) (leftOf (slotNode (getD (net .slots) i noSlot))) 0) (getD (widths (nodesOf net)) (rightOf (slotNode (getD (net .slots) i noSlot))) 0) (slotNode (getD (net .slots) i noSlot)) ≡ true =
+      rw node at (columns-fit (nodesOf net) fit i k e′) in
+      let width : getD (widths (nodesOf net)) i 0 ≡ widthOn (getD (widths (nodesOf net)) (leftOf (slotNode (getD (net .slots) i noSlot))) 0) (slotNode (getD (net .slots) i noSlot)) = rw node at (width-of i h e′) in
+      record {
+        shaped = b .shaped i h;
+        derived = e;
+        left = left;
+        right = right;
+        fits = rw (← width-is net b (leftOf (slotNode (getD (net .slots) i noSlot))) (omega arith), ← width-is net b (rightOf (slotNode (getD (net .slots) i noSlot))) (omega arith)) columns;
+        width =
+            sym (width-is net b i h)
+            ∙ width
+            ∙ ap (λ (x : ℕ). widthOn x (slotNode (getD (net .slots) i noSlot))) (width-is net b (leftOf (slotNode (getD (net .slots) i noSlot))) (omega arith))
+            ∙ sym (width-on (slotNode (getD (net .slots) i noSlot)) (net .widths) e);
+      }
+
+  module _ (rows head : List ℕ) where
+    pub rows-length : length (rowsHeld net rows head) ≡ length (nodesOf net)
+    unfolding relationsIn
+    rows-length = length-counted (λ i. heldIn layout (getD (widths (nodesOf net)) i 0) (rowCount head i) rows i) 0 (length (widths (nodesOf net))) ∙ length-widths (nodesOf net)
+
+    pub rows-held : (i : ℕ) → i < net .count → rowsAt (rowsHeld net rows head) i ≡ heldAt (net .widths) head rows i
+    unfolding relationsIn
+    rows-held i h =
+        getD-held (λ j. heldIn layout (getD (widths (nodesOf net)) j 0) (rowCount head j) rows j) 0 (length (widths (nodesOf net))) i (rw (length-widths (nodesOf net), nodes-count net b) h)
+        ∙ ap (λ (j : ℕ). heldIn layout (getD (widths (nodesOf net)) j 0) (rowCount head j) rows j) (zero-add i)
+        ∙ ap (λ (w : ℕ). heldIn layout w (rowCount head i) rows i) (width-is net b i h)
+
+    -- what is checked of node i
+    abbrev pub agreesHere : ℕ → Bool
+    agreesHere i = slotAgrees (getD (net .slots) i noSlot) (net .widths) head rows i
+
+    agrees-same : (i : ℕ) → i < net .count → agreesHere i ≡ agreesAt (nodesOf net) fit (rowsHeld net rows head) rows-length i
+    agrees-same i h = go (isTable (slotNode (getD (net .slots) i noSlot))) refl
+      where
+        node : nodeAt (nodesOf net) i ≡ slotNode (getD (net .slots) i noSlot)
+        node = slot-node net b i h
+
+        go : (t : Bool) → isTable (slotNode (getD (net .slots) i noSlot)) ≡ t → agreesHere i ≡ agreesAt (nodesOf net) fit (rowsHeld net rows head) rows-length i
+        go true e = rw (node, e)
+        go false e =
+            let d : Derived (getD (net .slots) i noSlot) (net .widths) i = derived-at i h e in
+            rw (node, e, rows-held i h, rows-held (leftOf (slotNode (getD (net .slots) i noSlot))) (omega (arith, d .left)), rows-held (rightOf (slotNode (getD (net .slots) i noSlot))) (omega (arith, d .right)))
+
+    pub coherent-is : allOf agreesHere (numbersBelow (net .count)) ≡ freshIn net rows head
+    coherent-is =
+        all-same agreesHere (agreesAt (nodesOf net) fit (rowsHeld net rows head) rows-length) (net .count) agrees-same
+        ∙ ap (λ (n : ℕ). allOf (agreesAt (nodesOf net) fit (rowsHeld net rows head) rows-length) (numbersBelow n)) (sym (nodes-count net b))
+        ∙ fresh-checked (nodesOf net) fit (rowsHeld net rows head) rows-length

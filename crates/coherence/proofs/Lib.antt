@@ -1,0 +1,3 @@
+pub mod Placed
+pub mod Agree
+pub mod Coherent

@@ -1,0 +1,48 @@
+-- A node's place, lent as a part of the rows area. Assumes nothing.
+use mathlib.Core.Bool.{_&&_}
+use mathlib.Core.List.{List}
+use mathlib.Core.Path.{ap, _∙_, _≡_}
+use Prim.Native.Nat.{_*_, _+_, _<_, ℕ, _≤_}
+use native.Mathlib.Omega.{arith}
+use lib.ListN.{drop, getD, length, length-drop}
+use lib.Dec.{leb}
+use lib.Seq.{length-take-le}
+use borrow.Author.Tests.{leb-true}
+use Rattle.algebra.specs.Places.{Place, relationIn}
+use Rattle.coherence.specs.Held.{Places, heldAt}
+use Rattle.model.proofs.Sets.{and-first}
+use Rattle.model.specs.Row.{ascending}
+use Rattle.model.specs.Areas.{goodPlace, layout, placeOf, rowCount, unusedZero}
+use Rattle.rows.proofs.Place.{length-held}
+use Rattle.rows.proofs.Checked.{part-good, part-held}
+use Rattle.areas.proofs.Good.{placeAt, part-is}
+use Rattle.rows.proofs.Checked as checked
+
+module _ (ws : List ℕ) (n : ℕ) (rows head : List ℕ) (p : Places ws n rows head) (j : ℕ) (h : j < n) where
+  few-rows : rowCount head j ≤ 64
+  unfolding goodPlace
+  few-rows =
+      leb-true (rowCount head j) 64 (and-first (leb (rowCount head j) 64) (ascending (heldAt ws head rows j)) (and-first (leb (rowCount head j) 64 && ascending (heldAt ws head rows j)) (unusedZero layout (getD ws j 0) (rowCount head j) rows j) (p .good j h)))
+
+  inside : 256 * j + 256 ≤ length rows
+  inside = omega (arith, p .few, p .rows-long)
+
+  pub place-at : Place (getD ws j 0) (placeAt rows j) (rowCount head j)
+  place-at =
+      record {
+        long = ap length (part-is rows j) ∙ length-take-le 256 (drop (256 * j) rows) (rw length-drop (omega (arith, inside)));
+        narrow = p .narrow j;
+        good = rw (part-is rows j) (part-good (getD ws j 0) (rowCount head j) rows j (p .narrow j) few-rows inside (p .good j h));
+      }
+
+  pub held-at : relationIn (getD ws j 0) (placeAt rows j) (rowCount head j) ≡ heldAt ws head rows j
+  held-at =
+      ap (λ (s : List ℕ). relationIn (getD ws j 0) s (rowCount head j)) (part-is rows j)
+      ∙ part-held (getD ws j 0) (rowCount head j) rows j (p .narrow j) few-rows inside (p .good j h)
+
+  -- its words are those of its rows
+  pub words-at : placeAt rows j ≡ placeOf layout (heldAt ws head rows j)
+  words-at = part-is rows j ∙ checked.part-is (getD ws j 0) (rowCount head j) rows j (p .narrow j) few-rows inside (p .good j h)
+
+  pub rows-few : length (heldAt ws head rows j) ≤ 64
+  rows-few = rw (length-held layout (getD ws j 0) (rowCount head j) rows j) few-rows
