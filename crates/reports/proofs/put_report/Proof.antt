@@ -1,0 +1,69 @@
+use mathlib.Core.List.{_++_}
+use mathlib.Core.Bool.{Bool, cond}
+use mathlib.Core.Path.{ap, sym, _∙_, _≡_}
+use Prim.Native.Nat.{_*_, _+_, ℕ, _≤_}
+use native.Mathlib.Omega.{arith}
+use native.Mathlib.Nat.{zero-add}
+use lib.ListN.{length, length-append}
+use lib.Seq.{length-sets}
+use borrow.Author.Needs.{needs}
+use Rattle.reports.proofs.put_report.Statement.{statement}
+use Rattle.reports.proofs.Bytes.{allowed-size-is, sets-first, sets-more}
+use Rattle.reports.specs.Written.{allowedOf}
+use Rattle.model.specs.Calls.{allowsGained, allowsLost, reportBytes}
+use Rattle.model.specs.Areas.{heldIn, layout}
+use Rattle.reports.proofs.put_report.Tie as tie
+use Rattle.reports.proofs.put_report.Reads as reads
+use Rattle.reports.proofs.put_report.Lts as lts
+use Rattle.reports.proofs.allowed_size.Reads as allowed-size-reads
+use Rattle.reports.proofs.allows_gained.Reads as allows-gained-reads
+use Rattle.reports.proofs.allows_lost.Reads as allows-lost-reads
+use Rattle.reports.proofs.put_allowed.Reads as put-allowed-reads
+
+room-for : (t u s v : Bool) (x y len : ℕ) → t ≡ s → u ≡ v → cond s x 0 + cond v y 0 ≤ len → cond t x 0 + cond u y 0 ≤ len
+room-for t u s v x y len e f h = rw (e, f) h
+
+allows-gained-requires : tie.Need-allows-gained-requires
+allows-gained-requires c κs = search needs
+
+allows-lost-requires : tie.Need-allows-lost-requires
+allows-lost-requires c κs = search needs
+
+allowed-size-requires : tie.Need-allowed-size-requires
+allowed-size-requires c κs = search needs
+
+put-allowed-requires : tie.Need-put-allowed-requires
+put-allowed-requires c κs =
+    let a = c .before .before .before .before .before .before .before .args in
+    let room = room-for (c .before .before .before .allows-gained .result) (c .before .before .allows-lost .result) (allowsGained (a .sign)) (allowsLost (a .sign)) (a .g * (6 + 4 * a .w)) (a .l * (6 + 4 * a .w)) (length (a .out .now)) (c .before .before .before .allows-gained .ensures) (c .before .before .allows-lost .ensures) (c .before .before .before .before .before .before .before .pre .6) in
+    (c .before .before .before .before .before .before .before .pre .0, c .before .before .before .before .before .before .before .pre .1, c .before .before .before .before .before .before .before .pre .3, c .before .before .before .before .before .before .before .pre .4, omega (arith, room))
+
+put-allowed-requires-2 : tie.Need-put-allowed-requires-2
+put-allowed-requires-2 c κs =
+    let a = c .before .before .before .before .before .before .before .before .before .before .before .args in
+    let room = room-for (c .before .before .before .before .before .before .before .allows-gained .result) (c .before .before .before .before .before .before .allows-lost .result) (allowsGained (a .sign)) (allowsLost (a .sign)) (a .g * (6 + 4 * a .w)) (a .l * (6 + 4 * a .w)) (length (a .out .now)) (c .before .before .before .before .before .before .before .allows-gained .ensures) (c .before .before .before .before .before .before .allows-lost .ensures) (c .before .before .before .before .before .before .before .before .before .before .before .pre .6) in
+    (c .before .before .before .before .before .before .before .before .before .before .before .pre .0, c .before .before .before .before .before .before .before .before .before .before .before .pre .2, c .before .before .before .before .before .before .before .before .before .before .before .pre .3, c .before .before .before .before .before .before .before .before .before .before .before .pre .5, omega (arith, room, c .before .before .before .before .before .allowed-size .ensures, ap length (c .before .before .before .put-allowed .ensures) ∙ length-sets (a .out .now) 0 (allowedOf (c .before .before .before .before .before .before .before .allows-gained .result) 64 (a .node) (heldIn layout (a .w) (a .g) (a .gained .now) (a .node)))))
+
+same-length : tie.Need-same-length
+same-length c = search needs
+
+returns : tie.Need-returns
+unfolding reportBytes
+returns c =
+    let a = c .before .before .before .before .before .before .before .before .before .before .before .before .before .before .args in
+    let room = room-for (c .before .before .before .before .before .before .before .before .before .before .allows-gained .result) (c .before .before .before .before .before .before .before .before .before .allows-lost .result) (allowsGained (a .sign)) (allowsLost (a .sign)) (a .g * (6 + 4 * a .w)) (a .l * (6 + 4 * a .w)) (length (a .out .now)) (c .before .before .before .before .before .before .before .before .before .before .allows-gained .ensures) (c .before .before .before .before .before .before .before .before .before .allows-lost .ensures) (c .before .before .before .before .before .before .before .before .before .before .before .before .before .before .pre .6) in
+    let both = sets-more (a .out .now) (c .before .before .before .before .before .before .put-allowed .last .1 .0) (c .before .before .put-allowed2 .last .1 .0) 0 (c .before .before .before .before .before .before .before .before .allowed-size .result) (allowedOf (c .before .before .before .before .before .before .before .before .before .before .allows-gained .result) 64 (a .node) (heldIn layout (a .w) (a .g) (a .gained .now) (a .node))) (allowedOf (c .before .before .before .before .before .before .before .before .before .allows-lost .result) 65 (a .node) (heldIn layout (a .w) (a .l) (a .lost .now) (a .node))) (c .before .before .before .before .before .before .put-allowed .ensures) (c .before .before .before .before .before .before .before .before .allowed-size .ensures ∙ sym (allowed-size-is (c .before .before .before .before .before .before .before .before .before .before .allows-gained .result) 64 (a .node) (a .w) (a .g) (a .gained .now)) ∙ sym (zero-add (length (allowedOf (c .before .before .before .before .before .before .before .before .before .before .allows-gained .result) 64 (a .node) (heldIn layout (a .w) (a .g) (a .gained .now) (a .node)))))) (c .before .before .put-allowed2 .ensures) in
+    let size = length-append (allowedOf (c .before .before .before .before .before .before .before .before .before .before .allows-gained .result) 64 (a .node) (heldIn layout (a .w) (a .g) (a .gained .now) (a .node))) (allowedOf (c .before .before .before .before .before .before .before .before .before .allows-lost .result) 65 (a .node) (heldIn layout (a .w) (a .l) (a .lost .now) (a .node))) in
+    both ∙ sets-first (a .out .now) ((allowedOf (c .before .before .before .before .before .before .before .before .before .before .allows-gained .result) 64 (a .node) (heldIn layout (a .w) (a .g) (a .gained .now) (a .node))) ++ (allowedOf (c .before .before .before .before .before .before .before .before .before .allows-lost .result) 65 (a .node) (heldIn layout (a .w) (a .l) (a .lost .now) (a .node)))) (omega (arith, size, (allowed-size-is (c .before .before .before .before .before .before .before .before .before .before .allows-gained .result) 64 (a .node) (a .w) (a .g) (a .gained .now)), (allowed-size-is (c .before .before .before .before .before .before .before .before .before .allows-lost .result) 65 (a .node) (a .w) (a .l) (a .lost .now)), room)) ∙ rw (c .before .before .before .before .before .before .before .before .before .before .allows-gained .ensures, c .before .before .before .before .before .before .before .before .before .allows-lost .ensures)
+
+pub put-report-spec : {M : Type 1} → statement M
+put-report-spec =
+    tie.close
+    (tie.spec
+    allows-gained-requires
+    allows-lost-requires
+    allowed-size-requires
+    put-allowed-requires
+    put-allowed-requires-2
+    same-length
+    returns)
