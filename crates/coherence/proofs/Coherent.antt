@@ -39,12 +39,13 @@ length-slots : (l : List Slot) → length (map slotNode l) ≡ length l
 length-slots [] = refl
 length-slots (x ∷ l) = ap suc (length-slots l)
 
-getD-held : (f : ℕ → Relation) (from n j : ℕ) → j < n → getD (map f (countFrom from n)) j [] ≡ f (from + j)
+-- the value of a counted list
+pub getD-held : (f : ℕ → Relation) (from n j : ℕ) → j < n → getD (map f (countFrom from n)) j [] ≡ f (from + j)
 getD-held f from zero j h = absurd (not-suc-le-zero h)
 getD-held f from (suc n) zero h = ap f (sym (add-zero from))
 getD-held f from (suc n) (suc j) h = let e : suc from + j ≡ from + suc j = omega arith in getD-held f (suc from) n j (le-of-suc-le-suc h) ∙ ap f e
 
-length-counted : (f : ℕ → Relation) (from n : ℕ) → length (map f (countFrom from n)) ≡ n
+pub length-counted : (f : ℕ → Relation) (from n : ℕ) → length (map f (countFrom from n)) ≡ n
 length-counted f from zero = refl
 length-counted f from (suc n) = ap suc (length-counted f (suc from) n)
 

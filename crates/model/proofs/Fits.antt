@@ -8,9 +8,9 @@ use native.Mathlib.Nat.{le-of-suc-le-suc, not-suc-le-zero}
 use lib.ListN.{List·getD-append, length, length-append, take}
 use lib.Dec.{eqb, leb, ltb}
 use lib.Seq.{getD-at, take-at}
-use borrow.Author.Tests.{eqb-true, ltb-false, ltb-true}
+use borrow.Author.Tests.{eqb-true, ltb-false, ltb-true, eqb-false}
 use Rattle.model.specs.Network.{AllFit, Item, Kind, Network, Node, hasShape, isUnknown, isWatch, itemAt, itemFits, kindNumbered, noNetwork, nodeAt, nodeFits, nodeItem, readNetwork, readRecords, recordFault, refusedReading, table, watchItem, widthOf, widths, withItem}
-use Rattle.model.specs.Record.{Bytes, firstBroken, isBroken, kindAt, offsets, rule}
+use Rattle.model.specs.Record.{Bytes, firstBroken, isBroken, kindAt, offsets, rule, accepted}
 use Rattle.model.proofs.Build.{build-more, length-build}
 use Rattle.model.specs.Row.{isEmpty, maxNodes}
 
@@ -91,3 +91,29 @@ read-fits bs = go (isEmpty bs)
     go : (t : Bool) → AllFit (cond t (refusedReading 2 0) (readRecords bs noNetwork (offsets bs)) .network .nodes)
     go true = λ i h. absurd (not-suc-le-zero h)
     go false = records-fit bs noNetwork (offsets bs) (λ i h. absurd (not-suc-le-zero h))
+
+-- ---- a verdict with number 0 is acceptance
+
+records-accepted : (bs : Bytes) (net : Network) (ats : List ℕ) → readRecords bs net ats .verdict .number ≡ 0 → readRecords bs net ats .verdict ≡ accepted
+unfolding readRecords
+records-accepted bs net [] z = refl
+records-accepted bs net (at ∷ rest) z =
+    go (eqb (recordFault (widths (net .nodes)) (net .signs) bs at) 0) refl z (records-accepted bs (withItem net (itemAt (kindNumbered (kindAt bs at)) bs at)) rest)
+  where
+    next : Network
+    next = withItem net (itemAt (kindNumbered (kindAt bs at)) bs at)
+
+    fault : ℕ
+    fault = recordFault (widths (net .nodes)) (net .signs) bs at
+
+    go : (t : Bool) → eqb (recordFault (widths (net .nodes)) (net .signs) bs at) 0 ≡ t → cond t (readRecords bs next rest) (refusedReading (recordFault (widths (net .nodes)) (net .signs) bs at) at) .verdict .number ≡ 0 → (readRecords bs next rest .verdict .number ≡ 0 → readRecords bs next rest .verdict ≡ accepted) → cond t (readRecords bs next rest) (refusedReading (recordFault (widths (net .nodes)) (net .signs) bs at) at) .verdict ≡ accepted
+    go true e y ih = ih y
+    go false e y ih = absurd (eqb-false (recordFault (widths (net .nodes)) (net .signs) bs at) 0 e y)
+
+pub read-accepted : (bs : Bytes) → readNetwork bs .verdict .number ≡ 0 → readNetwork bs .verdict ≡ accepted
+unfolding readNetwork
+read-accepted bs z = go (isEmpty bs) z
+  where
+    go : (t : Bool) → cond t (refusedReading 2 0) (readRecords bs noNetwork (offsets bs)) .verdict .number ≡ 0 → cond t (refusedReading 2 0) (readRecords bs noNetwork (offsets bs)) .verdict ≡ accepted
+    go true y = absurd (omega arith)
+    go false y = records-accepted bs noNetwork (offsets bs) y

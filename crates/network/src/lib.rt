@@ -154,7 +154,7 @@ fn no_network() -> Network
 }
 
 // A refusal, with no network beside it.
-fn refused_reading(number: usize, place: usize) -> Reading
+pub fn refused_reading(number: usize, place: usize) -> Reading
     ensures { λ r. ⌜ (readingOf r ≡ refusedReading number place) × Built (r .network) ⌝ }
 {
     Reading {

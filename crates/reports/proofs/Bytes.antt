@@ -11,7 +11,7 @@ use Rattle.model.specs.Row.{Relation, Row, countFrom, numbersBelow}
 use Rattle.rows.proofs.Words.{Wide, length-fields}
 use Rattle.reports.specs.Written.{allowedOf, recordsOf}
 use Rattle.model.specs.Record.{bytes16, bytes32}
-use Rattle.model.specs.Calls.{changeRecord}
+use Rattle.model.specs.Calls.{changeRecord, allowsGained, allowsLost, reportBytes}
 use Rattle.model.specs.Areas.{fields, heldIn, layout}
 use Rattle.rows.proofs.Place.{fields-split, held-wide, length-held}
 
@@ -129,3 +129,10 @@ step-inside n j s at len h f =
     let more : suc j * s ≤ n * s = mul-le-mul-right s h in
     let e : suc j * s ≡ j * s + s = suc-mul j s in
     omega (arith, more, e)
+
+-- the size of a node's report
+pub report-length : (sign node w g l : ℕ) (gained lost : List ℕ) → length (reportBytes sign node (record { gained = heldIn layout w g gained node; lost = heldIn layout w l lost node })) ≡ cond (allowsGained sign) (g * (6 + 4 * w)) 0 + cond (allowsLost sign) (l * (6 + 4 * w)) 0
+unfolding reportBytes
+report-length sign node w g l gained lost =
+    length-append (allowedOf (allowsGained sign) 64 node (heldIn layout w g gained node)) (allowedOf (allowsLost sign) 65 node (heldIn layout w l lost node))
+    ∙ ap₂ {A = ℕ} {B = ℕ} {C = ℕ} (λ x y. x + y) (allowed-size-is (allowsGained sign) 64 node w g gained) (allowed-size-is (allowsLost sign) 65 node w l lost)
