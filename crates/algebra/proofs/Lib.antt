@@ -1,5 +1,3 @@
 pub mod Joins
 pub mod Places
 pub mod Puts
-pub mod Inside
-pub mod Fresh

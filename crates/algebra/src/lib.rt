@@ -6,17 +6,12 @@ ghost use lib.Dec.{eqb};
 ghost use lib.ListN.{length, getD, take};
 ghost use Rattle.model.specs.Row.{member, ascending, insertRow};
 ghost use Rattle.model.specs.Algebra.{compareFields, agree, projectRows, joinRows, unionRows, differenceRows, intersectRows};
-ghost use Rattle.model.specs.Network.{columnsBelow, pairsBelow, isTable};
-ghost use Rattle.model.specs.Evaluation.{evaluateSelect, evaluateSet};
+ghost use Rattle.model.specs.Network.{columnsBelow, pairsBelow};
+ghost use Rattle.model.specs.Evaluation.{evaluateSelect};
 ghost use Rattle.rows.specs.Rows.{stride, rowAt, firstRows, orderOf};
-ghost use Rattle.nodes.specs.Nodes.{operandOf, operationOf, pairsOf};
+ghost use Rattle.nodes.specs.Nodes.{operandOf, pairsOf};
 ghost use Rattle.algebra.specs.Places.{joinedField, joinedRow, insertAll, JoinFits, JoinsIn, joinedWith, passesRow, OperandBelow, Selects, Place, Blank, relationIn, Fills, Kept, Stands, Stored, Makes};
-ghost use Rattle.network.specs.Reading.{slotNode, Shaped};
-ghost use Rattle.algebra.specs.Evaluate.{leftOf, rightOf, evaluateOn, fitsOn};
-use network::Slot;
-use nodes::Node;
 use nodes::Operand;
-use nodes::SetOperation;
 use rows::Inserted;
 use rows::Order;
 use rows::STRIDE;
@@ -310,99 +305,4 @@ pub fn join_rows(
         }
     }
     Made::Rows(count)
-}
-
-// The rows of a set operation, in an empty place: how many, or that they are more than 64.
-fn set_rows(
-    operation: SetOperation,
-    left: &[u32],
-    n: usize,
-    right: &[u32],
-    m: usize,
-    out: &mut [u32],
-) -> Made
-    requires { ⌜ (n ≤ 64) × (m ≤ 64) × (n * stride ≤ length (now left)) × (m * stride ≤ length (now right)) × (ascending (firstRows (now right) m) ≡ true) × Blank (now out) ⌝ }
-    ensures { λ r. ⌜ ((w : ℕ) → Place w (now (left .entry)) n → Place w (now (right .entry)) m → Makes (evaluateSet (operationOf operation) (relationIn w (now (left .entry)) n) (relationIn w (now (right .entry)) m)) (now (out .exit)) r) ⌝ }
-{
-    match operation {
-        SetOperation::Union => union_rows(left, n, right, m, out),
-        SetOperation::Difference => Made::Rows(difference_rows(left, n, right, m, out)),
-        SetOperation::Intersection => Made::Rows(intersect_rows(left, n, right, m, out)),
-    }
-}
-
-// Whether the node is a table.
-pub fn is_table(slot: Slot) -> bool
-    ensures { λ r. ⌜ r ≡ isTable (slotNode slot) ⌝ }
-{
-    let node = slot.node;
-    match node {
-        Node::Table(_) => true,
-        Node::Select(_, _, _, _) => false,
-        Node::Project(_, _) => false,
-        Node::Join(_, _, _, _) => false,
-        Node::Set(_, _, _) => false,
-    }
-}
-
-// The node's first input; 0 of a table.
-pub fn left_of(slot: Slot) -> usize
-    ensures { λ r. ⌜ r ≡ leftOf (slotNode slot) ⌝ }
-{
-    let node = slot.node;
-    match node {
-        Node::Table(_) => 0,
-        Node::Select(input, _, _, _) => input,
-        Node::Project(input, _) => input,
-        Node::Join(left, _, _, _) => left,
-        Node::Set(_, left, _) => left,
-    }
-}
-
-// The node's second input, or its only one; 0 of a table.
-pub fn right_of(slot: Slot) -> usize
-    ensures { λ r. ⌜ r ≡ rightOf (slotNode slot) ⌝ }
-{
-    let node = slot.node;
-    match node {
-        Node::Table(_) => 0,
-        Node::Select(input, _, _, _) => input,
-        Node::Project(input, _) => input,
-        Node::Join(_, right, _, _) => right,
-        Node::Set(_, _, right) => right,
-    }
-}
-
-// The width of the rows of a place, and how many there are.
-pub struct Held {
-    pub width: usize,
-    pub count: usize,
-}
-
-// A derived node's rows from those of its inputs, in an empty place: how many, or that they are more than 64. A table's kind gives none.
-pub fn evaluate(slot: Slot, left: &[u32], l: Held, right: &[u32], r: Held, out: &mut [u32]) -> Made
-    requires { ⌜ Shaped slot × Place (l .width) (now left) (l .count) × Place (r .width) (now right) (r .count) × (fitsOn (l .width) (r .width) (slotNode slot) ≡ true) × Blank (now out) ⌝ }
-    ensures { λ made. ⌜ Makes (evaluateOn (slotNode slot) (relationIn (l .width) (now (left .entry)) (l .count)) (relationIn (r .width) (now (right .entry)) (r .count))) (now (out .exit)) made ⌝ }
-{
-    let n = l.count;
-    let m = r.count;
-    let node = slot.node;
-    match node {
-        Node::Table(_) => Made::Rows(0),
-        Node::Select(_, column, code, operand) => {
-            Made::Rows(select_rows(left, n, column, code, operand, out))
-        }
-        Node::Project(_, c) => project_rows(left, n, &slot.columns, c, out),
-        Node::Join(_, _, p, c) => {
-            let how = Joining {
-                split: l.width,
-                p,
-                pairs: slot.pairs,
-                n: c,
-                columns: slot.columns,
-            };
-            join_rows(left, n, right, m, how, out)
-        }
-        Node::Set(operation, _, _) => set_rows(operation, left, n, right, m, out),
-    }
 }

@@ -123,12 +123,12 @@ fn good_stamps(head: &[u32], n: usize) -> bool
     requires { ⌜ 162 ≤ length (now head) ⌝ }
     ensures { λ r. ⌜ r ≡ goodStamps n (now (head .entry)) ⌝ }
 {
-    let mut i = 0;
-    while i < NODES {
-        if !good_stamp(head, n, i) {
+    let mut node = 0;
+    while node < NODES {
+        if !good_stamp(head, n, node) {
             return false;
         }
-        i += 1;
+        node += 1;
     }
     true
 }

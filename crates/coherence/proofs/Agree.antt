@@ -16,8 +16,8 @@ use Rattle.rows.proofs.Checked.{bool-same, placed-rows, place-length}
 use Rattle.rows.specs.Rows.{firstRows, sameFirst}
 use Rattle.rows.proofs.Place.{held-wide, length-held}
 use Rattle.model.specs.Areas.{layout, placeOf, rowCount}
-use Rattle.algebra.specs.Evaluate.{leftOf, rightOf}
-use Rattle.algebra.proofs.Inside.{on-wide, width-on}
+use Rattle.evaluation.specs.Derived.{leftOf, rightOf}
+use Rattle.evaluation.proofs.Inside.{on-wide, width-on}
 use Rattle.coherence.proofs.Placed.{place-at, rows-few, words-at}
 use Rattle.areas.proofs.Good.{placeAt}
 use Rattle.model.proofs.Order.{sameRow-eq, sameRow-refl}

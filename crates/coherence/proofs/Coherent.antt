@@ -1,5 +1,5 @@
 -- Areas whose rows are of good form: coherence judged node by node. Assumes nothing.
-use mathlib.Core.Bool.{Bool, false, true}
+use mathlib.Core.Bool.{Bool, false, true, cond}
 use mathlib.Core.List.{List, [], map, _∷_}
 use mathlib.Core.Path.{ap, refl, sym, _∙_, _≡_}
 use Prim.Native.Nat.{_+_, _<_, suc, zero, ℕ}
@@ -8,20 +8,20 @@ use native.Mathlib.Omega.{arith}
 use lib.ListN.{getD, length, take}
 use lib.Seq.{getD-take, length-take-le}
 use Rattle.rows.proofs.Place.{all-below, below-all}
-use Rattle.model.specs.Network.{AllFit, build, isTable, nodeAt, table, widthOf, widths}
+use Rattle.model.specs.Network.{AllFit, build, isTable, nodeAt, table, widthOf, widths, Node, highest, inputsOf, levelOf, levels}
 use Rattle.network.specs.declared.Network.{Network}
 use Rattle.network.specs.Reading.{Built, noSlot, nodesOf, slotNode}
 use Rattle.coherence.specs.Held.{Derived, freshIn, heldAt, rowsHeld, slotAgrees}
 use Rattle.model.specs.Row.{Relation, allOf, countFrom, numbersBelow}
 use Rattle.network.specs.declared.Slot.{Slot}
-use Rattle.algebra.proofs.Fresh.{agreesAt, columns-fit, fresh-checked, inputs-before}
+use Rattle.evaluation.proofs.Fresh.{agreesAt, columns-fit, fresh-checked, inputs-before}
 use Rattle.rows.proofs.Checked.{bool-same}
 use Rattle.model.proofs.Build.{build-at}
-use Rattle.algebra.specs.Evaluate.{fitsOn, leftOf, rightOf}
+use Rattle.evaluation.specs.Derived.{fitsOn, leftOf, rightOf}
 use Rattle.model.specs.Areas.{heldIn, layout, relationsIn, rowCount}
 use Rattle.model.proofs.Fits.{length-widths}
 use Rattle.model.specs.Evaluation.{rowsAt}
-use Rattle.algebra.proofs.Inside.{width-on, widthOn}
+use Rattle.evaluation.proofs.Inside.{width-on, widthOn}
 
 -- two tests that say the same of the numbers below n
 all-same : (p q : ℕ → Bool) (n : ℕ) → ((j : ℕ) → j < n → p j ≡ q j) → allOf p (numbersBelow n) ≡ allOf q (numbersBelow n)
@@ -96,6 +96,30 @@ module _ (net : Network) (b : Built net) (fit : AllFit (nodesOf net)) where
             ∙ ap (λ (x : ℕ). widthOn x (slotNode (getD (net .slots) i noSlot))) (width-is net b (leftOf (slotNode (getD (net .slots) i noSlot))) (omega arith))
             ∙ sym (width-on (slotNode (getD (net .slots) i noSlot)) (net .widths) e);
       }
+
+  -- a node's level is 0 exactly if it is a table
+  level-at : (i : ℕ) → i < net .count → getD (net .levels) i 0 ≡ cond (isTable (slotNode (getD (net .slots) i noSlot))) 0 (suc (highest (take i (levels (nodesOf net))) (inputsOf (slotNode (getD (net .slots) i noSlot)))))
+  unfolding levels
+  level-at i h =
+      let k : i < length (nodesOf net) = rw (nodes-count net b) h in
+      sym (getD-take (net .count) (net .levels) i 0 h)
+      ∙ ap (λ (l : List ℕ). getD l i 0) (b .sound .levels)
+      ∙ build-at levelOf i (nodesOf net) 0 k
+      ∙ ap (λ (n : Node). levelOf n (take i (levels (nodesOf net)))) (slot-node net b i h)
+
+  pub level-table : (i : ℕ) → i < net .count → getD (net .levels) i 0 ≡ 0 → isTable (slotNode (getD (net .slots) i noSlot)) ≡ true
+  level-table i h z = go (isTable (slotNode (getD (net .slots) i noSlot))) (sym (level-at i h) ∙ z)
+    where
+      go : (t : Bool) → cond t 0 (suc (highest (take i (levels (nodesOf net))) (inputsOf (slotNode (getD (net .slots) i noSlot))))) ≡ 0 → t ≡ true
+      go true e = refl
+      go false e = absurd (omega arith)
+
+  pub level-derived : (i : ℕ) → i < net .count → (getD (net .levels) i 0 ≡ 0 → ⊥) → Derived (getD (net .slots) i noSlot) (net .widths) i
+  level-derived i h n = go (isTable (slotNode (getD (net .slots) i noSlot))) refl
+    where
+      go : (t : Bool) → isTable (slotNode (getD (net .slots) i noSlot)) ≡ t → Derived (getD (net .slots) i noSlot) (net .widths) i
+      go true e = absurd (n (level-at i h ∙ ap (λ (t : Bool). cond t 0 (suc (highest (take i (levels (nodesOf net))) (inputsOf (slotNode (getD (net .slots) i noSlot)))))) e))
+      go false e = derived-at i h e
 
   module _ (rows head : List ℕ) where
     pub rows-length : length (rowsHeld net rows head) ≡ length (nodesOf net)

@@ -12,10 +12,10 @@ ghost use Rattle.network.specs.Reading.{slotNode, nodesOf, Built};
 ghost use Rattle.algebra.specs.Places.{Blank, Makes, relationIn};
 ghost use Rattle.areas.specs.Lent.{lent};
 ghost use Rattle.coherence.specs.Held.{heldAt, Places, Derived, givenAt, Checkable, slotAgrees, freshIn};
-use algebra::Held;
 use algebra::Made;
 use areas::COUNTS;
 use areas::PLACE;
+use evaluation::Held;
 use network::Network;
 use network::Slot;
 use nodes::Node;
@@ -43,11 +43,11 @@ fn evaluate_held(
     requires { ⌜ Places (now widths) n (now rows) (now head) × Derived slot (now widths) n × Blank (now out) ⌝ }
     ensures { λ r. ⌜ Makes (givenAt slot (now (widths .entry)) (now (head .entry)) (now (rows .entry))) (now (out .exit)) r ⌝ }
 {
-    let l = algebra::left_of(slot);
-    let r = algebra::right_of(slot);
+    let l = evaluation::left_of(slot);
+    let r = evaluation::right_of(slot);
     let left = held(widths, head, l);
     let right = held(widths, head, r);
-    algebra::evaluate(
+    evaluation::evaluate(
         slot,
         &rows[l * PLACE..l * PLACE + PLACE],
         left,
@@ -74,12 +74,19 @@ fn rows_agree(slot: Slot, widths: &[usize], rows: &[u32], head: &[u32], i: usize
     }
 }
 
-// Whether node i is a table, or its rows in the area are what its kind gives.
-fn node_agrees(slot: Slot, widths: &[usize], rows: &[u32], head: &[u32], i: usize) -> bool
-    requires { ⌜ Places (now widths) (i + 1) (now rows) (now head) × (isTable (slotNode slot) ≡ false → Derived slot (now widths) i) ⌝ }
+// Whether node i, of a level, is a table, which has level 0, or its rows in the area are what its kind gives.
+fn node_agrees(
+    slot: Slot,
+    level: usize,
+    widths: &[usize],
+    rows: &[u32],
+    head: &[u32],
+    i: usize,
+) -> bool
+    requires { ⌜ Places (now widths) (i + 1) (now rows) (now head) × (level ≡ 0 → isTable (slotNode slot) ≡ true) × ((level ≡ 0 → ⊥) → Derived slot (now widths) i) ⌝ }
     ensures { λ r. ⌜ r ≡ slotAgrees slot (now (widths .entry)) (now (head .entry)) (now (rows .entry)) i ⌝ }
 {
-    if algebra::is_table(slot) {
+    if level == 0 {
         return true;
     }
     rows_agree(slot, widths, rows, head, i)
@@ -94,7 +101,8 @@ pub fn is_coherent(net: Network, rows: &[u32], head: &[u32]) -> bool
     let mut i = 0;
     while i < count {
         let slot = net.slots[i];
-        if !node_agrees(slot, &net.widths, rows, head, i) {
+        let level = net.levels[i];
+        if !node_agrees(slot, level, &net.widths, rows, head, i) {
             return false;
         }
         i += 1;

@@ -13,6 +13,7 @@ use borrow.Author.Tests.{ltb-false, ltb-true}
 use Rattle.model.specs.Record.{Bytes, fieldsAt}
 use Rattle.model.specs.Network.{nodeItem, watchItem, isTable, inputsOf, highest, widthOf, levelOf, noNetwork, withItem, levels, widths}
 use Rattle.model.proofs.Build.{build-more}
+use Rattle.model.proofs.Fits.{widths-more}
 use Rattle.nodes.specs.Nodes.{nodeAt, NodeFits, Narrow}
 use Rattle.network.specs.Reading.{slotNode, nodesOf, networkOf, Sound, Built, Extends, NextSlot, InputsBelow, widthIn, levelIn, Ends, Shaped, noSlot, CountsFit}
 use Rattle.nodes.specs.declared.Node.{Node}
@@ -44,10 +45,6 @@ map-append [] b = refl
 map-append (x ∷ a) b = ap (λ (l : List model.Node). slotNode x ∷ l) (map-append a b)
 
 -- ---- one node more
-
-widths-more : (nodes : List model.Node) (n : model.Node) → model.widths (nodes ++ (n ∷ [])) ≡ model.widths nodes ++ (widthOf n (model.widths nodes) ∷ [])
-unfolding model.widths
-widths-more nodes n = build-more widthOf nodes n
 
 levels-more : (nodes : List model.Node) (n : model.Node) → model.levels (nodes ++ (n ∷ [])) ≡ model.levels nodes ++ (levelOf n (model.levels nodes) ∷ [])
 unfolding model.levels

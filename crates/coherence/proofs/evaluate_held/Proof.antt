@@ -5,22 +5,22 @@ use Prim.Native.Nat.{ℕ}
 use native.Mathlib.Omega.{arith}
 use lib.ListN.{getD}
 use borrow.Author.Needs.{needs}
-use Rattle.algebra.specs.declared.Held.{Held}
+use Rattle.evaluation.specs.declared.Held.{Held}
 use Rattle.areas.proofs.Good.{placeAt}
 use Rattle.coherence.proofs.evaluate_held.Statement.{statement}
 use Rattle.coherence.specs.Held.{Derived, Places, heldAt}
 use Rattle.algebra.specs.Places.{Place, relationIn}
 use Rattle.network.specs.declared.Slot.{Slot}
-use Rattle.algebra.specs.Evaluate.{fitsOn, leftOf, rightOf}
+use Rattle.evaluation.specs.Derived.{fitsOn, leftOf, rightOf}
 use Rattle.coherence.proofs.Placed.{held-at, place-at}
 use Rattle.model.specs.Areas.{rowCount}
 use Rattle.network.specs.Reading.{slotNode}
 use Rattle.coherence.proofs.evaluate_held.Tie as tie
 use Rattle.coherence.proofs.evaluate_held.Reads as reads
 use Rattle.coherence.proofs.evaluate_held.Lts as lts
-use Rattle.algebra.proofs.evaluate.Reads as evaluate-reads
-use Rattle.algebra.proofs.left_of.Reads as left-of-reads
-use Rattle.algebra.proofs.right_of.Reads as right-of-reads
+use Rattle.evaluation.proofs.evaluate.Reads as evaluate-reads
+use Rattle.evaluation.proofs.left_of.Reads as left-of-reads
+use Rattle.evaluation.proofs.right_of.Reads as right-of-reads
 use Rattle.coherence.proofs.held.Reads as held-reads
 
 as-held : (slot : Slot) (ws head rows : List ℕ) (n l r : ℕ) (lh rh : Held) → Places ws n rows head → Derived slot ws n → l ≡ leftOf (slotNode slot) → r ≡ rightOf (slotNode slot) → lh ≡ record { width = getD ws l 0; count = rowCount head l } → rh ≡ record { width = getD ws r 0; count = rowCount head r } →

@@ -5,7 +5,7 @@ use lib.ListN.{getD}
 use borrow.Author.Tests.{not-false, not-true}
 use Rattle.areas.proofs.All.{AllTo, all-none, all-more, all-done, all-not}
 use Rattle.coherence.proofs.is_coherent.Statement.{statement}
-use Rattle.coherence.proofs.Coherent.{coherent-is, derived-at}
+use Rattle.coherence.proofs.Coherent.{coherent-is, level-derived, level-table}
 use Rattle.coherence.proofs.Agree.{fewer}
 use Rattle.network.specs.Reading.{noSlot}
 use Rattle.coherence.specs.Held.{slotAgrees}
@@ -29,15 +29,21 @@ mul-slot c = omega arith
 element-copy-out-slot : tie.Need-element-copy-out-slot Inv-loop μ-loop
 element-copy-out-slot c = omega arith
 
+mul-level : tie.Need-mul-level Inv-loop μ-loop
+mul-level c = omega arith
+
+element-copy-out-level : tie.Need-element-copy-out-level Inv-loop μ-loop
+element-copy-out-level c = omega arith
+
 node-agrees-requires : tie.Need-node-agrees-requires Inv-loop μ-loop
 node-agrees-requires c κs =
-    let a = c .before .before .before .before .before .before .before .before .args in
-    (fewer (a .t1 .widths) (a .t1 .count) (c .before .before .before .before .before .loop .i + 1) (a .rows .now) (a .head .now) (omega arith) (c .before .before .before .before .before .before .before .before .pre .places), derived-at (a .t1) (c .before .before .before .before .before .before .before .before .pre .built) (c .before .before .before .before .before .before .before .before .pre .fit) (c .before .before .before .before .before .loop .i) (omega arith))
+    let a = c .before .before .before .before .before .before .before .before .before .args in
+    (fewer (a .t1 .widths) (a .t1 .count) (c .before .before .before .before .before .before .loop .i + 1) (a .rows .now) (a .head .now) (omega arith) (c .before .before .before .before .before .before .before .before .before .pre .places), level-table (a .t1) (c .before .before .before .before .before .before .before .before .before .pre .built) (c .before .before .before .before .before .before .before .before .before .pre .fit) (c .before .before .before .before .before .before .loop .i) (omega arith), level-derived (a .t1) (c .before .before .before .before .before .before .before .before .before .pre .built) (c .before .before .before .before .before .before .before .before .before .pre .fit) (c .before .before .before .before .before .before .loop .i) (omega arith))
 
 returns : tie.Need-returns Inv-loop μ-loop
 returns c =
-    let a = c .before .before .before .before .before .before .before .before .before .before .args in
-    sym (sym (coherent-is (a .t1) (c .before .before .before .before .before .before .before .before .before .before .pre .built) (c .before .before .before .before .before .before .before .before .before .before .pre .fit) (a .rows .now) (a .head .now)) ∙ all-not (λ j. slotAgrees (getD (a .t1 .slots) j noSlot) (a .t1 .widths) (a .head .now) (a .rows .now) j) (a .t1 .count) (c .before .before .before .before .before .before .before .loop .i) (omega arith) (sym (c .before .node-agrees .ensures) ∙ not-true (c .before .node-agrees .result) (c .if1 .taken)))
+    let a = c .before .before .before .before .before .before .before .before .before .before .before .args in
+    sym (sym (coherent-is (a .t1) (c .before .before .before .before .before .before .before .before .before .before .before .pre .built) (c .before .before .before .before .before .before .before .before .before .before .before .pre .fit) (a .rows .now) (a .head .now)) ∙ all-not (λ j. slotAgrees (getD (a .t1 .slots) j noSlot) (a .t1 .widths) (a .head .now) (a .rows .now) j) (a .t1 .count) (c .before .before .before .before .before .before .before .before .loop .i) (omega arith) (sym (c .before .node-agrees .ensures) ∙ not-true (c .before .node-agrees .result) (c .if1 .taken)))
 
 add-i : tie.Need-add-i Inv-loop μ-loop
 add-i c = omega arith
@@ -46,7 +52,7 @@ loop-less : tie.Need-loop-less Inv-loop μ-loop
 loop-less c = omega arith
 
 loop-again : tie.Need-loop-again Inv-loop μ-loop
-loop-again c = let a = c .before .before .before .before .before .before .before .before .before .before .args in (omega arith, c .before .before .before .before .before .before .before .loop .inv .1, all-more (λ j. slotAgrees (getD (a .t1 .slots) j noSlot) (a .t1 .widths) (a .head .now) (a .rows .now) j) (a .t1 .count) (c .before .before .before .before .before .before .before .loop .i) (c .before .before .before .before .before .before .before .loop .inv .2) (sym (c .before .node-agrees .ensures) ∙ not-false (c .before .node-agrees .result) (c .if1 .left)))
+loop-again c = let a = c .before .before .before .before .before .before .before .before .before .before .before .args in (omega arith, c .before .before .before .before .before .before .before .before .loop .inv .1, all-more (λ j. slotAgrees (getD (a .t1 .slots) j noSlot) (a .t1 .widths) (a .head .now) (a .rows .now) j) (a .t1 .count) (c .before .before .before .before .before .before .before .before .loop .i) (c .before .before .before .before .before .before .before .before .loop .inv .2) (sym (c .before .node-agrees .ensures) ∙ not-false (c .before .node-agrees .result) (c .if1 .left)))
 
 returns-2 : tie.Need-returns-2 Inv-loop μ-loop
 returns-2 c =
@@ -62,6 +68,8 @@ is-coherent-spec =
     loop-holds
     mul-slot
     element-copy-out-slot
+    mul-level
+    element-copy-out-level
     node-agrees-requires
     returns
     add-i

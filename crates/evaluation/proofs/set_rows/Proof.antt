@@ -1,12 +1,12 @@
 use borrow.Author.Needs.{needs}
-use Rattle.algebra.proofs.set_rows.Statement.{statement}
+use Rattle.evaluation.proofs.set_rows.Statement.{statement}
 use Rattle.model.specs.Evaluation.{evaluateSet}
-use Rattle.algebra.proofs.set_rows.Tie as tie
-use Rattle.algebra.proofs.set_rows.Reads as reads
-use Rattle.algebra.proofs.set_rows.Lts as lts
+use Rattle.evaluation.proofs.set_rows.Tie as tie
+use Rattle.evaluation.proofs.set_rows.Reads as reads
+use Rattle.evaluation.proofs.set_rows.Lts as lts
 use Rattle.algebra.proofs.difference_rows.Reads as difference-rows-reads
 use Rattle.algebra.proofs.intersect_rows.Reads as intersect-rows-reads
 use Rattle.algebra.proofs.union_rows.Reads as union-rows-reads
 
 enum-told : tie.Need-enum-told
 enum-told c = search needs

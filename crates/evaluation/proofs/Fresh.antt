@@ -15,8 +15,8 @@ use Rattle.model.proofs.Sets.{and-both, and-first, and-second, sameRows-eq, sam
 use Rattle.rows.proofs.Checked.{bool-same}
 use Rattle.model.specs.Evaluation.{evaluate, evaluateNode, rowsAt}
 use Rattle.model.proofs.Build.{evaluate-at, length-evaluate}
-use Rattle.algebra.specs.Evaluate.{evaluateOn, fitsOn, leftOf, rightOf}
-use Rattle.algebra.proofs.Inside.{inputs-fit, on-inputs}
+use Rattle.evaluation.specs.Derived.{evaluateOn, fitsOn, leftOf, rightOf}
+use Rattle.evaluation.proofs.Inside.{inputs-fit, on-inputs}
 use Rattle.model.proofs.Fits.{length-widths}
 use Rattle.model.specs.Areas.{sameRelations, tablesOf}
 

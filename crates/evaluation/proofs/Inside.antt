@@ -8,20 +8,20 @@ use lib.ListN.{length, take, getD}
 use lib.Dec.{ltb, eqb}
 use borrow.Author.Tests.{eqb-true, lt-ltb, ltb-true}
 use Rattle.nodes.specs.declared.Operand.{Operand}
 use Rattle.algebra.specs.Places.{Blank, Fills, JoinFits, JoinsIn, OperandBelow, OperandIn}
 use Rattle.nodes.specs.declared.Operand.the-variants.{Column, Constant}
 use Rattle.algebra.specs.declared.Joining.{Joining}
 use Rattle.model.specs.Network.{columnsBelow, operandBelow, pairsBelow, isTable, nodeFits, widthOf}
 use Rattle.model.specs.Algebra.{Pair, agree, columnsOf, compareFields, differenceRows, holdsOf, intersectRows, joinOne, joinRows, projectRows, selectColumns, selectConstant, unionRows}
 use Rattle.model.proofs.Sets.{and-both, and-first, and-second}
 use Rattle.algebra.proofs.Puts.{columns-more, wide-each}
-use Rattle.algebra.specs.Evaluate.{fitsOn, evaluateOn, leftOf, rightOf}
+use Rattle.evaluation.specs.Derived.{fitsOn, evaluateOn, leftOf, rightOf}
 use Rattle.nodes.specs.Nodes.{operandOf, pairsOf}
 use Rattle.model.specs.Row.{Relation, Row, keep, member}
 use Rattle.model.specs.Evaluation.{evaluateNode, rowsAt, evaluateSelect, evaluateSet}
 use Rattle.model.specs.Areas.{placeOf}
 use Rattle.rows.proofs.Words.{Wide, wide-keep}
 use Rattle.algebra.proofs.Joins.{length-map}
 use Rattle.rows.proofs.Place.{wide-append}
 use Rattle.rows.proofs.Padding.{wide-setOf}
 use Rattle.model.specs.Network as model

@@ -1,0 +1,98 @@
+// A derived node's rows from those of its inputs.
+ghost use mathlib.Core.Path.{_≡_};
+ghost use mathlib.Core.Bool.{Bool, true, false};
+ghost use Prim.Native.Nat.{ℕ, _+_, _*_, _≤_, _<_};
+ghost use lib.ListN.{length};
+ghost use Rattle.model.specs.Row.{ascending};
+ghost use Rattle.model.specs.Evaluation.{evaluateSet};
+ghost use Rattle.rows.specs.Rows.{stride, firstRows};
+ghost use Rattle.nodes.specs.Nodes.{operationOf};
+ghost use Rattle.network.specs.Reading.{slotNode, Shaped};
+ghost use Rattle.algebra.specs.Places.{Place, Blank, relationIn, Makes};
+ghost use Rattle.evaluation.specs.Derived.{leftOf, rightOf, evaluateOn, fitsOn};
+use algebra::Joining;
+use algebra::Made;
+use network::Slot;
+use nodes::Node;
+use nodes::SetOperation;
+
+// The rows of a set operation, in an empty place: how many, or that they are more than 64.
+fn set_rows(
+    operation: SetOperation,
+    left: &[u32],
+    n: usize,
+    right: &[u32],
+    m: usize,
+    out: &mut [u32],
+) -> Made
+    requires { ⌜ (n ≤ 64) × (m ≤ 64) × (n * stride ≤ length (now left)) × (m * stride ≤ length (now right)) × (ascending (firstRows (now right) m) ≡ true) × Blank (now out) ⌝ }
+    ensures { λ r. ⌜ ((w : ℕ) → Place w (now (left .entry)) n → Place w (now (right .entry)) m → Makes (evaluateSet (operationOf operation) (relationIn w (now (left .entry)) n) (relationIn w (now (right .entry)) m)) (now (out .exit)) r) ⌝ }
+{
+    match operation {
+        SetOperation::Union => algebra::union_rows(left, n, right, m, out),
+        SetOperation::Difference => Made::Rows(algebra::difference_rows(left, n, right, m, out)),
+        SetOperation::Intersection => Made::Rows(algebra::intersect_rows(left, n, right, m, out)),
+    }
+}
+
+// The node's first input; 0 of a table.
+pub fn left_of(slot: Slot) -> usize
+    ensures { λ r. ⌜ r ≡ leftOf (slotNode slot) ⌝ }
+{
+    let node = slot.node;
+    match node {
+        Node::Table(_) => 0,
+        Node::Select(input, _, _, _) => input,
+        Node::Project(input, _) => input,
+        Node::Join(left, _, _, _) => left,
+        Node::Set(_, left, _) => left,
+    }
+}
+
+// The node's second input, or its only one; 0 of a table.
+pub fn right_of(slot: Slot) -> usize
+    ensures { λ r. ⌜ r ≡ rightOf (slotNode slot) ⌝ }
+{
+    let node = slot.node;
+    match node {
+        Node::Table(_) => 0,
+        Node::Select(input, _, _, _) => input,
+        Node::Project(input, _) => input,
+        Node::Join(_, right, _, _) => right,
+        Node::Set(_, _, right) => right,
+    }
+}
+
+// The width of the rows of a place, and how many there are.
+pub struct Held {
+    pub width: usize,
+    pub count: usize,
+}
+
+// A derived node's rows from those of its inputs, in an empty place: how many, or that they are more than 64. A table's kind gives none.
+pub fn evaluate(slot: Slot, left: &[u32], l: Held, right: &[u32], r: Held, out: &mut [u32]) -> Made
+    requires { ⌜ Shaped slot × Place (l .width) (now left) (l .count) × Place (r .width) (now right) (r .count) × (fitsOn (l .width) (r .width) (slotNode slot) ≡ true) × Blank (now out) ⌝ }
+    ensures { λ made. ⌜ Makes (evaluateOn (slotNode slot) (relationIn (l .width) (now (left .entry)) (l .count)) (relationIn (r .width) (now (right .entry)) (r .count))) (now (out .exit)) made ⌝ }
+{
+    let n = l.count;
+    let m = r.count;
+    let node = slot.node;
+    match node {
+        Node::Table(_) => Made::Rows(0),
+        Node::Select(_, column, code, operand) => {
+            Made::Rows(algebra::select_rows(left, n, column, code, operand, out))
+        }
+        Node::Project(_, c) => algebra::project_rows(left, n, &slot.columns, c, out),
+        Node::Join(_, _, p, c) => {
+            let how = Joining {
+                split: l.width,
+                p,
+                pairs: slot.pairs,
+                n: c,
+                columns: slot.columns,
+            };
+            algebra::join_rows(left, n, right, m, how, out)
+        }
+        Node::Set(operation, _, _) => set_rows(operation, left, n, right, m, out),
+    }
+}
