@@ -4,3 +4,4 @@ pub mod Algebra
 pub mod Build
 pub mod Delta
 pub mod Fits
+pub mod Parts

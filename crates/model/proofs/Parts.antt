@@ -1,0 +1,32 @@
+-- Parts written one after the other. Assumes nothing.
+use mathlib.Core.List.{_++_, List, [], append-assoc, append-nil, flatMap, _∷_}
+use mathlib.Core.Path.{ap, ap₂, refl, sym, _∙_, _≡_}
+use Prim.Native.Nat.{_+_, suc, ℕ, _≤_}
+use native.Mathlib.Nat.{add-zero, zero-add}
+use native.Mathlib.Omega.{arith}
+use lib.ListN.{drop, length, set}
+use lib.Seq.{sets, sets-eq}
+
+pub sets-append : (l : List ℕ) (i : ℕ) (a b : List ℕ) → sets (sets l i a) (i + length a) b ≡ sets l i (a ++ b)
+sets-append l i [] b = ap (λ (k : ℕ). sets l k b) (add-zero i)
+sets-append l i (x ∷ a) b = let e : i + suc (length a) ≡ suc i + length a = omega arith in ap (λ (k : ℕ). sets (sets (set l i x) (suc i) a) k b) e ∙ sets-append (set l i x) (suc i) a b
+
+-- one part more, where the last one ended
+pub sets-more : (l out after : List ℕ) (i j : ℕ) (a b : List ℕ) → out ≡ sets l i a → j ≡ i + length a → after ≡ sets out j b → after ≡ sets l i (a ++ b)
+sets-more l out after i j a b e f g = g ∙ ap₂ {A = List ℕ} {B = ℕ} {C = List ℕ} (λ s k. sets s k b) e f ∙ sets-append l i a b
+
+-- written from the first byte on
+pub sets-first : (l a : List ℕ) → length a ≤ length l → sets l 0 a ≡ a ++ drop (length a) l
+sets-first l a h = sets-eq a l 0 (rw (zero-add (length a)) h) ∙ ap (λ (k : ℕ). a ++ drop k l) (zero-add (length a))
+
+-- ---- many parts
+
+module _ {A : Type 0} (f : A → List ℕ) where
+  pub flat-append : (a b : List A) → flatMap f (a ++ b) ≡ flatMap f a ++ flatMap f b
+  unfolding flatMap
+  flat-append [] b = refl
+  flat-append (x ∷ a) b = ap (λ (l : List ℕ). f x ++ l) (flat-append a b) ∙ sym (append-assoc (f x) (flatMap f a) (flatMap f b))
+
+  pub flat-one : (x : A) → flatMap f (x ∷ []) ≡ f x
+  unfolding flatMap
+  flat-one x = append-nil (f x)
