@@ -77,7 +77,7 @@ fn put_numbers(out: &mut [u8], at: usize, numbers: &[usize]) -> usize
 // A line: a word, then numbers, from the first byte on: its length.
 pub fn put_line(out: &mut [u8], word: &[u8], numbers: &[usize]) -> usize
     requires { ⌜ length (now word) + 21 * length (now numbers) < length (now out) ⌝ }
-    ensures { λ r. ⌜ (now (out .exit) ≡ sets (now (out .entry)) 0 (line (now (word .entry)) (now (numbers .entry)))) × (r ≡ length (line (now (word .entry)) (now (numbers .entry)))) ⌝ }
+    ensures { λ r. ⌜ (now (out .exit) ≡ sets (now (out .entry)) 0 (line (now (word .entry)) (now (numbers .entry)))) × (r ≡ length (line (now (word .entry)) (now (numbers .entry)))) × (r ≤ length (now (out .entry))) ⌝ }
 {
     let from = put_bytes(out, 0, word);
     let end = put_numbers(out, from, numbers);

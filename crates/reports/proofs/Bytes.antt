@@ -14,6 +14,7 @@ use Rattle.model.specs.Record.{bytes16, bytes32}
 use Rattle.model.specs.Calls.{changeRecord, allowsGained, allowsLost, reportBytes}
 use Rattle.model.specs.Areas.{fields, heldIn, layout}
 use Rattle.rows.proofs.Place.{fields-split, held-wide, length-held}
+use Rattle.model.proofs.Parts.{flat-append, flat-one}
 
 -- ---- fields
 

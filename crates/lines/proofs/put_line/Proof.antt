@@ -38,7 +38,7 @@ returns c =
     let end : c .before .before .put-numbers .result ≡ 0 + length (a .word .now ++ numbersText (a .numbers .now)) = omega (arith, c .before .before .put-numbers .ensures .1, c .before .before .before .before .before .before .put-bytes .ensures .1, length-append (a .word .now) (numbersText (a .numbers .now))) in
     let three = sets-more (a .out .now) (c .before .before .put-numbers .last .0) (set (c .before .before .put-numbers .last .0) (c .before .before .put-numbers .result) 10) 0 (c .before .before .put-numbers .result) (a .word .now ++ numbersText (a .numbers .now)) (newline ∷ []) two end refl in
     let same = line-is (a .word .now) (a .numbers .now) in
-    (three ∙ ap (sets (a .out .now) 0) same, omega (arith, end, ap length same, length-append (a .word .now ++ numbersText (a .numbers .now)) (newline ∷ [])))
+    (three ∙ ap (sets (a .out .now) 0) same, omega (arith, end, ap length same, length-append (a .word .now ++ numbersText (a .numbers .now)) (newline ∷ [])), omega (arith, c .before .before .put-numbers .ensures .2, c .before .before .before .before .before .before .put-bytes .ensures .1))
 
 pub put-line-spec : {M : Type 1} → statement M
 put-line-spec =

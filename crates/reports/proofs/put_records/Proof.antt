@@ -6,7 +6,8 @@ use lib.Seq.{length-sets, sets}
 use Rattle.reports.proofs.put_records.Statement.{statement}
 use Rattle.model.specs.Calls.{changeRecord}
 use Rattle.model.specs.Areas.{fields, heldIn, layout}
-use Rattle.reports.proofs.Bytes.{held-none, held-size, records-more, sets-more, size-bound, step-inside}
+use Rattle.reports.proofs.Bytes.{held-none, held-size, records-more, size-bound, step-inside}
+use Rattle.model.proofs.Parts.{sets-more}
 use Rattle.reports.specs.Written.{recordsOf}
 use Rattle.reports.proofs.put_records.Tie as tie
 use Rattle.reports.proofs.put_records.Reads as reads

@@ -8,7 +8,8 @@ use lib.ListN.{length, length-append}
 use lib.Seq.{length-sets}
 use borrow.Author.Needs.{needs}
 use Rattle.reports.proofs.put_report.Statement.{statement}
-use Rattle.reports.proofs.Bytes.{allowed-size-is, sets-first, sets-more}
+use Rattle.reports.proofs.Bytes.{allowed-size-is}
+use Rattle.model.proofs.Parts.{sets-first, sets-more}
 use Rattle.reports.specs.Written.{allowedOf}
 use Rattle.model.specs.Calls.{allowsGained, allowsLost, reportBytes}
 use Rattle.model.specs.Areas.{heldIn, layout}
