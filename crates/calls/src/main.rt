@@ -137,7 +137,13 @@ fn main() {
                 store(&mut head, index, value);
             }
         } else if kind == OPEN {
-            let v = monitor::open(&input[from..to], &mut rows, &mut gained, &mut lost, &mut head);
+            let v = monitor::open(
+                &input[from..to],
+                &mut rows,
+                &mut gained,
+                &mut lost,
+                &mut head,
+            );
             let k = lines::put_line(&mut text, b"", &[v.number, v.place]);
             io::write_all(STDOUT_FILENO, &text[..k]);
         } else if kind == CHECK {
@@ -145,7 +151,15 @@ fn main() {
             let k = lines::put_line(&mut text, b"", &[v.number, v.place, v.yes as usize]);
             io::write_all(STDOUT_FILENO, &text[..k]);
         } else if kind == REPORT {
-            let v = monitor::report(&input[from..to], index, &rows, &gained, &lost, &head, &mut out);
+            let v = monitor::report(
+                &input[from..to],
+                index,
+                &rows,
+                &gained,
+                &lost,
+                &head,
+                &mut out,
+            );
             let k = lines::put_line(&mut text, b"", &[v.number, v.place, v.size]);
             io::write_all(STDOUT_FILENO, &text[..k]);
         } else if kind == BYTES {
@@ -153,7 +167,13 @@ fn main() {
             let k = lines::put_line(&mut text, b"bytes", &numbers);
             io::write_all(STDOUT_FILENO, &text[..k]);
         } else if kind == SHORT_ROWS {
-            let v = monitor::open(&input[from..to], &mut tiny, &mut gained, &mut lost, &mut head);
+            let v = monitor::open(
+                &input[from..to],
+                &mut tiny,
+                &mut gained,
+                &mut lost,
+                &mut head,
+            );
             let k = lines::put_line(&mut text, b"", &[v.number, v.place]);
             io::write_all(STDOUT_FILENO, &text[..k]);
         } else if kind == SHORT_GAINED {
@@ -161,15 +181,37 @@ fn main() {
             let k = lines::put_line(&mut text, b"", &[v.number, v.place, v.yes as usize]);
             io::write_all(STDOUT_FILENO, &text[..k]);
         } else if kind == SHORT_LOST {
-            let v = monitor::report(&input[from..to], index, &rows, &gained, &tiny, &head, &mut out);
+            let v = monitor::report(
+                &input[from..to],
+                index,
+                &rows,
+                &gained,
+                &tiny,
+                &head,
+                &mut out,
+            );
             let k = lines::put_line(&mut text, b"", &[v.number, v.place, v.size]);
             io::write_all(STDOUT_FILENO, &text[..k]);
         } else if kind == SHORT_HEAD {
-            let v = monitor::open(&input[from..to], &mut rows, &mut gained, &mut lost, &mut tiny);
+            let v = monitor::open(
+                &input[from..to],
+                &mut rows,
+                &mut gained,
+                &mut lost,
+                &mut tiny,
+            );
             let k = lines::put_line(&mut text, b"", &[v.number, v.place]);
             io::write_all(STDOUT_FILENO, &text[..k]);
         } else {
-            let v = monitor::report(&input[from..to], index, &rows, &gained, &lost, &head, &mut small);
+            let v = monitor::report(
+                &input[from..to],
+                index,
+                &rows,
+                &gained,
+                &lost,
+                &head,
+                &mut small,
+            );
             let k = lines::put_line(&mut text, b"", &[v.number, v.place, v.size]);
             io::write_all(STDOUT_FILENO, &text[..k]);
         }

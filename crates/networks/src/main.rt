@@ -1,88 +1,75 @@
-// Reads networks from standard input and prints what the reader answers of each: a refusal's number and place, or the node count and each
-// node's kind, width and level. A case is a byte (the length of its name), 2 bytes (the length of the network), the name, the network.
-ghost use Prim.Native.Nat.{_<_, _≤_};
+// Reads networks from standard input and prints what the reader answers of each: a refusal's number and place, or 0 and 0, the node count,
+// and every node's kind, width and level, 0 past the last. A case is a byte (the length of its name), 2 bytes (the length of the network), the
+// name, the network.
+ghost use mathlib.Core.Path.{_≡_};
+ghost use Prim.Native.Nat.{_+_, _<_, _≤_};
 ghost use lib.ListN.{length};
+ghost use lib.Seq.{sets};
+ghost use Rattle.model.specs.Text.{line};
+ghost use Rattle.networks.specs.Cases.{Inside};
 use libc::STDOUT_FILENO;
-use network::Answer;
 
-fn print_number(n: usize) {
-    io::write_all(STDOUT_FILENO, b" ");
-    io::print_decimal(STDOUT_FILENO, n as u64);
+// Where a case's name and its network begin, and where the next case does.
+pub struct Case {
+    pub name: usize,
+    pub net: usize,
+    pub next: usize,
 }
 
-fn print_node(kind: usize, width: usize, level: usize) {
-    print_number(kind);
-    io::write_all(STDOUT_FILENO, b"/");
-    io::print_decimal(STDOUT_FILENO, width as u64);
-    io::write_all(STDOUT_FILENO, b"/");
-    io::print_decimal(STDOUT_FILENO, level as u64);
-}
-
-fn print_nodes(answer: Answer) {
-    let count = answer.count;
-    let mut i = 0;
-    while i < nodes::MAX_NODES {
-        if count <= i {
-            return;
-        }
-        print_node(answer.kinds[i], answer.widths[i], answer.levels[i]);
-        i += 1;
-    }
-}
-
-fn print_answer(answer: Answer) {
-    if answer.number == 0 {
-        io::write_all(STDOUT_FILENO, b":");
-        print_number(answer.count);
-        print_nodes(answer);
-    } else {
-        io::write_all(STDOUT_FILENO, b": refused");
-        print_number(answer.number);
-        print_number(answer.place);
-    }
-    io::write_all(STDOUT_FILENO, b"\n");
-}
-
-// Prints the case at an offset: the offset of the next one, or the end where it is cut short.
-fn print_case(bytes: &[u8], at: usize) -> usize
+// The case at an offset; one without a name and a network where the bytes end before it does.
+fn case_at(bytes: &[u8], at: usize) -> Case
     requires { ⌜ at < length (now bytes) ⌝ }
-    ensures { λ r. ⌜ (at < r) × (r ≤ length (now (bytes .entry))) ⌝ }
+    ensures { λ r. ⌜ Inside at r (length (now (bytes .entry))) ⌝ }
 {
     let end = bytes.len();
+    let none = Case {
+        name: end,
+        net: end,
+        next: end,
+    };
     if end - at < 3 {
-        return end;
+        return none;
     }
     let name = at + 3;
     let net = name + bytes[at] as usize;
-    if end < net {
-        return end;
-    }
     let next = net + records::u16_at(bytes, at + 1);
     if end < next {
-        return end;
+        return none;
     }
-    io::write_all(STDOUT_FILENO, &bytes[name..net]);
-    print_answer(network::read(&bytes[net..next]));
-    next
+    Case { name, net, next }
 }
 
-// Prints each case: how many there are.
-fn print_all(bytes: &[u8]) -> usize
-    ensures { λ r. ⌜ r ≤ length (now (bytes .entry)) ⌝ }
+// A line of a word and 32 numbers: its length.
+fn put_list(text: &mut [u8], word: &[u8], list: [usize; 32]) -> usize
+    requires { ⌜ length (now word) + 672 < length (now text) ⌝ }
+    ensures { λ r. ⌜ (now (text .exit) ≡ sets (now (text .entry)) 0 (line (now (word .entry)) list)) × (r ≤ length (now (text .entry))) ⌝ }
 {
-    let mut at = 0;
-    let mut count = 0;
-    while at < bytes.len() {
-        at = print_case(bytes, at);
-        count += 1;
-    }
-    count
+    lines::put_line(text, word, &list)
 }
 
 fn main() {
     let mut input = io::large_buffer();
     let n = io::read_full(0, &mut input);
-    let count = print_all(&input[..n]);
-    io::print_decimal(STDOUT_FILENO, count as u64);
-    io::write_all(STDOUT_FILENO, b" networks\n");
+    let mut text = io::buffer();
+    let mut at = 0;
+    while at < n {
+        let case = case_at(&input[..n], at);
+        at = case.next;
+        let name = case.name;
+        let net = case.net;
+        io::write_all(STDOUT_FILENO, &input[name..net]);
+        let answer = network::read(&input[net..at]);
+        let first = [answer.number, answer.place, answer.count];
+        let kinds = answer.kinds;
+        let widths = answer.widths;
+        let levels = answer.levels;
+        let a = lines::put_line(&mut text, b"", &first);
+        io::write_all(STDOUT_FILENO, &text[..a]);
+        let b = put_list(&mut text, b" kinds", kinds);
+        io::write_all(STDOUT_FILENO, &text[..b]);
+        let c = put_list(&mut text, b" widths", widths);
+        io::write_all(STDOUT_FILENO, &text[..c]);
+        let d = put_list(&mut text, b" levels", levels);
+        io::write_all(STDOUT_FILENO, &text[..d]);
+    }
 }
