@@ -1,0 +1,249 @@
+-- Areas with a state in their named words: they are of good form, coherent, and hold that state. Assumes nothing.
+use mathlib.Core.Bool.{Bool, cond, false, true}
+use mathlib.Core.List.{List, [], map, zipWith, _∷_}
+use mathlib.Core.Path.{ap, ap₂, refl, sym, _∙_, _≡_}
+use Prim.Native.Nat.{_+_, _-_, _<_, suc, suc-le-suc, zero, zero-le, ℕ, _≤_}
+use native.Mathlib.Nat.{add-zero, zero-add}
+use native.Mathlib.Omega.{arith}
+use lib.ListN.{List·getD-append, drop, getD, length, length-append, replicate}
+use lib.Dec.{eqb, leb, ltb}
+use borrow.Author.Tests.{le-leb, lt-ltb, ltb-false, ltb-true}
+use Rattle.model.specs.Network.{Node, AllFit, widths}
+use Rattle.rows.proofs.Place.{all-below, below-all}
+use Rattle.model.specs.Areas.{Areas, batchNumber, changesIn, gainedCount, goodArea, goodForm, goodStamps, goodWorked, headOf, holding, layout, longEnough, lostCount, padded, rowCount, rowsIn, stampAt, tablesOf, workedAt, workedCount}
+use Rattle.model.specs.Delta.{Change}
+use Rattle.demand3.proofs.Written.{Fitting, written-back, written-good, written-long}
+use Rattle.model.specs.Row.{Relation, allOf, countFrom, numbersBelow}
+use Rattle.model.specs.Station.{State}
+use Rattle.model.proofs.Sets.{and-both}
+use Rattle.model.specs.Evaluation.{evaluate}
+use Rattle.areas.proofs.Good.{form-last, long-last}
+use Rattle.demand3.proofs.Head.{head-length, padded-length, padded-zero, word-b, word-first, word-p, word-q, word-r, word-s, word-t}
+use Rattle.model.proofs.Fits.{length-widths}
+
+-- a state as opening and batches leave it
+pub record Proper (nodes : List Node) (s : State) : Type 0 where
+  pub tables-size : length (s .tables) ≡ length nodes
+  pub tables-only : tablesOf nodes (s .tables) ≡ s .tables
+  pub rows : Fitting (widths nodes) (evaluate nodes (s .tables))
+  pub gained : Fitting (widths nodes) (map (λ c. c .gained) (s .changes))
+  pub lost : Fitting (widths nodes) (map (λ c. c .lost) (s .changes))
+  pub stamps-size : length (s .stamps) ≡ length nodes
+  pub stamps-low : (i : ℕ) → getD (s .stamps) i 0 ≤ s .number
+  pub worked-few : length (s .worked) ≤ length nodes
+  pub worked-low : (k : ℕ) → k < length (s .worked) → getD (s .worked) k 0 < length nodes
+
+-- ---- lists
+
+length-lengths : (rels : List Relation) → length (map length rels) ≡ length rels
+length-lengths [] = refl
+length-lengths (r ∷ rels) = ap suc (length-lengths rels)
+
+lengths-at : (rels : List Relation) (i : ℕ) → getD (map length rels) i 0 ≡ length (getD rels i [])
+lengths-at [] i = refl
+lengths-at (r ∷ rels) zero = refl
+lengths-at (r ∷ rels) (suc i) = lengths-at rels i
+
+map-twice : (g : Change → Relation) (cs : List Change) → map (λ c. length (g c)) cs ≡ map length (map g cs)
+map-twice g [] = refl
+map-twice g (c ∷ cs) = ap (λ (l : List ℕ). length (g c) ∷ l) (map-twice g cs)
+
+pub zip-changes : (cs : List Change) → zipWith (λ g l. record { gained = g; lost = l }) (map (λ c. c .gained) cs) (map (λ c. c .lost) cs) ≡ cs
+unfolding zipWith
+zip-changes [] = refl
+zip-changes (c ∷ cs) = ap (λ (l : List Change). c ∷ l) (zip-changes cs)
+
+-- a list is what stands at its indices
+map-getD : (f : ℕ → ℕ) (from : ℕ) (l : List ℕ) → ((k : ℕ) → k < length l → f (from + k) ≡ getD l k 0) → map f (countFrom from (length l)) ≡ l
+map-getD f from [] h = refl
+map-getD f from (x ∷ l) h =
+    ap₂ {A = ℕ} {B = List ℕ} {C = List ℕ} (λ y m. y ∷ m) (ap f (sym (add-zero from)) ∙ h 0 (suc-le-suc zero-le))
+    (map-getD f (suc from) l (λ k g. let e : suc from + k ≡ from + suc k = omega arith in ap f e ∙ h (suc k) (suc-le-suc g)))
+
+-- a list padded to 32 numbers, each number or 0
+padded-at : (l : List ℕ) (i : ℕ) → i < length l → getD (padded 32 l) i 0 ≡ getD l i 0
+padded-at l i h = List·getD-append l (replicate (32 - length l) 0) 0 i h
+
+module _ (nodes : List Node) (s : State) (p : Proper nodes s) (before : Areas) where
+  abbrev rels : List Relation
+  rels = evaluate nodes (s .tables)
+
+  abbrev gs : List Relation
+  gs = map (λ c. c .gained) (s .changes)
+
+  abbrev ls : List Relation
+  ls = map (λ c. c .lost) (s .changes)
+
+  abbrev h : Areas
+  h = holding layout nodes s before
+
+  few : length nodes ≤ 32
+  few = omega (arith, p .rows .few, length-widths nodes)
+
+  ws-size : length (widths nodes) ≡ length nodes
+  ws-size = length-widths nodes
+
+  -- ---- the head
+
+  abbrev c1 : List ℕ
+  c1 = padded 32 (map length (evaluate nodes (s .tables)))
+
+  abbrev c2 : List ℕ
+  c2 = padded 32 (s .stamps)
+
+  abbrev c3 : List ℕ
+  c3 = padded 32 (map (λ c. length (c .gained)) (s .changes))
+
+  abbrev c4 : List ℕ
+  c4 = padded 32 (map (λ c. length (c .lost)) (s .changes))
+
+  abbrev c5 : List ℕ
+  c5 = padded 32 (s .worked)
+
+  counted : (g : Change → Relation) → length (map g (s .changes)) ≡ length (widths nodes) → length (map (λ c. length (g c)) (s .changes)) ≡ length nodes
+  counted g e = ap length (map-twice g (s .changes)) ∙ length-lengths (map g (s .changes)) ∙ e ∙ ws-size
+
+  n1 : length (map length (evaluate nodes (s .tables))) ≡ length nodes
+  n1 = length-lengths (evaluate nodes (s .tables)) ∙ p .rows .size ∙ ws-size
+
+  n3 : length (map (λ c. length (c .gained)) (s .changes)) ≡ length nodes
+  n3 = counted (λ c. c .gained) (p .gained .size)
+
+  n4 : length (map (λ c. length (c .lost)) (s .changes)) ≡ length nodes
+  n4 = counted (λ c. c .lost) (p .lost .size)
+
+  k1 : length c1 ≡ 32
+  k1 = padded-length 32 (map length (evaluate nodes (s .tables))) (omega (arith, n1, few))
+
+  k2 : length c2 ≡ 32
+  k2 = padded-length 32 (s .stamps) (omega (arith, p .stamps-size, few))
+
+  k3 : length c3 ≡ 32
+  k3 = padded-length 32 (map (λ c. length (c .gained)) (s .changes)) (omega (arith, n3, few))
+
+  k4 : length c4 ≡ 32
+  k4 = padded-length 32 (map (λ c. length (c .lost)) (s .changes)) (omega (arith, n4, few))
+
+  k5 : length c5 ≡ 32
+  k5 = padded-length 32 (s .worked) (omega (arith, p .worked-few, few))
+
+  abbrev rest : List ℕ
+  rest = drop (length (headOf (evaluate nodes (s .tables)) s)) (before .head)
+
+  number-is : batchNumber (holding layout nodes s before .head) ≡ s .number
+  unfolding holding headOf
+  number-is = word-first (s .number ∷ []) c1 c2 c3 c4 (length (s .worked) ∷ []) c5 rest refl k1 k2 k3 k4 refl k5
+
+  count-word : (i : ℕ) → i < 32 → rowCount (holding layout nodes s before .head) i ≡ getD c1 i 0
+  unfolding holding headOf
+  count-word i b = word-p (s .number ∷ []) c1 c2 c3 c4 (length (s .worked) ∷ []) c5 rest refl k1 k2 k3 k4 refl k5 i b
+
+  stamp-word : (i : ℕ) → i < 32 → stampAt (holding layout nodes s before .head) i ≡ getD c2 i 0
+  unfolding holding headOf
+  stamp-word i b = word-q (s .number ∷ []) c1 c2 c3 c4 (length (s .worked) ∷ []) c5 rest refl k1 k2 k3 k4 refl k5 i b
+
+  gained-word : (i : ℕ) → i < 32 → gainedCount (holding layout nodes s before .head) i ≡ getD c3 i 0
+  unfolding holding headOf
+  gained-word i b = word-r (s .number ∷ []) c1 c2 c3 c4 (length (s .worked) ∷ []) c5 rest refl k1 k2 k3 k4 refl k5 i b
+
+  lost-word : (i : ℕ) → i < 32 → lostCount (holding layout nodes s before .head) i ≡ getD c4 i 0
+  unfolding holding headOf
+  lost-word i b = word-s (s .number ∷ []) c1 c2 c3 c4 (length (s .worked) ∷ []) c5 rest refl k1 k2 k3 k4 refl k5 i b
+
+  worked-is : workedCount (holding layout nodes s before .head) ≡ length (s .worked)
+  unfolding holding headOf
+  worked-is = word-b (s .number ∷ []) c1 c2 c3 c4 (length (s .worked) ∷ []) c5 rest refl k1 k2 k3 k4 refl k5
+
+  worked-word : (k : ℕ) → k < 32 → workedAt (holding layout nodes s before .head) k ≡ getD c5 k 0
+  unfolding holding headOf
+  worked-word k b = word-t (s .number ∷ []) c1 c2 c3 c4 (length (s .worked) ∷ []) c5 rest refl k1 k2 k3 k4 refl k5 k b
+
+  -- ---- counts
+
+  rows-count : (i : ℕ) → i < length (widths nodes) → rowCount (holding layout nodes s before .head) i ≡ length (getD (evaluate nodes (s .tables)) i [])
+  rows-count i b = count-word i (omega (arith, ws-size, few)) ∙ padded-at (map length (evaluate nodes (s .tables))) i (omega (arith, n1, ws-size)) ∙ lengths-at (evaluate nodes (s .tables)) i
+
+  rows-none : (i : ℕ) → length (widths nodes) ≤ i → i < 32 → rowCount (holding layout nodes s before .head) i ≡ 0
+  rows-none i b k = count-word i k ∙ padded-zero 32 (map length (evaluate nodes (s .tables))) i (omega (arith, n1, ws-size)) k
+
+  change-count : (g : Change → Relation) (i : ℕ) → length (map (λ c. length (g c)) (s .changes)) ≡ length nodes → i < length (widths nodes) → getD (padded 32 (map (λ c. length (g c)) (s .changes))) i 0 ≡ length (getD (map g (s .changes)) i [])
+  change-count g i n b = padded-at (map (λ c. length (g c)) (s .changes)) i (omega (arith, n, ws-size)) ∙ ap (λ (l : List ℕ). getD l i 0) (map-twice g (s .changes)) ∙ lengths-at (map g (s .changes)) i
+
+  gained-count : (i : ℕ) → i < length (widths nodes) → gainedCount (holding layout nodes s before .head) i ≡ length (getD (map (λ c. c .gained) (s .changes)) i [])
+  gained-count i b = gained-word i (omega (arith, ws-size, few)) ∙ change-count (λ c. c .gained) i n3 b
+
+  gained-none : (i : ℕ) → length (widths nodes) ≤ i → i < 32 → gainedCount (holding layout nodes s before .head) i ≡ 0
+  gained-none i b k = gained-word i k ∙ padded-zero 32 (map (λ c. length (c .gained)) (s .changes)) i (omega (arith, n3, ws-size)) k
+
+  lost-count : (i : ℕ) → i < length (widths nodes) → lostCount (holding layout nodes s before .head) i ≡ length (getD (map (λ c. c .lost) (s .changes)) i [])
+  lost-count i b = lost-word i (omega (arith, ws-size, few)) ∙ change-count (λ c. c .lost) i n4 b
+
+  lost-none : (i : ℕ) → length (widths nodes) ≤ i → i < 32 → lostCount (holding layout nodes s before .head) i ≡ 0
+  lost-none i b k = lost-word i k ∙ padded-zero 32 (map (λ c. length (c .lost)) (s .changes)) i (omega (arith, n4, ws-size)) k
+
+  -- ---- good form
+
+  good-stamps : goodStamps (length nodes) (holding layout nodes s before .head) ≡ true
+  unfolding goodStamps
+  good-stamps = below-all (λ i. leb (stampAt (holding layout nodes s before .head) i) (cond (ltb i (length nodes)) (batchNumber (holding layout nodes s before .head)) 0)) 0 32 (λ i b. rw (zero-add i) (go i b (ltb i (length nodes)) refl))
+    where
+      go : (i : ℕ) → i < 32 → (t : Bool) → ltb i (length nodes) ≡ t → leb (stampAt (holding layout nodes s before .head) i) (cond t (batchNumber (holding layout nodes s before .head)) 0) ≡ true
+      go i b true e =
+          let k : i < length nodes = ltb-true i (length nodes) e in
+          rw (stamp-word i b ∙ padded-at (s .stamps) i (rw (p .stamps-size) k), number-is) (le-leb (getD (s .stamps) i 0) (s .number) (p .stamps-low i))
+      go i b false e = rw (stamp-word i b ∙ padded-zero 32 (s .stamps) i (rw (p .stamps-size) (ltb-false i (length nodes) e)) b)
+
+  good-worked : goodWorked (length nodes) (holding layout nodes s before .head) ≡ true
+  unfolding goodWorked
+  good-worked =
+      and-both (leb (workedCount (holding layout nodes s before .head)) (length nodes)) (allOf (λ k. cond (ltb k (workedCount (holding layout nodes s before .head))) (ltb (workedAt (holding layout nodes s before .head) k) (length nodes)) (eqb (workedAt (holding layout nodes s before .head) k) 0)) (numbersBelow 32))
+      (rw worked-is (le-leb (length (s .worked)) (length nodes) (p .worked-few)))
+      (below-all (λ k. cond (ltb k (workedCount (holding layout nodes s before .head))) (ltb (workedAt (holding layout nodes s before .head) k) (length nodes)) (eqb (workedAt (holding layout nodes s before .head) k) 0)) 0 32 (λ k b. rw (zero-add k, worked-is) (go k b (ltb k (length (s .worked))) refl)))
+    where
+      go : (k : ℕ) → k < 32 → (t : Bool) → ltb k (length (s .worked)) ≡ t → cond t (ltb (workedAt (holding layout nodes s before .head) k) (length nodes)) (eqb (workedAt (holding layout nodes s before .head) k) 0) ≡ true
+      go k b true e =
+          let i : k < length (s .worked) = ltb-true k (length (s .worked)) e in
+          rw (worked-word k b ∙ padded-at (s .worked) k i) (lt-ltb (getD (s .worked) k 0) (length nodes) (p .worked-low k i))
+      go k b false e = rw (worked-word k b ∙ padded-zero 32 (s .worked) k (ltb-false k (length (s .worked)) e) b)
+
+  pub holding-good : goodForm layout nodes (holding layout nodes s before) ≡ true
+  unfolding goodForm holding
+  holding-good =
+      let r : goodArea layout (widths nodes) (rowCount (holding layout nodes s before .head)) (holding layout nodes s before .rows) ≡ true = written-good (widths nodes) (evaluate nodes (s .tables)) (p .rows) (before .rows) (rowCount (holding layout nodes s before .head)) rows-count rows-none in
+      let g : goodArea layout (widths nodes) (gainedCount (holding layout nodes s before .head)) (holding layout nodes s before .gained) ≡ true = written-good (widths nodes) (map (λ c. c .gained) (s .changes)) (p .gained) (before .gained) (gainedCount (holding layout nodes s before .head)) gained-count gained-none in
+      let l : goodArea layout (widths nodes) (lostCount (holding layout nodes s before .head)) (holding layout nodes s before .lost) ≡ true = written-good (widths nodes) (map (λ c. c .lost) (s .changes)) (p .lost) (before .lost) (lostCount (holding layout nodes s before .head)) lost-count lost-none in
+      form-last (goodArea layout (widths nodes) (rowCount (holding layout nodes s before .head)) (holding layout nodes s before .rows)) (goodArea layout (widths nodes) (gainedCount (holding layout nodes s before .head)) (holding layout nodes s before .gained)) (goodArea layout (widths nodes) (lostCount (holding layout nodes s before .head)) (holding layout nodes s before .lost)) (goodStamps (length nodes) (holding layout nodes s before .head)) (goodWorked (length nodes) (holding layout nodes s before .head)) r g l good-stamps
+      ∙ good-worked
+
+  pub holding-long : longEnough layout (holding layout nodes s before) ≡ true
+  unfolding longEnough holding headOf
+  holding-long =
+      long-last (leb 8192 (length (holding layout nodes s before .rows))) (leb 8192 (length (holding layout nodes s before .gained))) (leb 8192 (length (holding layout nodes s before .lost))) (leb 162 (length (holding layout nodes s before .head)))
+      (le-leb 8192 (length (holding layout nodes s before .rows)) (written-long (widths nodes) (evaluate nodes (s .tables)) (p .rows) (before .rows)))
+      (le-leb 8192 (length (holding layout nodes s before .gained)) (written-long (widths nodes) (map (λ c. c .gained) (s .changes)) (p .gained) (before .gained)))
+      (le-leb 8192 (length (holding layout nodes s before .lost)) (written-long (widths nodes) (map (λ c. c .lost) (s .changes)) (p .lost) (before .lost)))
+      ∙ le-leb 162 (length (holding layout nodes s before .head)) (omega (arith, head-length (s .number ∷ []) c1 c2 c3 c4 (length (s .worked) ∷ []) c5 rest refl k1 k2 k3 k4 refl k5, length-append (headOf (evaluate nodes (s .tables)) s) rest))
+
+  -- ---- the state that they hold
+
+  pub holding-rows : rowsIn layout nodes (holding layout nodes s before) ≡ evaluate nodes (s .tables)
+  unfolding rowsIn holding
+  holding-rows = written-back (widths nodes) (evaluate nodes (s .tables)) (p .rows) (before .rows) (rowCount (holding layout nodes s before .head)) rows-count
+
+  pub holding-changes : changesIn layout nodes (holding layout nodes s before) ≡ s .changes
+  unfolding changesIn holding
+  holding-changes =
+      ap₂ {A = List Relation} {B = List Relation} {C = List Change} (λ x y. zipWith (λ g l. record { gained = g; lost = l }) x y)
+      (written-back (widths nodes) (map (λ c. c .gained) (s .changes)) (p .gained) (before .gained) (gainedCount (holding layout nodes s before .head)) gained-count)
+      (written-back (widths nodes) (map (λ c. c .lost) (s .changes)) (p .lost) (before .lost) (lostCount (holding layout nodes s before .head)) lost-count)
+      ∙ zip-changes (s .changes)
+
+  holding-stamps : map (stampAt (holding layout nodes s before .head)) (numbersBelow (length nodes)) ≡ s .stamps
+  holding-stamps =
+      ap (λ (n : ℕ). map (stampAt (holding layout nodes s before .head)) (numbersBelow n)) (sym (p .stamps-size))
+      ∙ map-getD (stampAt (holding layout nodes s before .head)) 0 (s .stamps) (λ k b. ap (stampAt (holding layout nodes s before .head)) (zero-add k) ∙ stamp-word k (omega (arith, p .stamps-size, few)) ∙ padded-at (s .stamps) k b)
+
+  holding-worked : map (workedAt (holding layout nodes s before .head)) (numbersBelow (workedCount (holding layout nodes s before .head))) ≡ s .worked
+  holding-worked =
+      ap (λ (n : ℕ). map (workedAt (holding layout nodes s before .head)) (numbersBelow n)) worked-is
+      ∙ map-getD (workedAt (holding layout nodes s before .head)) 0 (s .worked) (λ k b. ap (workedAt (holding layout nodes s before .head)) (zero-add k) ∙ worked-word k (omega (arith, p .worked-few, few)) ∙ padded-at (s .worked) k b)

@@ -1,0 +1,1 @@
+// The theorem of demand 3: proofs alone.
