@@ -14,7 +14,7 @@ use Rattle.network.specs.Reading.{Built, noSlot, nodesOf, slotNode}
 use Rattle.coherence.specs.Held.{Derived, freshIn, heldAt, rowsHeld, slotAgrees}
 use Rattle.model.specs.Row.{Relation, allOf, countFrom, numbersBelow}
 use Rattle.network.specs.declared.Slot.{Slot}
-use Rattle.evaluation.proofs.Fresh.{agreesAt, columns-fit, fresh-checked, inputs-before}
+use Rattle.evaluation.proofs.Fresh.{agreesAt, columns-fit, fresh-checked, inputs-before, width-at}
 use Rattle.rows.proofs.Checked.{bool-same}
 use Rattle.model.proofs.Build.{build-at}
 use Rattle.evaluation.specs.Derived.{fitsOn, leftOf, rightOf}
@@ -63,14 +63,6 @@ module _ (net : Network) (b : Built net) where
   width-is i h = ap (λ (l : List ℕ). getD l i 0) (sym (b .sound .widths)) ∙ getD-take (net .count) (net .widths) i 0 h
 
 module _ (net : Network) (b : Built net) (fit : AllFit (nodesOf net)) where
-  width-of : (i : ℕ) → i < net .count → isTable (nodeAt (nodesOf net) i) ≡ false → getD (widths (nodesOf net)) i 0 ≡ widthOn (getD (widths (nodesOf net)) (leftOf (nodeAt (nodesOf net) i)) 0) (nodeAt (nodesOf net) i)
-  unfolding widths
-  width-of i h e =
-      let k : i < length (nodesOf net) = rw (nodes-count net b) h in
-      build-at widthOf i (nodesOf net) 0 k
-      ∙ width-on (nodeAt (nodesOf net) i) (take i (build widthOf (nodesOf net))) e
-      ∙ ap (λ (x : ℕ). widthOn x (nodeAt (nodesOf net) i)) (getD-take i (build widthOf (nodesOf net)) (leftOf (nodeAt (nodesOf net) i)) 0 (inputs-before (nodesOf net) fit i k e .0))
-
   -- a derived node of a network that reading accepts
   pub derived-at : (i : ℕ) → i < net .count → isTable (slotNode (getD (net .slots) i noSlot)) ≡ false → Derived (getD (net .slots) i noSlot) (net .widths) i
   derived-at i h e =
@@ -83,7 +75,7 @@ module _ (net : Network) (b : Built net) (fit : AllFit (nodesOf net)) where
       let right : rightOf (slotNode (getD (net .slots) i noSlot)) < i = rw node at (before .1) in
       let columns : fitsOn (getD (widths (nodesOf net)) (leftOf (slotNode (getD (net .slots) i noSlot))) 0) (getD (widths (nodesOf net)) (rightOf (slotNode (getD (net .slots) i noSlot))) 0) (slotNode (getD (net .slots) i noSlot)) ≡ true =
       rw node at (columns-fit (nodesOf net) fit i k e′) in
-      let width : getD (widths (nodesOf net)) i 0 ≡ widthOn (getD (widths (nodesOf net)) (leftOf (slotNode (getD (net .slots) i noSlot))) 0) (slotNode (getD (net .slots) i noSlot)) = rw node at (width-of i h e′) in
+      let width : getD (widths (nodesOf net)) i 0 ≡ widthOn (getD (widths (nodesOf net)) (leftOf (slotNode (getD (net .slots) i noSlot))) 0) (slotNode (getD (net .slots) i noSlot)) = rw node at (width-at (nodesOf net) fit i k e′) in
       record {
         shaped = b .shaped i h;
         derived = e;

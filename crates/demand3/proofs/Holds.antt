@@ -7,19 +7,22 @@ use native.Mathlib.Nat.{add-zero, zero-add}
 use native.Mathlib.Omega.{arith}
 use lib.ListN.{List·getD-append, drop, getD, length, length-append, replicate}
 use lib.Dec.{eqb, leb, ltb}
+use lib.Seq.{ext-getD}
 use borrow.Author.Tests.{le-leb, lt-ltb, ltb-false, ltb-true}
-use Rattle.model.specs.Network.{Node, AllFit, widths}
+use Rattle.model.specs.Network.{Node, AllFit, widths, isTable, nodeAt}
 use Rattle.rows.proofs.Place.{all-below, below-all}
-use Rattle.model.specs.Areas.{Areas, batchNumber, changesIn, gainedCount, goodArea, goodForm, goodStamps, goodWorked, headOf, holding, layout, longEnough, lostCount, padded, rowCount, rowsIn, stampAt, tablesOf, workedAt, workedCount}
+use Rattle.model.specs.Areas.{Areas, batchNumber, changesIn, gainedCount, goodArea, goodForm, goodStamps, goodWorked, headOf, holding, layout, longEnough, lostCount, padded, rowCount, rowsIn, stampAt, tablesOf, workedAt, workedCount, HoldsState, coherent, sameRelations, stateIn}
 use Rattle.model.specs.Delta.{Change}
 use Rattle.demand3.proofs.Written.{Fitting, written-back, written-good, written-long}
 use Rattle.model.specs.Row.{Relation, allOf, countFrom, numbersBelow}
 use Rattle.model.specs.Station.{State}
 use Rattle.model.proofs.Sets.{and-both}
-use Rattle.model.specs.Evaluation.{evaluate}
+use Rattle.model.specs.Evaluation.{evaluate, rowsAt}
 use Rattle.areas.proofs.Good.{form-last, long-last}
 use Rattle.demand3.proofs.Head.{head-length, padded-length, padded-zero, word-b, word-first, word-p, word-q, word-r, word-s, word-t}
 use Rattle.model.proofs.Fits.{length-widths}
+use Rattle.evaluation.proofs.Fresh.{fresh-table, same-refl, tables-at}
+use Rattle.model.proofs.Build.{length-evaluate}
 
 -- a state as opening and batches leave it
 pub record Proper (nodes : List Node) (s : State) : Type 0 where
@@ -247,3 +250,52 @@ module _ (nodes : List Node) (s : State) (p : Proper nodes s) (before : Areas) w
   holding-worked =
       ap (λ (n : ℕ). map (workedAt (holding layout nodes s before .head)) (numbersBelow n)) worked-is
       ∙ map-getD (workedAt (holding layout nodes s before .head)) 0 (s .worked) (λ k b. ap (workedAt (holding layout nodes s before .head)) (zero-add k) ∙ worked-word k (omega (arith, p .worked-few, few)) ∙ padded-at (s .worked) k b)
+
+  -- ---- the tables
+
+  zip-length : (ns : List Node) (rs : List Relation) → length rs ≡ length ns → length (tablesOf ns rs) ≡ length ns
+  unfolding tablesOf zipWith
+  zip-length [] rs e = refl
+  zip-length (n ∷ ns) [] e = absurd (omega arith)
+  zip-length (n ∷ ns) (r ∷ rs) e = ap suc (zip-length ns rs (omega arith))
+
+  -- evaluation leaves the tables as they are
+  fresh-tables : AllFit nodes → tablesOf nodes (evaluate nodes (s .tables)) ≡ s .tables
+  fresh-tables fit =
+      let long : length (evaluate nodes (s .tables)) ≡ length nodes = length-evaluate nodes (s .tables) in
+      let size : length (tablesOf nodes (evaluate nodes (s .tables))) ≡ length nodes = zip-length nodes (evaluate nodes (s .tables)) long in
+      ext-getD [] (tablesOf nodes (evaluate nodes (s .tables))) (tablesOf nodes (s .tables)) (size ∙ sym (zip-length nodes (s .tables) (p .tables-size)))
+      (λ i b.
+        let k : i < length nodes = rw size at b in
+        tables-at nodes (evaluate nodes (s .tables)) i long k ∙ go i k (isTable (nodeAt nodes i)) refl ∙ sym (tables-at nodes (s .tables) i (p .tables-size) k))
+      ∙ p .tables-only
+    where
+      go : (i : ℕ) → i < length nodes → (t : Bool) → isTable (nodeAt nodes i) ≡ t → cond (isTable (nodeAt nodes i)) (rowsAt (evaluate nodes (s .tables)) i) [] ≡ cond (isTable (nodeAt nodes i)) (rowsAt (s .tables) i) []
+      go i k true e = ap (λ (r : Relation). cond (isTable (nodeAt nodes i)) r []) (fresh-table nodes fit (s .tables) i k e)
+      go i k false e = rw e
+
+  pub holding-state : AllFit nodes → stateIn layout nodes (holding layout nodes s before) ≡ s
+  unfolding stateIn
+  holding-state fit =
+      let tables : tablesOf nodes (rowsIn layout nodes (holding layout nodes s before)) ≡ s .tables = ap (tablesOf nodes) holding-rows ∙ fresh-tables fit in
+      λ i. record { tables = tables i; number = number-is i; stamps = holding-stamps i; changes = holding-changes i; worked = holding-worked i }
+
+  pub holding-coherent : AllFit nodes → coherent layout nodes (holding layout nodes s before) ≡ true
+  unfolding coherent
+  holding-coherent fit =
+      let fresh : evaluate nodes (tablesOf nodes (rowsIn layout nodes (holding layout nodes s before))) ≡ evaluate nodes (s .tables) = ap (evaluate nodes) (ap (tablesOf nodes) holding-rows ∙ fresh-tables fit) in
+      and-both (goodForm layout nodes (holding layout nodes s before)) (sameRelations (rowsIn layout nodes (holding layout nodes s before)) (evaluate nodes (tablesOf nodes (rowsIn layout nodes (holding layout nodes s before))))) holding-good
+      (ap₂ {A = List Relation} {B = List Relation} {C = Bool} (λ x y. sameRelations x y) holding-rows fresh ∙ same-refl (evaluate nodes (s .tables)))
+
+  -- "the areas hold the plain station's state"
+  pub holds-state : AllFit nodes → HoldsState layout nodes (holding layout nodes s before) s
+  holds-state fit =
+      let same : stateIn layout nodes (holding layout nodes s before) ≡ s = holding-state fit in
+      record {
+        form = holding-good;
+        rows = holding-rows;
+        number = ap (λ (x : State). x .number) same;
+        stamps = ap (λ (x : State). x .stamps) same;
+        changes = ap (λ (x : State). x .changes) same;
+        worked = ap (λ (x : State). x .worked) same;
+      }

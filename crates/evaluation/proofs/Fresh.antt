@@ -9,20 +9,20 @@ use native.Mathlib.Nat.{le-of-suc-le-suc, le-refl, not-suc-le-zero, zero-add}
 use lib.Seq.{ext-getD, getD-take, length-take-le}
 use lib.ListN.{getD, length, take}
 use Rattle.rows.proofs.Place.{all-below, below-all}
-use Rattle.model.specs.Network.{Node, nodeAt, isTable, AllFit, join, project, select, setOperation, table, widths}
+use Rattle.model.specs.Network.{Node, nodeAt, isTable, AllFit, join, project, select, setOperation, table, widths, build, widthOf}
 use Rattle.model.specs.Row.{Relation, allOf, numbersBelow, sameRows}
 use Rattle.model.proofs.Sets.{and-both, and-first, and-second, sameRows-eq, sameRows-refl}
 use Rattle.rows.proofs.Checked.{bool-same}
 use Rattle.model.specs.Evaluation.{evaluate, evaluateNode, rowsAt}
-use Rattle.model.proofs.Build.{evaluate-at, length-evaluate}
+use Rattle.model.proofs.Build.{evaluate-at, length-evaluate, build-at}
 use Rattle.evaluation.specs.Derived.{evaluateOn, fitsOn, leftOf, rightOf}
-use Rattle.evaluation.proofs.Inside.{inputs-fit, on-inputs}
+use Rattle.evaluation.proofs.Inside.{inputs-fit, on-inputs, width-on, widthOn}
 use Rattle.model.proofs.Fits.{length-widths}
 use Rattle.model.specs.Areas.{sameRelations, tablesOf}
 
 -- ---- lists of relations
 
-same-refl : (l : List Relation) → sameRelations l l ≡ true
+pub same-refl : (l : List Relation) → sameRelations l l ≡ true
 same-refl [] = refl
 same-refl (r ∷ l) = and-both (sameRows r r) (sameRelations l l) (sameRows-refl r) (same-refl l)
 
@@ -33,7 +33,7 @@ same-eq (r ∷ l) [] e = absurd (true≢false (sym e))
 same-eq (r ∷ l) (s ∷ m) e =
     λ i. sameRows-eq r s (and-first (sameRows r s) (sameRelations l m) e) i ∷ same-eq l m (and-second (sameRows r s) (sameRelations l m) e) i
 
-tables-at : (nodes : List Node) (rels : List Relation) (j : ℕ) → length rels ≡ length nodes → j < length nodes → rowsAt (tablesOf nodes rels) j ≡ cond (isTable (nodeAt nodes j)) (rowsAt rels j) []
+pub tables-at : (nodes : List Node) (rels : List Relation) (j : ℕ) → length rels ≡ length nodes → j < length nodes → rowsAt (tablesOf nodes rels) j ≡ cond (isTable (nodeAt nodes j)) (rowsAt rels j) []
 unfolding tablesOf zipWith
 tables-at [] rels j e h = absurd (not-suc-le-zero h)
 tables-at (n ∷ nodes) [] j e h = absurd (omega arith)
@@ -67,6 +67,14 @@ module _ (nodes : List Node) (fit : AllFit nodes) where
   columns-fit j h e =
       let b : (leftOf (nodeAt nodes j) < j) × (rightOf (nodeAt nodes j) < j) = inputs-before j h e in
       rw (← getD-take j (widths nodes) (leftOf (nodeAt nodes j)) 0 (b .0), ← getD-take j (widths nodes) (rightOf (nodeAt nodes j)) 0 (b .1)) (inputs-fit (take j (widths nodes)) (nodeAt nodes j) e (fit j h) .2)
+
+  -- a derived node's width, from that of its first input
+  pub width-at : (j : ℕ) → j < length nodes → isTable (nodeAt nodes j) ≡ false → getD (widths nodes) j 0 ≡ widthOn (getD (widths nodes) (leftOf (nodeAt nodes j)) 0) (nodeAt nodes j)
+  unfolding widths
+  width-at j h e =
+      build-at widthOf j nodes 0 h
+      ∙ width-on (nodeAt nodes j) (take j (build widthOf nodes)) e
+      ∙ ap (λ (x : ℕ). widthOn x (nodeAt nodes j)) (getD-take j (build widthOf nodes) (leftOf (nodeAt nodes j)) 0 (inputs-before j h e .0))
 
   module _ (tables : List Relation) where
     abbrev fresh : List Relation
