@@ -266,8 +266,8 @@ module _ (nodes : List Node) (s : State) (p : Proper nodes s) (before : Areas) w
       let size : length (tablesOf nodes (evaluate nodes (s .tables))) ≡ length nodes = zip-length nodes (evaluate nodes (s .tables)) long in
       ext-getD [] (tablesOf nodes (evaluate nodes (s .tables))) (tablesOf nodes (s .tables)) (size ∙ sym (zip-length nodes (s .tables) (p .tables-size)))
       (λ i b.
-        let k : i < length nodes = rw size at b in
-        tables-at nodes (evaluate nodes (s .tables)) i long k ∙ go i k (isTable (nodeAt nodes i)) refl ∙ sym (tables-at nodes (s .tables) i (p .tables-size) k))
+      let k : i < length nodes = rw size at b in
+      tables-at nodes (evaluate nodes (s .tables)) i long k ∙ go i k (isTable (nodeAt nodes i)) refl ∙ sym (tables-at nodes (s .tables) i (p .tables-size) k))
       ∙ p .tables-only
     where
       go : (i : ℕ) → i < length nodes → (t : Bool) → isTable (nodeAt nodes i) ≡ t → cond (isTable (nodeAt nodes i)) (rowsAt (evaluate nodes (s .tables)) i) [] ≡ cond (isTable (nodeAt nodes i)) (rowsAt (s .tables) i) []

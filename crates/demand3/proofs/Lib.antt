@@ -5,3 +5,5 @@ pub mod Tables
 pub mod Batches
 pub mod Worked
 pub mod Steps
+pub mod Opening
+pub mod Theorem

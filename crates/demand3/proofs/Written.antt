@@ -138,5 +138,5 @@ module _ (ws : List ℕ) (rels : List Relation) (f : Fitting ws rels) where
     written-back count c =
         ext-getD [] (map (λ i. heldIn layout (getD ws i 0) (count i) written i) (numbersBelow (length ws))) rels (length-counted (λ i. heldIn layout (getD ws i 0) (count i) written i) 0 (length ws) ∙ sym (f .size))
         (λ i h.
-          let k : i < length ws = rw (length-counted (λ j. heldIn layout (getD ws j 0) (count j) written j) 0 (length ws)) at h in
-          getD-held (λ j. heldIn layout (getD ws j 0) (count j) written j) 0 (length ws) i k ∙ ap (λ (j : ℕ). heldIn layout (getD ws j 0) (count j) written j) (zero-add i) ∙ ap (λ (n : ℕ). heldIn layout (getD ws i 0) n written i) (c i k) ∙ held i k)
+        let k : i < length ws = rw (length-counted (λ j. heldIn layout (getD ws j 0) (count j) written j) 0 (length ws)) at h in
+        getD-held (λ j. heldIn layout (getD ws j 0) (count j) written j) 0 (length ws) i k ∙ ap (λ (j : ℕ). heldIn layout (getD ws j 0) (count j) written j) (zero-add i) ∙ ap (λ (n : ℕ). heldIn layout (getD ws i 0) n written i) (c i k) ∙ held i k)

@@ -1,18 +1,19 @@
 -- A network that reading accepts: each node's fields are right, given the nodes before it. Assumes nothing.
-use mathlib.Core.Bool.{_&&_, Bool, cond, false, not, true}
+use mathlib.Core.Bool.{_&&_, Bool, cond, false, not, true, true≢false}
 use mathlib.Core.List.{_++_, List, [], _∷_}
 use mathlib.Core.Path.{ap, refl, sym, _∙_, _≡_}
-use Prim.Native.Nat.{_+_, _<_, suc, zero, ℕ, _≤_}
+use Prim.Native.Nat.{_+_, _<_, suc, zero, ℕ, _≤_, _*_, zero-le}
 use native.Mathlib.Omega.{arith}
 use native.Mathlib.Nat.{le-of-suc-le-suc, not-suc-le-zero}
-use lib.ListN.{List·getD-append, length, length-append, take}
+use lib.ListN.{List·getD-append, length, length-append, take, getD}
 use lib.Dec.{eqb, leb, ltb}
 use lib.Seq.{getD-at, take-at}
-use borrow.Author.Tests.{eqb-true, ltb-false, ltb-true, eqb-false}
-use Rattle.model.specs.Network.{AllFit, Item, Kind, Network, Node, hasShape, isUnknown, isWatch, itemAt, itemFits, kindNumbered, noNetwork, nodeAt, nodeFits, nodeItem, readNetwork, readRecords, recordFault, refusedReading, table, watchItem, widthOf, widths, withItem}
-use Rattle.model.specs.Record.{Bytes, firstBroken, isBroken, kindAt, offsets, rule, accepted}
+use borrow.Author.Tests.{eqb-true, ltb-false, ltb-true, eqb-false, leb-false, leb-true}
+use Rattle.model.specs.Network.{AllFit, Item, Kind, Network, Node, hasShape, isUnknown, isWatch, itemAt, itemFits, kindNumbered, noNetwork, nodeAt, nodeFits, nodeItem, readNetwork, readRecords, recordFault, refusedReading, table, watchItem, widthOf, widths, withItem, build, joinKind, joinShape, projectKind, projectShape, selectColumnKind, selectConstantKind, setKind, tableKind, unknownKind, watchKind, within}
+use Rattle.model.specs.Record.{Bytes, firstBroken, isBroken, kindAt, offsets, rule, accepted, fieldAt, fieldsAt, lengthAt}
 use Rattle.model.proofs.Build.{build-more, length-build}
-use Rattle.model.specs.Row.{isEmpty, maxNodes}
+use Rattle.model.specs.Row.{isEmpty, maxNodes, maxWidth}
+use Rattle.model.proofs.Sets.{and-first, and-second}
 
 -- rule 7 of a record that breaks none
 last-holds : (a b c d e : Bool) → firstBroken (rule 3 a ∷ rule 4 b ∷ rule 5 c ∷ rule 6 d ∷ rule 7 (not e) ∷ []) ≡ 0 → e ≡ true
@@ -117,3 +118,115 @@ read-accepted bs z = go (isEmpty bs) z
     go : (t : Bool) → cond t (refusedReading 2 0) (readRecords bs noNetwork (offsets bs)) .verdict .number ≡ 0 → cond t (refusedReading 2 0) (readRecords bs noNetwork (offsets bs)) .verdict ≡ accepted
     go true y = absurd (omega arith)
     go false y = records-accepted bs noNetwork (offsets bs) y
+
+-- ---- at most 32 nodes, and no width above 4
+
+-- what holds of the nodes of a network
+pub record Small (nodes : List Node) : Type 0 where
+  pub few : length nodes ≤ 32
+  pub narrow : (i : ℕ) → getD (widths nodes) i 0 ≤ 4
+
+-- rules 5 and 6 of a record that breaks none
+rules-hold : (a b c d e : Bool) → firstBroken (rule 3 a ∷ rule 4 b ∷ rule 5 c ∷ rule 6 (not d) ∷ rule 7 e ∷ []) ≡ 0 → (c ≡ false) × (d ≡ true)
+rules-hold true b c d e h = absurd (omega arith)
+rules-hold false true c d e h = absurd (omega arith)
+rules-hold false false true d e h = absurd (omega arith)
+rules-hold false false false false e h = absurd (omega arith)
+rules-hold false false false true e h = (refl, refl)
+
+fault-shape : (ws signs : List ℕ) (bs : Bytes) (at : ℕ) → recordFault ws signs bs at ≡ 0 → ((not (isWatch (kindNumbered (kindAt bs at))) && leb maxNodes (length ws)) ≡ false) × (hasShape (kindNumbered (kindAt bs at)) bs at ≡ true)
+unfolding recordFault
+fault-shape ws signs bs at e =
+    let kind : Kind = kindNumbered (kindAt bs at) in
+    rules-hold (isBroken bs at) (isUnknown kind) (not (isWatch kind) && leb maxNodes (length ws)) (hasShape kind bs at) (not (itemFits ws signs (itemAt kind bs at))) e
+
+length-fields-at : (bs : Bytes) (at k n : ℕ) → length (fieldsAt bs at k n) ≡ n
+length-fields-at bs at k zero = refl
+length-fields-at bs at k (suc n) = ap suc (length-fields-at bs at (suc k) n)
+
+project-four : (bs : Bytes) (at : ℕ) → projectShape bs at ≡ true → fieldAt bs at 1 ≤ 4
+unfolding projectShape
+project-four bs at e =
+    let f : (leb 8 (lengthAt bs at) && within 1 maxWidth (fieldAt bs at 1)) ≡ true = and-first (leb 8 (lengthAt bs at) && within 1 maxWidth (fieldAt bs at 1)) (eqb (lengthAt bs at) (8 + 2 * fieldAt bs at 1)) e in
+    leb-true (fieldAt bs at 1) 4 (and-second (leb 1 (fieldAt bs at 1)) (leb (fieldAt bs at 1) maxWidth) (and-second (leb 8 (lengthAt bs at)) (within 1 maxWidth (fieldAt bs at 1)) f))
+
+join-four : (bs : Bytes) (at : ℕ) → joinShape bs at ≡ true → fieldAt bs at (3 + 2 * fieldAt bs at 2) ≤ 4
+unfolding joinShape
+join-four bs at e =
+    let c : ℕ = fieldAt bs at (3 + 2 * fieldAt bs at 2) in
+    let front : Bool = leb 10 (lengthAt bs at) && leb (fieldAt bs at 2) 2 && leb (12 + 4 * fieldAt bs at 2) (lengthAt bs at) in
+    let f : (front && within 1 maxWidth c) ≡ true = and-first (front && within 1 maxWidth c) (eqb (lengthAt bs at) (12 + 4 * fieldAt bs at 2 + 2 * c)) e in
+    leb-true c 4 (and-second (leb 1 c) (leb c maxWidth) (and-second front (within 1 maxWidth c) f))
+
+-- the width of the node that an item brings, 0 if it brings a watch
+widthIs : Item → List ℕ → ℕ
+widthIs (nodeItem n) ws = widthOf n ws
+widthIs (watchItem w) ws = 0
+
+-- a node that comes next has at most 4 columns
+item-narrow : (kind : Kind) (ws signs : List ℕ) (bs : Bytes) (at : ℕ) → hasShape kind bs at ≡ true → itemFits ws signs (itemAt kind bs at) ≡ true → ((i : ℕ) → getD ws i 0 ≤ 4) → widthIs (itemAt kind bs at) ws ≤ 4
+unfolding hasShape itemFits itemAt nodeFits widthIs
+item-narrow unknownKind ws signs bs at h f narrow = absurd (true≢false (sym h))
+item-narrow tableKind ws signs bs at h f narrow = leb-true (fieldAt bs at 0) 4 (and-second (leb 1 (fieldAt bs at 0)) (leb (fieldAt bs at 0) maxWidth) f)
+item-narrow selectConstantKind ws signs bs at h f narrow = narrow (fieldAt bs at 0)
+item-narrow selectColumnKind ws signs bs at h f narrow = narrow (fieldAt bs at 0)
+item-narrow projectKind ws signs bs at h f narrow = rw (length-fields-at bs at 2 (fieldAt bs at 1)) (project-four bs at h)
+item-narrow joinKind ws signs bs at h f narrow = rw (length-fields-at bs at (4 + 2 * fieldAt bs at 2) (fieldAt bs at (3 + 2 * fieldAt bs at 2))) (join-four bs at h)
+item-narrow (setKind o) ws signs bs at h f narrow = narrow (fieldAt bs at 0)
+item-narrow watchKind ws signs bs at h f narrow = zero-le
+
+-- a watch comes at any time, a node after fewer than 32
+item-room : (kind : Kind) (ws : List ℕ) (bs : Bytes) (at : ℕ) → (not (isWatch kind) && leb maxNodes (length ws)) ≡ false → (n : Node) → itemAt kind bs at ≡ nodeItem n → length ws < 32
+unfolding itemAt
+item-room unknownKind ws bs at e n f = leb-false 32 (length ws) e
+item-room tableKind ws bs at e n f = leb-false 32 (length ws) e
+item-room selectConstantKind ws bs at e n f = leb-false 32 (length ws) e
+item-room selectColumnKind ws bs at e n f = leb-false 32 (length ws) e
+item-room projectKind ws bs at e n f = leb-false 32 (length ws) e
+item-room joinKind ws bs at e n f = leb-false 32 (length ws) e
+item-room (setKind o) ws bs at e n f = leb-false 32 (length ws) e
+item-room watchKind ws bs at e n f = let z : _≡_ {A = ℕ} 0 1 = cc in absurd (omega arith)
+
+widths-narrow : (nodes : List Node) (n : Node) → ((i : ℕ) → getD (widths nodes) i 0 ≤ 4) → widthOf n (widths nodes) ≤ 4 → (i : ℕ) → getD (widths (nodes ++ (n ∷ []))) i 0 ≤ 4
+widths-narrow nodes n h g i = rw (widths-more nodes n) (go (widths nodes) i h)
+  where
+    go : (l : List ℕ) (k : ℕ) → ((j : ℕ) → getD l j 0 ≤ 4) → getD (l ++ (widthOf n (widths nodes) ∷ [])) k 0 ≤ 4
+    go [] zero f = g
+    go [] (suc k) f = zero-le
+    go (x ∷ l) zero f = f 0
+    go (x ∷ l) (suc k) f = go l k (λ j. f (suc j))
+
+small-more : (net : Network) (item : Item) → Small (net .nodes) → ((n : Node) → item ≡ nodeItem n → length (widths (net .nodes)) < 32) → widthIs item (widths (net .nodes)) ≤ 4 → Small (withItem net item .nodes)
+unfolding widthIs
+small-more net (nodeItem n) s room w =
+    record { few = omega (arith, length-append (net .nodes) (n ∷ []), room n refl, length-widths (net .nodes)); narrow = widths-narrow (net .nodes) n (s .narrow) w }
+small-more net (watchItem x) s room w = s
+
+no-nodes : Small []
+unfolding widths build
+no-nodes = record { few = zero-le; narrow = λ i. zero-le }
+
+records-small : (bs : Bytes) (net : Network) (ats : List ℕ) → Small (net .nodes) → Small (readRecords bs net ats .network .nodes)
+unfolding readRecords
+records-small bs net [] s = s
+records-small bs net (at ∷ rest) s =
+    go (eqb (recordFault (widths (net .nodes)) (net .signs) bs at) 0) refl (records-small bs (withItem net (itemAt (kindNumbered (kindAt bs at)) bs at)) rest)
+  where
+    next : Network
+    next = withItem net (itemAt (kindNumbered (kindAt bs at)) bs at)
+
+    go : (t : Bool) → eqb (recordFault (widths (net .nodes)) (net .signs) bs at) 0 ≡ t → (Small (next .nodes) → Small (readRecords bs next rest .network .nodes)) → Small (cond t (readRecords bs next rest) (refusedReading (recordFault (widths (net .nodes)) (net .signs) bs at) at) .network .nodes)
+    go true e ih =
+        let none : recordFault (widths (net .nodes)) (net .signs) bs at ≡ 0 = eqb-true (recordFault (widths (net .nodes)) (net .signs) bs at) 0 e in
+        let shape : ((not (isWatch (kindNumbered (kindAt bs at))) && leb maxNodes (length (widths (net .nodes)))) ≡ false) × (hasShape (kindNumbered (kindAt bs at)) bs at ≡ true) = fault-shape (widths (net .nodes)) (net .signs) bs at none in
+        ih (small-more net (itemAt (kindNumbered (kindAt bs at)) bs at) s (item-room (kindNumbered (kindAt bs at)) (widths (net .nodes)) bs at (shape .0)) (item-narrow (kindNumbered (kindAt bs at)) (widths (net .nodes)) (net .signs) bs at (shape .1) (fault-fits (widths (net .nodes)) (net .signs) bs at none) (s .narrow)))
+    go false e ih = no-nodes
+
+-- a network that is read has at most 32 nodes, of at most 4 columns
+pub read-small : (bs : Bytes) → Small (readNetwork bs .network .nodes)
+unfolding readNetwork
+read-small bs = go (isEmpty bs)
+  where
+    go : (t : Bool) → Small (cond t (refusedReading 2 0) (readRecords bs noNetwork (offsets bs)) .network .nodes)
+    go true = no-nodes
+    go false = records-small bs noNetwork (offsets bs) no-nodes

@@ -1,0 +1,171 @@
+-- Opening: the areas hold the opened plain station's state. Assumes nothing.
+use mathlib.Core.List.{_++_, List, [], flatMap, map, zipWith, _∷_}
+use mathlib.Core.Bool.{Bool, cond, false, true}
+use mathlib.Core.Path.{ap, ap₂, refl, sym, _∙_, _≡_}
+use Prim.Native.Nat.{_*_, _+_, _-_, _<_, suc, zero, zero-le, ℕ, _≤_}
+use native.Mathlib.Omega.{arith}
+use native.Mathlib.Nat.{le-refl, not-suc-le-zero}
+use lib.Seq.{ext-getD}
+use lib.ListN.{getD, length, length-replicate, replicate, replicate-append-replicate}
+use Rattle.model.specs.Network.{Node, AllFit, widths, nodeAt, isTable, Operand, SetOperation, column, constant, difference, intersection, join, project, select, setOperation, table, union}
+use Rattle.model.specs.Areas.{Areas, areaOf, cleared, headOf, holding, layout, over, padded, placeOf, tablesOf}
+use Rattle.model.specs.Delta.{Change, noChange}
+use Rattle.demand3.proofs.Written.{Fitting, place-none}
+use Rattle.demand3.proofs.Holds.{Proper}
+use Rattle.model.specs.Row.{Relation}
+use Rattle.model.proofs.Fits.{Small, length-widths}
+use Rattle.model.specs.Algebra.{differenceRows, intersectRows, joinRows, projectRows, selectColumns, selectConstant, unionRows}
+use Rattle.model.specs.Evaluation.{evaluate, evaluateSelect, evaluateSet, rowsAt}
+use Rattle.evaluation.specs.Derived.{evaluateOn, leftOf, rightOf}
+use Rattle.evaluation.proofs.Fresh.{fresh-derived, fresh-table, inputs-before}
+use Rattle.model.proofs.Build.{length-evaluate}
+use Rattle.model.specs.Station.{opened}
+use Rattle.demand3.proofs.Worked.{worked-few, worked-low}
+
+none : ℕ → List Relation
+none n = replicate n []
+
+none-at : (n i : ℕ) → getD (replicate {A = Relation} n []) i [] ≡ []
+none-at zero i = refl
+none-at (suc n) zero = refl
+none-at (suc n) (suc i) = none-at n i
+
+-- ---- an evaluation of empty tables is empty
+
+select-none : (c k : ℕ) (o : Operand) → evaluateSelect c k o [] ≡ []
+unfolding evaluateSelect selectConstant selectColumns
+select-none c k (constant v) = refl
+select-none c k (column x) = refl
+
+set-none : (o : SetOperation) → evaluateSet o [] [] ≡ []
+unfolding evaluateSet unionRows differenceRows intersectRows
+set-none union = refl
+set-none difference = refl
+set-none intersection = refl
+
+on-none : (n : Node) → evaluateOn n [] [] ≡ []
+unfolding evaluateOn projectRows joinRows flatMap
+on-none (table w) = refl
+on-none (select i c k o) = select-none c k o
+on-none (project i columns) = refl
+on-none (join l r pairs columns) = refl
+on-none (setOperation o l r) = set-none o
+
+module _ (nodes : List Node) (fit : AllFit nodes) where
+  none-to : (k : ℕ) → k ≤ length nodes → (i : ℕ) → i < k → rowsAt (evaluate nodes (replicate (length nodes) [])) i ≡ []
+  none-to zero g i h = absurd (not-suc-le-zero h)
+  none-to (suc k) g i h = go (isTable (nodeAt nodes i)) refl (none-to k (omega arith))
+    where
+      go : (t : Bool) → isTable (nodeAt nodes i) ≡ t → ((j : ℕ) → j < k → rowsAt (evaluate nodes (replicate (length nodes) [])) j ≡ []) → rowsAt (evaluate nodes (replicate (length nodes) [])) i ≡ []
+      go true e ih = fresh-table nodes fit (replicate (length nodes) []) i (omega arith) e ∙ none-at (length nodes) i
+      go false e ih =
+          let b : (leftOf (nodeAt nodes i) < i) × (rightOf (nodeAt nodes i) < i) = inputs-before nodes fit i (omega arith) e in
+          fresh-derived nodes fit (replicate (length nodes) []) i (omega arith) e
+          ∙ ap₂ {A = Relation} {B = Relation} {C = Relation} (λ x y. evaluateOn (nodeAt nodes i) x y) (ih (leftOf (nodeAt nodes i)) (omega (arith, b .0))) (ih (rightOf (nodeAt nodes i)) (omega (arith, b .1)))
+          ∙ on-none (nodeAt nodes i)
+
+  fresh-none : evaluate nodes (replicate (length nodes) []) ≡ replicate (length nodes) []
+  fresh-none =
+      let size : length (evaluate nodes (replicate (length nodes) [])) ≡ length nodes = length-evaluate nodes (replicate (length nodes) []) in
+      ext-getD [] (evaluate nodes (replicate (length nodes) [])) (replicate (length nodes) []) (size ∙ sym (length-replicate {A = Relation} (length nodes) []))
+      (λ i h. none-to (length nodes) (le-refl (length nodes)) i (rw size at h) ∙ sym (none-at (length nodes) i))
+
+none-fits : (ws : List ℕ) → length ws ≤ 32 → ((i : ℕ) → getD ws i 0 ≤ 4) → Fitting ws (replicate (length ws) [])
+none-fits ws few narrow =
+    record {
+      size = length-replicate {A = Relation} (length ws) [];
+      few = few;
+      narrow = narrow;
+      wide = λ i h. rw (none-at (length ws) i) tt;
+      small = λ i h. rw (none-at (length ws) i) zero-le;
+      asc = λ i h. rw (none-at (length ws) i) refl;
+    }
+
+only-none : (nodes : List Node) → tablesOf nodes (replicate (length nodes) []) ≡ replicate (length nodes) []
+unfolding tablesOf zipWith
+only-none [] = refl
+only-none (n ∷ nodes) = ap₂ {A = Relation} {B = List Relation} {C = List Relation} (λ a b. a ∷ b) (go (isTable n)) (only-none nodes)
+  where
+    go : (t : Bool) → cond {A = Relation} t [] [] ≡ []
+    go true = refl
+    go false = refl
+
+map-none : (g : Change → Relation) (n : ℕ) → g noChange ≡ [] → map g (replicate n noChange) ≡ replicate n []
+map-none g zero e = refl
+map-none g (suc n) e = ap₂ {A = Relation} {B = List Relation} {C = List Relation} (λ a b. a ∷ b) e (map-none g n e)
+
+zeros-low : (n i : ℕ) → getD (replicate {A = ℕ} n 0) i 0 ≤ 0
+zeros-low zero i = zero-le
+zeros-low (suc n) zero = zero-le
+zeros-low (suc n) (suc i) = zeros-low n i
+
+module _ (nodes : List Node) (fit : AllFit nodes) (small : Small nodes) where
+  ws-few : length (widths nodes) ≤ 32
+  ws-few = omega (arith, small .few, length-widths nodes)
+
+  none-fitting : Fitting (widths nodes) (replicate (length nodes) [])
+  none-fitting = ap-fits (none-fits (widths nodes) ws-few (small .narrow))
+    where
+      ap-fits : Fitting (widths nodes) (replicate (length (widths nodes)) []) → Fitting (widths nodes) (replicate (length nodes) [])
+      ap-fits f = rw (← length-widths nodes) f
+
+  -- the opened state is proper
+  pub opened-proper : Proper nodes (opened nodes)
+  unfolding opened
+  opened-proper =
+      record {
+        tables-size = length-replicate {A = Relation} (length nodes) [];
+        tables-only = only-none nodes;
+        rows = rw (fresh-none nodes fit) none-fitting;
+        gained = rw (map-none (λ c. c .gained) (length nodes) refl) none-fitting;
+        lost = rw (map-none (λ c. c .lost) (length nodes) refl) none-fitting;
+        stamps-size = length-replicate {A = ℕ} (length nodes) 0;
+        stamps-low = zeros-low (length nodes);
+        worked-few = zero-le;
+        worked-low = λ k h. absurd (not-suc-le-zero h);
+      }
+
+  -- ---- its words are all 0
+
+  flat-none : (n : ℕ) → flatMap (placeOf layout) (replicate n []) ≡ replicate (256 * n) 0
+  unfolding flatMap
+  flat-none zero = refl
+  flat-none (suc n) =
+      let e : 256 + 256 * n ≡ 256 * suc n = omega arith in
+      ap₂ {A = List ℕ} {B = List ℕ} {C = List ℕ} (λ a b. a ++ b) (sym place-none) (flat-none n) ∙ replicate-append-replicate {A = ℕ} 256 (256 * n) 0 ∙ ap (λ (k : ℕ). replicate {A = ℕ} k 0) e
+
+  area-none : areaOf layout (replicate (length nodes) []) ≡ replicate 8192 0
+  unfolding areaOf
+  area-none =
+      let size : 256 * length nodes + (8192 - 256 * length nodes) ≡ 8192 = omega (arith, small .few) in
+      ap₂ {A = List ℕ} {B = ℕ} {C = List ℕ} (λ a n. a ++ replicate (8192 - n) 0) (flat-none (length nodes)) (ap length (flat-none (length nodes)) ∙ length-replicate {A = ℕ} (256 * length nodes) 0)
+      ∙ replicate-append-replicate {A = ℕ} (256 * length nodes) (8192 - 256 * length nodes) 0
+      ∙ ap (λ (k : ℕ). replicate {A = ℕ} k 0) size
+
+  padded-none : (n : ℕ) → n ≤ 32 → padded 32 (replicate n 0) ≡ replicate 32 0
+  padded-none n h =
+      let size : n + (32 - n) ≡ 32 = omega arith in
+      ap (λ (k : ℕ). replicate {A = ℕ} n 0 ++ replicate (32 - k) 0) (length-replicate {A = ℕ} n 0) ∙ replicate-append-replicate {A = ℕ} n (32 - n) 0 ∙ ap (λ (k : ℕ). replicate {A = ℕ} k 0) size
+
+  lengths-none : (n : ℕ) → map length (replicate {A = Relation} n []) ≡ replicate n 0
+  lengths-none zero = refl
+  lengths-none (suc n) = ap (λ (l : List ℕ). 0 ∷ l) (lengths-none n)
+
+  counts-none : (g : Change → Relation) (n : ℕ) → g noChange ≡ [] → map (λ c. length (g c)) (replicate n noChange) ≡ replicate n 0
+  counts-none g zero e = refl
+  counts-none g (suc n) e = ap₂ {A = ℕ} {B = List ℕ} {C = List ℕ} (λ a b. a ∷ b) (ap length e) (counts-none g n e)
+
+  head-none : headOf (replicate (length nodes) []) (opened nodes) ≡ replicate 162 0
+  unfolding headOf opened
+  head-none =
+      rw (lengths-none (length nodes), counts-none (λ c. c .gained) (length nodes) refl, counts-none (λ c. c .lost) (length nodes) refl, padded-none (length nodes) (small .few)) refl
+
+  -- "Opening sets all named words to 0": they hold the opened state
+  pub cleared-holds : (a : Areas) → cleared layout a ≡ holding layout nodes (opened nodes) a
+  unfolding cleared holding opened
+  cleared-holds a =
+      let rows : areaOf layout (evaluate nodes (replicate (length nodes) [])) ≡ replicate 8192 0 = ap (areaOf layout) (fresh-none nodes fit) ∙ area-none in
+      let gained : areaOf layout (map (λ c. c .gained) (replicate (length nodes) noChange)) ≡ replicate 8192 0 = ap (areaOf layout) (map-none (λ c. c .gained) (length nodes) refl) ∙ area-none in
+      let lost : areaOf layout (map (λ c. c .lost) (replicate (length nodes) noChange)) ≡ replicate 8192 0 = ap (areaOf layout) (map-none (λ c. c .lost) (length nodes) refl) ∙ area-none in
+      let head : headOf (evaluate nodes (replicate (length nodes) [])) (opened nodes) ≡ replicate 162 0 = ap (λ (r : List Relation). headOf r (opened nodes)) (fresh-none nodes fit) ∙ head-none in
+      λ i. record { rows = over (sym rows i) (a .rows); gained = over (sym gained i) (a .gained); lost = over (sym lost i) (a .lost); head = over (sym head i) (a .head) }
