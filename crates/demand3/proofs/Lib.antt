@@ -7,3 +7,5 @@ pub mod Worked
 pub mod Steps
 pub mod Opening
 pub mod Theorem
+pub mod Consequences
+pub mod Coherence

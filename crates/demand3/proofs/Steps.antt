@@ -37,7 +37,7 @@ keep-short p (r ∷ l) = go (p r) (keep-short p l)
 
 -- ---- net changes
 
-changes-length : (old new : List Relation) → length old ≡ length new → length (netChanges old new) ≡ length old
+pub changes-length : (old new : List Relation) → length old ≡ length new → length (netChanges old new) ≡ length old
 unfolding netChanges zipWith
 changes-length [] new e = refl
 changes-length (x ∷ old) [] e = absurd (omega arith)

@@ -1,16 +1,16 @@
 -- The worked list names each node at most once. Assumes nothing.
-use mathlib.Core.Bool.{_&&_, Bool, cond, false, true}
+use mathlib.Core.Bool.{_&&_, Bool, cond, false, true, _||_}
 use mathlib.Core.List.{_++_, List, [], flatMap, _∷_}
-use mathlib.Core.Path.{ap, ap₂, refl, _≡_}
+use mathlib.Core.Path.{ap, ap₂, refl, _≡_, sym, _∙_}
 use Prim.Native.Nat.{_+_, _<_, suc, zero, zero-le, ℕ, _≤_}
 use native.Mathlib.Omega.{arith}
 use native.Mathlib.Nat.{le-of-suc-le-suc, not-suc-le-zero}
 use lib.Dec.{eqb}
 use lib.ListN.{getD, length, length-append}
-use borrow.Author.Tests.{eqb-true, ne-eqb}
+use borrow.Author.Tests.{eqb-true, ne-eqb, eq-eqb, eqb-false}
 use Rattle.model.specs.Network.{Node, widths, nodeAt, isTable, levels}
 use Rattle.model.specs.Delta.{Change}
-use Rattle.model.specs.Row.{countFrom, keep, keepIf, numbersBelow}
+use Rattle.model.specs.Row.{countFrom, keep, keepIf, numbersBelow, someOf}
 use Rattle.model.specs.Station.{hasChangedInput, workedAtLevel, workedList}
 
 -- how many of some levels a number is at
@@ -104,3 +104,75 @@ unfolding workedList workedAtLevel
 worked-low nodes changes k h =
     below-at (length nodes) (workedList nodes changes) k
     (below-each (length nodes) (workedAtLevel nodes changes) (numbersBelow (length nodes)) (λ l. below-keep (length nodes) (λ i. eqb (getD (levels nodes) i 0) l && hasChangedInput nodes changes i) (numbersBelow (length nodes)) (below-counted (length nodes) 0 (length nodes) (omega arith)))) h
+
+-- ---- who is on it
+
+-- a number is on a list
+abbrev pub isOn : ℕ → List ℕ → Bool
+isOn i l = someOf (λ x. eqb x i) l
+
+on-append : (i : ℕ) (a b : List ℕ) → isOn i (a ++ b) ≡ (isOn i a || isOn i b)
+on-append i [] b = refl
+on-append i (x ∷ a) b = ap (λ (t : Bool). eqb x i || t) (on-append i a b) ∙ sym (or-assoc (eqb x i) (isOn i a) (isOn i b))
+  where
+    or-assoc : (p q r : Bool) → ((p || q) || r) ≡ (p || (q || r))
+    or-assoc true q r = refl
+    or-assoc false q r = refl
+
+on-keep : (i : ℕ) (p : ℕ → Bool) (l : List ℕ) → isOn i (keep p l) ≡ (p i && isOn i l)
+on-keep i p [] = sym (and-false (p i))
+  where
+    and-false : (t : Bool) → (t && false) ≡ false
+    and-false true = refl
+    and-false false = refl
+on-keep i p (x ∷ l) = go (eqb x i) (p x) refl refl (on-keep i p l)
+  where
+    go : (t u : Bool) → eqb x i ≡ t → p x ≡ u → isOn i (keep p l) ≡ (p i && isOn i l) → isOn i (keepIf u x (keep p l)) ≡ (p i && (t || isOn i l))
+    go true true e f ih = let same : p i ≡ true = ap p (sym (eqb-true x i e)) ∙ f in rw (e, same)
+    go true false e f ih = let same : p i ≡ false = ap p (sym (eqb-true x i e)) ∙ f in ih ∙ rw same
+    go false true e f ih = ap (λ (t : Bool). t || isOn i (keep p l)) e ∙ ih
+    go false false e f ih = ih
+
+on-counted : (i from n : ℕ) → from ≤ i → i < from + n → isOn i (countFrom from n) ≡ true
+on-counted i from zero h g = absurd (omega arith)
+on-counted i from (suc n) h g = go (eqb from i) refl (on-counted i (suc from) n)
+  where
+    go : (t : Bool) → eqb from i ≡ t → (suc from ≤ i → i < suc from + n → isOn i (countFrom (suc from) n) ≡ true) → (t || isOn i (countFrom (suc from) n)) ≡ true
+    go true e ih = refl
+    go false e ih = let ne : from ≡ i → ⊥ = eqb-false from i e in ih (omega (arith, ne)) (omega arith)
+
+-- the entries of some levels: those of the number's own level alone
+on-levels : (i : ℕ) (level : ℕ → ℕ) (q : ℕ → Bool) (ids ls : List ℕ) → isOn i (flatMap (at-level level q ids) ls) ≡ (isOn (level i) ls && (q i && isOn i ids))
+unfolding flatMap
+on-levels i level q ids [] = refl
+on-levels i level q ids (l ∷ ls) =
+    on-append i (at-level level q ids l) (flatMap (at-level level q ids) ls)
+    ∙ ap₂ {A = Bool} {B = Bool} {C = Bool} (λ a b. a || b) (on-keep i (λ j. eqb (level j) l && q j) ids) (on-levels i level q ids ls)
+    ∙ ap (λ (t : Bool). ((t && q i) && isOn i ids) || (isOn (level i) ls && (q i && isOn i ids))) (eqb-flip (level i) l)
+    ∙ join (eqb l (level i)) (q i) (isOn i ids) (isOn (level i) ls)
+  where
+    eqb-flip : (a b : ℕ) → eqb a b ≡ eqb b a
+    eqb-flip a b = go (eqb a b) refl
+      where
+        go : (t : Bool) → eqb a b ≡ t → t ≡ eqb b a
+        go true e = sym (eq-eqb b a (sym (eqb-true a b e)))
+        go false e = sym (ne-eqb b a (λ f. eqb-false a b e (sym f)))
+
+    join : (a b c d : Bool) → ((a && b && c) || (d && (b && c))) ≡ ((a || d) && (b && c))
+    join true true true d = refl
+    join true true false true = refl
+    join true true false false = refl
+    join true false c true = refl
+    join true false c false = refl
+    join false b c d = refl
+
+-- "the worked list is the derived nodes with an input that gained or lost rows": node i is on it exactly if it has a changed input
+pub worked-is : (nodes : List Node) (changes : List Change) (i : ℕ) → i < length nodes → getD (levels nodes) i 0 < length nodes → isOn i (workedList nodes changes) ≡ hasChangedInput nodes changes i
+unfolding workedList workedAtLevel
+worked-is nodes changes i h l =
+    on-levels i (λ j. getD (levels nodes) j 0) (λ j. hasChangedInput nodes changes j) (numbersBelow (length nodes)) (numbersBelow (length nodes))
+    ∙ rw (on-counted (getD (levels nodes) i 0) 0 (length nodes) zero-le (omega arith), on-counted i 0 (length nodes) zero-le (omega arith)) (both (hasChangedInput nodes changes i))
+  where
+    both : (t : Bool) → (true && (t && true)) ≡ t
+    both true = refl
+    both false = refl
