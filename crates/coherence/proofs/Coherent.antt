@@ -62,6 +62,16 @@ module _ (net : Network) (b : Built net) where
   pub width-is : (i : ℕ) → i < net .count → getD (widths (nodesOf net)) i 0 ≡ getD (net .widths) i 0
   width-is i h = ap (λ (l : List ℕ). getD l i 0) (sym (b .sound .widths)) ∙ getD-take (net .count) (net .widths) i 0 h
 
+  -- a node's level is 0 exactly if it is a table
+  pub level-at : (i : ℕ) → i < net .count → getD (net .levels) i 0 ≡ cond (isTable (slotNode (getD (net .slots) i noSlot))) 0 (suc (highest (take i (levels (nodesOf net))) (inputsOf (slotNode (getD (net .slots) i noSlot)))))
+  unfolding levels
+  level-at i h =
+      let k : i < length (nodesOf net) = rw (nodes-count) h in
+      sym (getD-take (net .count) (net .levels) i 0 h)
+      ∙ ap (λ (l : List ℕ). getD l i 0) (b .sound .levels)
+      ∙ build-at levelOf i (nodesOf net) 0 k
+      ∙ ap (λ (n : Node). levelOf n (take i (levels (nodesOf net)))) (slot-node i h)
+
 module _ (net : Network) (b : Built net) (fit : AllFit (nodesOf net)) where
   -- a derived node of a network that reading accepts
   pub derived-at : (i : ℕ) → i < net .count → isTable (slotNode (getD (net .slots) i noSlot)) ≡ false → Derived (getD (net .slots) i noSlot) (net .widths) i
@@ -89,18 +99,8 @@ module _ (net : Network) (b : Built net) (fit : AllFit (nodesOf net)) where
             ∙ sym (width-on (slotNode (getD (net .slots) i noSlot)) (net .widths) e);
       }
 
-  -- a node's level is 0 exactly if it is a table
-  level-at : (i : ℕ) → i < net .count → getD (net .levels) i 0 ≡ cond (isTable (slotNode (getD (net .slots) i noSlot))) 0 (suc (highest (take i (levels (nodesOf net))) (inputsOf (slotNode (getD (net .slots) i noSlot)))))
-  unfolding levels
-  level-at i h =
-      let k : i < length (nodesOf net) = rw (nodes-count net b) h in
-      sym (getD-take (net .count) (net .levels) i 0 h)
-      ∙ ap (λ (l : List ℕ). getD l i 0) (b .sound .levels)
-      ∙ build-at levelOf i (nodesOf net) 0 k
-      ∙ ap (λ (n : Node). levelOf n (take i (levels (nodesOf net)))) (slot-node net b i h)
-
   pub level-table : (i : ℕ) → i < net .count → getD (net .levels) i 0 ≡ 0 → isTable (slotNode (getD (net .slots) i noSlot)) ≡ true
-  level-table i h z = go (isTable (slotNode (getD (net .slots) i noSlot))) (sym (level-at i h) ∙ z)
+  level-table i h z = go (isTable (slotNode (getD (net .slots) i noSlot))) (sym (level-at net b i h) ∙ z)
     where
       go : (t : Bool) → cond t 0 (suc (highest (take i (levels (nodesOf net))) (inputsOf (slotNode (getD (net .slots) i noSlot))))) ≡ 0 → t ≡ true
       go true e = refl
@@ -110,7 +110,7 @@ module _ (net : Network) (b : Built net) (fit : AllFit (nodesOf net)) where
   level-derived i h n = go (isTable (slotNode (getD (net .slots) i noSlot))) refl
     where
       go : (t : Bool) → isTable (slotNode (getD (net .slots) i noSlot)) ≡ t → Derived (getD (net .slots) i noSlot) (net .widths) i
-      go true e = absurd (n (level-at i h ∙ ap (λ (t : Bool). cond t 0 (suc (highest (take i (levels (nodesOf net))) (inputsOf (slotNode (getD (net .slots) i noSlot)))))) e))
+      go true e = absurd (n (level-at net b i h ∙ ap (λ (t : Bool). cond t 0 (suc (highest (take i (levels (nodesOf net))) (inputsOf (slotNode (getD (net .slots) i noSlot)))))) e))
       go false e = derived-at i h e
 
   module _ (rows head : List ℕ) where

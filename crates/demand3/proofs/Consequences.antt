@@ -7,7 +7,7 @@ use native.Mathlib.Omega.{arith}
 use native.Mathlib.Nat.{le-of-suc-le-suc, le-refl, not-suc-le-zero}
 use lib.ListN.{getD, length, take}
 use lib.Seq.{getD-take, length-take-le}
-use Rattle.model.specs.Network.{Node, AllFit, readNetwork, widths, nodeAt, isTable, inputsOf, build, join, project, select, setOperation, table, within, highest, levelOf}
+use Rattle.model.specs.Network.{Node, AllFit, readNetwork, widths, nodeAt, isTable, inputsOf, build, join, project, select, setOperation, table, within, highest, levelOf, levels}
 use Rattle.rows.proofs.Place.{all-below, below-all}
 use Rattle.model.specs.Calls.{Applied, Keeps, Promise, Result, applyPromise, formVerdict, free, freelyAccepted, freelyRefused, promiseOf, resultOf, settled}
 use Rattle.model.specs.Areas.{Areas, coherent, holding, layout, stateIn}

@@ -1,0 +1,103 @@
+// Batches read from bytes: refusals 10 to 13.
+ghost use mathlib.Core.Path.{_≡_};
+ghost use mathlib.Core.Bool.{Bool, true, false, not, _||_};
+ghost use Prim.Native.Nat.{ℕ, _+_, _*_, _≤_, _<_};
+ghost use lib.Dec.{eqb};
+ghost use lib.ListN.{length, getD};
+ghost use Rattle.model.specs.Record.{kindAt, isBroken};
+ghost use Rattle.model.specs.Batch.{readBatch};
+ghost use Rattle.nodes.specs.Nodes.{Narrow};
+ghost use Rattle.network.specs.Reading.{verdictOf, nodesOf, Built};
+ghost use Rattle.events.specs.Reading.{eventFitsIn, eventFaultIn};
+use network::Network;
+use network::Verdict;
+
+// The kinds of events, and how many a batch may have.
+const PUT: usize = 32;
+
+const REMOVE: usize = 33;
+
+const MAX_EVENTS: usize = 64;
+
+// Whether a record of at least a header's length names a table and has its table's length: rule 13.
+fn event_fits(bytes: &[u8], at: usize, count: usize, widths: &[usize], levels: &[usize]) -> bool
+    requires { ⌜ (isBroken (now bytes) at ≡ false) × (count ≤ length (now widths)) × (count ≤ length (now levels)) × (count ≤ 32) × Narrow (now widths) ⌝ }
+    ensures { λ r. ⌜ r ≡ eventFitsIn count (now (widths .entry)) (now (levels .entry)) (now (bytes .entry)) at ⌝ }
+{
+    let size = records::u16_at(bytes, at);
+    if size < 6 {
+        return false;
+    }
+    let table = records::field_at(bytes, at, 0);
+    if count <= table {
+        return false;
+    }
+    if levels[table] != 0 {
+        return false;
+    }
+    size == 6 + 4 * widths[table]
+}
+
+// Whether a kind is one of events.
+fn is_event(kind: usize) -> bool
+    ensures { λ r. ⌜ r ≡ (eqb kind 32 || eqb kind 33) ⌝ }
+{
+    if kind == PUT {
+        return true;
+    }
+    kind == REMOVE
+}
+
+// The number of the first rule that the record at an offset breaks, 0 if none, after so many events.
+fn event_fault(
+    bytes: &[u8],
+    at: usize,
+    before: usize,
+    count: usize,
+    widths: &[usize],
+    levels: &[usize],
+) -> usize
+    requires { ⌜ (at < length (now bytes)) × (count ≤ length (now widths)) × (count ≤ length (now levels)) × (count ≤ 32) × Narrow (now widths) ⌝ }
+    ensures { λ r. ⌜ r ≡ eventFaultIn count (now (widths .entry)) (now (levels .entry)) before (now (bytes .entry)) at ⌝ }
+{
+    if records::is_broken(bytes, at) {
+        return 10;
+    }
+    if !is_event(records::u16_at(bytes, at + 2)) {
+        return 11;
+    }
+    if MAX_EVENTS <= before {
+        return 12;
+    }
+    if !event_fits(bytes, at, count, widths, levels) {
+        return 13;
+    }
+    0
+}
+
+// What reading a batch says: refusals 10 to 13, the first record that fails decides.
+pub fn read_batch(net: Network, bytes: &[u8]) -> Verdict
+    requires { ⌜ Built net ⌝ }
+    ensures { λ r. ⌜ verdictOf r ≡ readBatch (nodesOf net) (now (bytes .entry)) .verdict ⌝ }
+{
+    let count = net.count;
+    let levels = net.levels;
+    let mut before = 0;
+    let mut at = 0;
+    while at < bytes.len() {
+        let here = at;
+        let fault = event_fault(bytes, here, before, count, &net.widths, &levels);
+        if fault != 0 {
+            return Verdict {
+                number: fault,
+                place: here,
+            };
+        }
+        before += 1;
+        at = here + records::u16_at(bytes, here);
+    }
+    Verdict {
+        number: 0,
+        place: 0,
+    }
+}
