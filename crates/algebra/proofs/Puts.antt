@@ -13,7 +13,7 @@ use Rattle.model.specs.Row.{Row, Relation, order, sameRow, member, ascending, p
 use Rattle.model.specs.Algebra.{unionRows, columnsOf, projectRows, Pair, agree, joinOne, joinRows}
 use Rattle.model.specs.Areas.{layout, padded, placeOf}
 use Rattle.model.proofs.Order.{sameRow-eq, says}
-use Rattle.model.proofs.Sets.{Ascending, ascending-true, ascending-holds, asc-insert, ext, member-insert, setOf-ascending, and-first, and-second, and-both}
+use Rattle.model.proofs.Sets.{Ascending, ascending-true, ascending-holds, asc-insert, ext, member-insert, setOf-ascending, and-first, and-second, and-both, insert-more}
 use Rattle.rows.specs.Rows.{rowAt, rowsFrom, firstRows, words, stored, insertAnswer, Inserts}
 use Rattle.rows.specs.declared.Inserted.{Inserted}
 use Rattle.rows.specs.declared.Inserted.the-variants.{New, Present, Full}
@@ -29,79 +29,6 @@ use Rattle.algebra.proofs.Joins.{length-map}
 use Rattle.model.specs.Station.{step}
 use Rattle.algebra.specs.declared.Joining.{Joining}
 use Rattle.nodes.specs.Nodes.{pairsOf}
-
--- ---- sizes
-
--- a row that is not there makes one row more
-insert-new : (r : Row) (l : List Row) → member r l ≡ false → length (insertRow r l) ≡ suc (length l)
-insert-new r [] e = refl
-insert-new r (s ∷ l) e = go (order r s) e (insert-new r l)
-  where
-    go : (o : Ordering) → (isEq o || member r l) ≡ false → (member r l ≡ false → length (insertRow r l) ≡ suc (length l)) → length (place o r s l (insertRow r l)) ≡ suc (suc (length l))
-    go Ordering·lt f ih = refl
-    go Ordering·eq f ih = absurd (true≢false f)
-    go Ordering·gt f ih = ap suc (ih f)
-
--- a row that is there makes none
-insert-present : (r : Row) (l : List Row) → Ascending l → member r l ≡ true → insertRow r l ≡ l
-insert-present r l a e = ext (insertRow r l) l (asc-insert r l a) a (λ x. member-insert x r l ∙ go x (sameRow x r) refl)
-  where
-    go : (x : Row) (t : Bool) → sameRow x r ≡ t → (t || member x l) ≡ member x l
-    go x true f = sym (ap (λ (y : Row). member y l) (sameRow-eq x r f) ∙ e)
-    go x false f = refl
-
-insert-more : (r : Row) (l : List Row) → length l ≤ length (insertRow r l)
-insert-more r [] = zero-le
-insert-more r (s ∷ l) = go (order r s) (insert-more r l)
-  where
-    go : (o : Ordering) → length l ≤ length (insertRow r l) → suc (length l) ≤ length (place o r s l (insertRow r l))
-    go Ordering·lt h = omega arith
-    go Ordering·eq h = omega arith
-    go Ordering·gt h = omega arith
-
--- ---- one row put in
-
-new-says : (t u : Bool) → New ≡ cond t Present (cond u Full New) → (t ≡ false) × (u ≡ false)
-new-says true u e = let z : _≡_ {A = ℕ} 0 1 = cc in absurd (omega arith)
-new-says false true e = let z : _≡_ {A = ℕ} 0 1 = cc in absurd (omega arith)
-new-says false false e = (refl, refl)
-
-present-says : (t u : Bool) → Present ≡ cond t Present (cond u Full New) → t ≡ true
-present-says true u e = refl
-present-says false true e = let z : _≡_ {A = ℕ} 0 1 = cc in absurd (omega arith)
-present-says false false e = let z : _≡_ {A = ℕ} 0 1 = cc in absurd (omega arith)
-
-full-says : (t u : Bool) → Full ≡ cond t Present (cond u Full New) → (t ≡ false) × (u ≡ true)
-full-says true u e = let z : _≡_ {A = ℕ} 0 1 = cc in absurd (omega arith)
-full-says false true e = (refl, refl)
-full-says false false e = let z : _≡_ {A = ℕ} 0 1 = cc in absurd (omega arith)
-
-module _ (r : Row) (l : List Row) (before after : List ℕ) (n : ℕ) (s : Stands l before n) where
-  pub put-new : length r ≡ 4 → Wide 4 l → Inserts 64 r l before after New → Stored (insertRow r l) after (Rows (n + 1))
-  unfolding insertAnswer
-  put-new lr wide i =
-      let says : (member r l ≡ false) × (leb 64 (length l) ≡ false) = new-says (member r l) (leb 64 (length l)) (i .says) in
-      let one : length (insertRow r l) ≡ suc (length l) = insert-new r l (says .0) in
-      let few : length l < 64 = leb-false 64 (length l) (says .1) in
-      let more : length (words l) ≤ length (words (insertRow r l)) =
-      rw (length-words 4 l wide, length-words 4 (insertRow r l) (wide-insert 4 r l lr wide)) (mul-le-mul-right 4 (insert-more r l)) in
-      record {
-        count = omega (arith, s .count, one);
-        few = omega (arith, s .count, few);
-        is = i .leaves ∙ ap (stored (insertRow r l)) (s .is) ∙ stored-stored l (insertRow r l) (replicate 256 0) more;
-      }
-
-  pub put-present : Ascending l → Inserts 64 r l before after Present → Stored (insertRow r l) after (Rows n)
-  unfolding insertAnswer
-  put-present asc i =
-      let same : insertRow r l ≡ l = insert-present r l asc (present-says (member r l) (leb 64 (length l)) (i .says)) in
-      record { count = s .count ∙ ap length (sym same); few = s .few; is = i .leaves ∙ s .is ∙ ap (λ (k : List Row). stored k (replicate 256 0)) (sym same) }
-
-  pub put-full : length before ≡ 256 → Inserts 64 r l before after Full → Stored (insertRow r l) after Over
-  unfolding insertAnswer
-  put-full size i =
-      let says : (member r l ≡ false) × (leb 64 (length l) ≡ true) = full-says (member r l) (leb 64 (length l)) (i .says) in
-      (omega (arith, insert-new r l (says .0), leb-true 64 (length l) (says .1)), ap length (i .leaves) ∙ size)
 
 -- ---- rows put in from the last to the first
 

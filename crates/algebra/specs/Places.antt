@@ -6,7 +6,7 @@ use Prim.Native.Nat.{ℕ, _+_, _-_, _*_, _≤_, _<_}
 use lib.Dec.{ltb}
 use lib.ListN.{length, take, getD, replicate}
 use Rattle.model.specs.Row.{Row, Relation, keep, insertRow}
-use Rattle.rows.specs.Rows.{firstRows, stored}
+use Rattle.rows.specs.Rows.{firstRows, stored, Standing}
 use Rattle.model.specs.Algebra.{holdsOf, compareFields, agree}
 use Rattle.model.specs.Network as model
 use Rattle.model.specs.Network.{columnsBelow, pairsBelow}
@@ -66,10 +66,8 @@ pub record Kept (p : Row → Bool) (s : List ℕ) (i : ℕ) (out : List ℕ) (m 
   pub size : length out ≡ 256
 
 -- some rows stand in a place that was empty, with their count
-pub record Stands (l : List Row) (out : List ℕ) (n : ℕ) : Type 0 where
-  pub count : n ≡ length l
-  pub few : n ≤ 64
-  pub is : out ≡ stored l (replicate 256 0)
+abbrev pub Stands : List Row → List ℕ → ℕ → Type 0
+Stands l out n = Standing 64 256 l out n
 
 -- some rows stand in the place, or they are more than 64
 abbrev pub Stored : List Row → List ℕ → Made → Type 0

@@ -3,10 +3,13 @@
 use mathlib.Core.Path.{_≡_, refl, sym, ap, _∙_, subst}
 use mathlib.Core.Bool.{Bool, true, false, not, _&&_, _||_, or-self-left, or-assoc, or-comm, true≢false, and-false}
 use mathlib.Core.List.{List, [], _∷_, _++_}
-use Prim.Native.Nat.{ℕ, Ordering, Ordering·lt, Ordering·eq, Ordering·gt}
+use Prim.Native.Nat.{ℕ, Ordering, Ordering·lt, Ordering·eq, Ordering·gt, suc, zero-le, _≤_}
+use native.Mathlib.Omega.{arith}
+use native.Mathlib.Nat.{le-refl}
 use lib.Dec.{isEq}
+use lib.ListN.{length}
 use Rattle.model.specs.Row.{Row, order, isLess, sameRow, belowFirst, ascending, member, sameRows, place, insertRow, keepIf, keep, deleteRow, setOf}
-use Rattle.model.proofs.Order.{flip, order-flip, order-eq, order-trans, sameRow-refl, sameRow-eq}
+use Rattle.model.proofs.Order.{flip, order-flip, order-eq, order-trans, sameRow-refl, sameRow-eq, lt≢eq, order-refl}
 
 -- ---- membership
 
@@ -185,3 +188,90 @@ insert-below r (s ∷ l) a = rw (a .0)
 pub setOf-ascending : (l : List Row) → Ascending l → setOf l ≡ l
 setOf-ascending [] a = refl
 setOf-ascending (r ∷ l) a = rw (setOf-ascending l (a .1)) (insert-below r l (a .0))
+
+-- ---- how many rows inserting leaves
+
+-- a row that is not there makes one row more
+pub insert-new : (r : Row) (l : List Row) → member r l ≡ false → length (insertRow r l) ≡ suc (length l)
+insert-new r [] e = refl
+insert-new r (s ∷ l) e = go (order r s) e (insert-new r l)
+  where
+    go : (o : Ordering) → (isEq o || member r l) ≡ false → (member r l ≡ false → length (insertRow r l) ≡ suc (length l)) → length (place o r s l (insertRow r l)) ≡ suc (suc (length l))
+    go Ordering·lt f ih = refl
+    go Ordering·eq f ih = absurd (true≢false f)
+    go Ordering·gt f ih = ap suc (ih f)
+
+-- a row that is there makes none
+pub insert-present : (r : Row) (l : List Row) → Ascending l → member r l ≡ true → insertRow r l ≡ l
+insert-present r l a e = ext (insertRow r l) l (asc-insert r l a) a (λ x. member-insert x r l ∙ go x (sameRow x r) refl)
+  where
+    go : (x : Row) (t : Bool) → sameRow x r ≡ t → (t || member x l) ≡ member x l
+    go x true f = sym (ap (λ (y : Row). member y l) (sameRow-eq x r f) ∙ e)
+    go x false f = refl
+
+pub insert-more : (r : Row) (l : List Row) → length l ≤ length (insertRow r l)
+insert-more r [] = zero-le
+insert-more r (s ∷ l) = go (order r s) (insert-more r l)
+  where
+    go : (o : Ordering) → length l ≤ length (insertRow r l) → suc (length l) ≤ length (place o r s l (insertRow r l))
+    go Ordering·lt h = omega arith
+    go Ordering·eq h = omega arith
+    go Ordering·gt h = omega arith
+
+pub insert-once : (r : Row) (l : List Row) → length (insertRow r l) ≤ suc (length l)
+insert-once r [] = le-refl 1
+insert-once r (s ∷ l) = go (order r s) (insert-once r l)
+  where
+    go : (o : Ordering) → length (insertRow r l) ≤ suc (length l) → length (place o r s l (insertRow r l)) ≤ suc (suc (length l))
+    go Ordering·lt h = omega arith
+    go Ordering·eq h = omega arith
+    go Ordering·gt h = omega arith
+
+-- ---- how many rows deleting leaves
+
+-- a row that is not there is not deleted
+pub delete-absent : (r : Row) (l : List Row) → member r l ≡ false → deleteRow r l ≡ l
+unfolding deleteRow
+delete-absent r [] e = refl
+delete-absent r (s ∷ l) e = go (sameRow s r) refl (delete-absent r l)
+  where
+    parts : (a b : Bool) → (a || b) ≡ false → (a ≡ false) × (b ≡ false)
+    parts false false f = (refl, refl)
+    parts true b f = absurd (true≢false f)
+    parts false true f = absurd (true≢false f)
+
+    here : (sameRow r s ≡ false) × (member r l ≡ false)
+    here = parts (sameRow r s) (member r l) e
+
+    go : (t : Bool) → sameRow s r ≡ t → (member r l ≡ false → keep (λ x. not (sameRow x r)) l ≡ l) → keepIf (not t) s (keep (λ x. not (sameRow x r)) l) ≡ s ∷ l
+    go true f ih = absurd (true≢false (sym (sameRow-refl r) ∙ ap (sameRow r) (sym (sameRow-eq s r f)) ∙ here .0))
+    go false f ih = ap (λ (m : List Row). s ∷ m) (ih (here .1))
+
+-- a row above others is not among them
+above-absent : (r : Row) (l : List Row) → Above r l → member r l ≡ false
+above-absent r [] a = refl
+above-absent r (s ∷ l) a = go (sameRow r s) refl (above-absent r l (a .1))
+  where
+    go : (t : Bool) → sameRow r s ≡ t → member r l ≡ false → (t || member r l) ≡ false
+    go true e ih = absurd (lt≢eq (sym (a .0) ∙ ap (order r) (sym (sameRow-eq r s e)) ∙ order-refl r))
+    go false e ih = ih
+
+-- a row that is there is deleted once
+pub delete-present : (r : Row) (l : List Row) → Ascending l → member r l ≡ true → suc (length (deleteRow r l)) ≡ length l
+unfolding deleteRow
+delete-present r [] a e = absurd (true≢false (sym e))
+delete-present r (s ∷ l) a e = go (sameRow s r) refl (delete-present r l (a .1))
+  where
+    rest : sameRow s r ≡ true → keep (λ x. not (sameRow x r)) l ≡ l
+    rest f = delete-absent r l (ap (λ (x : Row). member x l) (sym (sameRow-eq s r f)) ∙ above-absent s l (a .0))
+
+    later : sameRow s r ≡ false → member r l ≡ true
+    later f = sym (ap (λ (t : Bool). t || member r l) (flipped (sameRow r s) refl)) ∙ e
+      where
+        flipped : (t : Bool) → sameRow r s ≡ t → sameRow r s ≡ false
+        flipped true g = absurd (true≢false (sym (sameRow-refl r) ∙ ap (λ (x : Row). sameRow x r) (sameRow-eq r s g) ∙ f))
+        flipped false g = g
+
+    go : (t : Bool) → sameRow s r ≡ t → (member r l ≡ true → suc (length (keep (λ x. not (sameRow x r)) l)) ≡ length l) → suc (length (keepIf (not t) s (keep (λ x. not (sameRow x r)) l))) ≡ suc (length l)
+    go true f ih = ap (λ (m : List Row). suc (length m)) (rest f)
+    go false f ih = ap suc (ih (later f))

@@ -6,3 +6,4 @@ pub mod Edit
 pub mod Place
 pub mod Padding
 pub mod Checked
+pub mod Stand

@@ -106,3 +106,11 @@ goodRows w l = ascending (map (take w) l) && allOf (λ r. allZero (drop w r)) l
 -- the first so many words are the same
 abbrev pub sameFirst : ℕ → List ℕ → List ℕ → Bool
 sameFirst count a b = sameRow (take count a) (take count b)
+
+-- ---- rows in words that were 0
+
+-- at most so many rows stand in so many words that were 0, with their count
+pub record Standing (most size : ℕ) (l : List Row) (out : List ℕ) (n : ℕ) : Type 0 where
+  pub count : n ≡ length l
+  pub few : n ≤ most
+  pub is : out ≡ stored l (replicate size 0)

@@ -1,0 +1,41 @@
+-- Events on the rows of one table, in words.
+use mathlib.Core.Path.{_≡_}
+use mathlib.Core.Bool.{Bool, true, false, cond}
+use mathlib.Core.List.{List, [], _∷_}
+use Prim.Native.Nat.{ℕ, _+_, _*_, _≤_}
+use lib.Dec.{eqb}
+use lib.ListN.{length}
+use Rattle.model.specs.Row.{Row, ascending, insertRow, deleteRow}
+use Rattle.model.specs.Record.{Bytes, kindAt, fieldAt, isBroken, offsets}
+use Rattle.model.specs.Batch.{rowIn}
+use Rattle.model.specs.Areas.{padded}
+use Rattle.rows.specs.Rows.{firstRows, Standing}
+
+-- at most 128 rows of words, as many as a table can have while a batch is folded
+abbrev pub Stands : List Row → List ℕ → ℕ → Type 0
+Stands rows words n = Standing 128 512 rows words n
+
+-- rows of words, ascending
+pub record Table (words : List ℕ) (n : ℕ) : Type 0 where
+  pub stands : Stands (firstRows words n) words n
+  pub asc : ascending (firstRows words n) ≡ true
+
+-- the event at an offset on some rows, its own row of a width
+abbrev pub actOn : Bytes → ℕ → ℕ → List Row → List Row
+actOn bs at w rows = cond (eqb (kindAt bs at) 32) (insertRow (padded 4 (rowIn bs (at + 6) w)) rows) (deleteRow (padded 4 (rowIn bs (at + 6) w)) rows)
+
+-- the events at some offsets, those on one table, in order
+abbrev pub foldAt : Bytes → ℕ → ℕ → List ℕ → List Row → List Row
+foldAt bs t w [] rows = rows
+foldAt bs t w (at ∷ ats) rows = foldAt bs t w ats (cond (eqb (fieldAt bs at 0) t) (actOn bs at w rows) rows)
+
+-- records that can be folded: whole, and with a row of the width where they are on the table
+abbrev pub Events : Bytes → ℕ → ℕ → List ℕ → Type 0
+Events bs t w [] = Unit {0}
+Events bs t w (at ∷ ats) = (isBroken bs at ≡ false) × (at + 6 ≤ length bs) × (fieldAt bs at 0 ≡ t → at + 6 + 4 * w ≤ length bs) × Events bs t w ats
+
+-- a batch that can be folded
+pub record Foldable (bs : Bytes) (t w : ℕ) : Type 0 where
+  pub narrow : w ≤ 4
+  pub few : length (offsets bs) ≤ 64
+  pub events : Events bs t w (offsets bs)

@@ -1,0 +1,81 @@
+// Events on a table's rows.
+ghost use mathlib.Core.Path.{_≡_};
+ghost use mathlib.Core.Bool.{Bool, true, false, cond};
+ghost use mathlib.Core.List.{List, []};
+ghost use Prim.Native.Nat.{ℕ, _+_, _*_, _≤_, _<_};
+ghost use lib.Dec.{eqb};
+ghost use lib.ListN.{length, take, replicate};
+ghost use Rattle.model.specs.Row.{ascending};
+ghost use Rattle.model.specs.Record.{kindAt, fieldAt, lengthAt, offsets};
+ghost use Rattle.model.specs.Batch.{rowIn};
+ghost use Rattle.model.specs.Areas.{padded};
+ghost use Rattle.rows.specs.Rows.{stride, firstRows, stored};
+ghost use Rattle.tables.specs.Fold.{Stands, Table, actOn, foldAt, Foldable};
+use rows::Inserted;
+use rows::STRIDE;
+
+// The row of the event at an offset, then zeros.
+fn event_row(bytes: &[u8], at: usize, width: usize) -> [u32; STRIDE]
+    requires { ⌜ (width ≤ 4) × (at + 6 + 4 * width ≤ length (now bytes)) ⌝ }
+    ensures { λ r. ⌜ r ≡ padded 4 (rowIn (now (bytes .entry)) (at + 6) width) ⌝ }
+{
+    let mut row = [0u32; STRIDE];
+    let mut k = 0;
+    while k < width {
+        row[k] = records::u32_at(bytes, at + 6 + 4 * k);
+        k += 1;
+    }
+    row
+}
+
+// The event at an offset on the first n rows: how many rows there are afterwards.
+fn act(words: &mut [u32], n: usize, bytes: &[u8], at: usize, width: usize) -> usize
+    requires { ⌜ (width ≤ 4) × (at + 6 + 4 * width ≤ length (now bytes)) × Table (now words) n × (n < 128) × (length (now words) ≡ 512) ⌝ }
+    ensures { λ r. ⌜ Stands (actOn (now (bytes .entry)) at width (firstRows (now (words .entry)) n)) (now (words .exit)) r × (r ≤ n + 1) ⌝ }
+{
+    let row = event_row(bytes, at, width);
+    if records::u16_at(bytes, at + 2) == 32 {
+        match rows::insert(words, n, &row, 0, 128) {
+            Inserted::New => n + 1,
+            Inserted::Present => n,
+            Inserted::Full => n,
+        }
+    } else if rows::remove(words, n, &row, 0) {
+        n - 1
+    } else {
+        n
+    }
+}
+
+// The event at an offset on a table's rows, if it is on that table: how many rows there are afterwards.
+fn fold_one(
+    words: &mut [u32],
+    n: usize,
+    bytes: &[u8],
+    at: usize,
+    table: usize,
+    width: usize,
+) -> usize
+    requires { ⌜ (width ≤ 4) × (at + 6 ≤ length (now bytes)) × (fieldAt (now bytes) at 0 ≡ table → at + 6 + 4 * width ≤ length (now bytes)) × Table (now words) n × (n < 128) × (length (now words) ≡ 512) ⌝ }
+    ensures { λ r. ⌜ Stands (cond (eqb (fieldAt (now (bytes .entry)) at 0) table) (actOn (now (bytes .entry)) at width (firstRows (now (words .entry)) n)) (firstRows (now (words .entry)) n)) (now (words .exit)) r × (r ≤ n + 1) ⌝ }
+{
+    if records::field_at(bytes, at, 0) == table {
+        return act(words, n, bytes, at, width);
+    }
+    n
+}
+
+// The events of a table, in order, on its rows: how many there are afterwards.
+pub fn fold(words: &mut [u32], n: usize, bytes: &[u8], table: usize, width: usize) -> usize
+    requires { ⌜ Foldable (now bytes) table width × Table (now words) n × (n ≤ 64) × (length (now words) ≡ 512) ⌝ }
+    ensures { λ r. ⌜ Stands (foldAt (now (bytes .entry)) table width (offsets (now (bytes .entry))) (firstRows (now (words .entry)) n)) (now (words .exit)) r ⌝ }
+{
+    let mut count = n;
+    let mut at = 0;
+    while at < bytes.len() {
+        let here = at;
+        count = fold_one(words, count, bytes, here, table, width);
+        at = here + records::u16_at(bytes, here);
+    }
+    count
+}
