@@ -1,16 +1,18 @@
 -- Rows made of rows: the columns of a joined row, and agreement on pairs. Assumes nothing.
+-- ---- a row filled column by column
+-- the first k columns' fields, then zeros
 use mathlib.Core.Path.{_≡_, refl, sym, ap, ap₂, _∙_}
-use mathlib.Core.Bool.{Bool, true, false, _&&_, cond}
+use mathlib.Core.Bool.{Bool, true, false, _&&_}
 use mathlib.Core.List.{List, [], _∷_, _++_, map}
 use Prim.Native.Nat.{ℕ, zero, suc, _+_, _-_, _*_, _≤_, _<_}
 use native.Mathlib.Nat.{not-suc-le-zero, le-of-suc-le-suc}
 use native.Mathlib.Numerals.{add-one}
 use native.Mathlib.Omega.{arith}
 use lib.Dec.{eqb, ltb}
-use lib.ListN.{length, getD, set, take, drop, replicate, length-append}
+use lib.ListN.{length, getD, set, take, drop, replicate, length-map}
 use lib.Seq.{take-suc, length-take-le, drop-drop, getD-drop}
 use borrow.Author.Tests.{ltb-true}
-use Rattle.model.specs.Row.{Row, Relation, allOf}
+use Rattle.model.specs.Row.{Row}
 use Rattle.model.specs.Network.{columnsBelow, pairsBelow}
 use Rattle.model.specs.Areas.{padded}
 use Rattle.model.proofs.Sets.{and-first, and-second}
@@ -18,9 +20,6 @@ use Rattle.rows.proofs.Padding.{padded-more}
 use Rattle.model.specs.Algebra.{agree}
 use Rattle.nodes.specs.Nodes.{pairsOf}
 
--- ---- a row filled column by column
-
--- the first k columns' fields, then zeros
 abbrev pub filled : (ℕ → ℕ) → List ℕ → ℕ → List ℕ
 filled f columns k = padded 4 (map f (take k columns))
 
@@ -28,17 +27,13 @@ map-snoc : (f : ℕ → ℕ) (l : List ℕ) (x : ℕ) → map f (l ++ (x ∷ [])
 map-snoc f [] x = refl
 map-snoc f (y ∷ l) x = ap (λ (m : List ℕ). f y ∷ m) (map-snoc f l x)
 
-pub length-map : (f : ℕ → ℕ) (l : List ℕ) → length (map f l) ≡ length l
-length-map f [] = refl
-length-map f (x ∷ l) = ap suc (length-map f l)
-
 pub row-started : (f : ℕ → ℕ) (columns : List ℕ) → replicate 4 0 ≡ filled f columns 0
 row-started f columns = refl
 
 pub row-filled : (f : ℕ → ℕ) (columns : List ℕ) (k : ℕ) (row : List ℕ) (x : ℕ) → k < length columns → k < 4 → row ≡ filled f columns k → x ≡ f (getD columns k 0) → set row k x ≡ filled f columns (k + 1)
 row-filled f columns k row x h g e v =
     let one : take (k + 1) columns ≡ take k columns ++ (getD columns k 0 ∷ []) = rw add-one (take-suc columns k 0 h) in
-    let size : length (map f (take k columns)) ≡ k = length-map f (take k columns) ∙ length-take-le k columns (omega arith) in
+    let size : length (map f (take k columns)) ≡ k = length-map (take k columns) f ∙ length-take-le k columns (omega arith) in
     ap₂ (λ (l : List ℕ) (y : ℕ). set l k y) e v
     ∙ padded-more 4 (map f (take k columns)) (f (getD columns k 0)) k size g
     ∙ ap (padded 4) (sym (map-snoc f (take k columns) (getD columns k 0)) ∙ ap (map f) (sym one))

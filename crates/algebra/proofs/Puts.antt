@@ -1,36 +1,30 @@
 -- Rows put one after the other into a place that was empty. Assumes nothing.
+-- ---- rows put in from the last to the first
 use mathlib.Core.Path.{_≡_, refl, sym, ap, ap₂, _∙_}
-use mathlib.Core.Bool.{Bool, true, false, _||_, cond, true≢false, _&&_}
+use mathlib.Core.Bool.{Bool, true, false, cond, _&&_}
 use mathlib.Core.List.{List, [], _∷_, _++_, map, append-nil, flatMap}
-use Prim.Native.Nat.{ℕ, zero, suc, _+_, _-_, _*_, _≤_, _<_, Ordering, Ordering·lt, Ordering·eq, Ordering·gt, zero-le}
-use native.Mathlib.Nat.{mul-le-mul-right, zero-mul, le-refl, le-trans}
+use Prim.Native.Nat.{ℕ, zero, suc, _+_, _-_, _*_, _≤_, _<_, zero-le}
+use native.Mathlib.Nat.{zero-mul, le-refl, le-trans}
 use native.Mathlib.Omega.{arith}
-use lib.Dec.{isEq, leb, ltb, eqb}
-use lib.ListN.{length, take, drop, replicate, length-append, length-replicate, length-drop, getD, List·getD-append}
+use lib.Dec.{ltb, eqb}
+use lib.ListN.{length, take, drop, replicate, length-append, length-replicate, length-drop, getD, List·getD-append, length-map}
 use lib.Seq.{paste, length-take-le, take-all, getD-append-add}
-use borrow.Author.Tests.{leb-true, leb-false, lt-ltb, ltb-true, ltb-false}
-use Rattle.model.specs.Row.{Row, Relation, order, sameRow, member, ascending, place, insertRow, setOf, keep, keepIf}
+use borrow.Author.Tests.{lt-ltb, ltb-true, ltb-false}
+use Rattle.model.specs.Row.{Row, Relation, ascending, insertRow, setOf, keep, keepIf}
 use Rattle.model.specs.Algebra.{unionRows, columnsOf, projectRows, Pair, agree, joinOne, joinRows}
-use Rattle.model.specs.Areas.{layout, padded, placeOf}
-use Rattle.model.proofs.Order.{sameRow-eq, says}
-use Rattle.model.proofs.Sets.{Ascending, ascending-true, ascending-holds, asc-insert, ext, member-insert, setOf-ascending, and-first, and-second, and-both, insert-more}
-use Rattle.rows.specs.Rows.{rowAt, rowsFrom, firstRows, words, stored, insertAnswer, Inserts}
-use Rattle.rows.specs.declared.Inserted.{Inserted}
-use Rattle.rows.specs.declared.Inserted.the-variants.{New, Present, Full}
-use Rattle.rows.proofs.Words.{Wide, wide-rows, wide-insert, length-rows, length-row, length-words, rows-cons, rows-none, rows-stored, stored-stored, words-rows, fields-part, wide-keep}
+use Rattle.model.specs.Areas.{padded}
+use Rattle.model.proofs.Sets.{Ascending, ascending-true, ascending-holds, asc-insert, setOf-ascending, and-first, and-second, and-both, insert-more}
+use Rattle.rows.specs.Rows.{rowAt, rowsFrom, firstRows, words, stored}
+use Rattle.rows.proofs.Words.{Wide, wide-rows, wide-insert, length-rows, length-words, rows-cons, rows-none, rows-stored, words-rows, fields-part, wide-keep}
 use Rattle.rows.proofs.Padding.{union-padded, wide-setOf, field-padded, map-append, setOf-padded, keep-padded}
 use Rattle.rows.proofs.Place.{wide-append, length-map-padded, length-padded}
-use Rattle.algebra.specs.Places.{relationIn, Place, Blank, Fills, Stands, Stored, Makes, insertAll, joinedField, joinedRow, JoinFits, JoinsIn, joinedWith}
+use Rattle.algebra.specs.Places.{relationIn, Place, Blank, Fills, Stands, Stored, insertAll, joinedField, joinedRow, JoinFits, JoinsIn, joinedWith}
 use Rattle.algebra.specs.declared.Made.{Made}
-use Rattle.algebra.specs.declared.Made.the-variants.{Rows, Over}
 use Rattle.algebra.proofs.Places.{place-rows, place-wide, rows-ascend, stored-blank}
 use Rattle.model.specs.Network.{columnsBelow, pairsBelow}
-use Rattle.algebra.proofs.Joins.{length-map}
 use Rattle.model.specs.Station.{step}
 use Rattle.algebra.specs.declared.Joining.{Joining}
 use Rattle.nodes.specs.Nodes.{pairsOf}
-
--- ---- rows put in from the last to the first
 
 wide-all : (w : ℕ) (a b : List Row) → Wide w a → Wide w b → Wide w (insertAll a b)
 wide-all w [] b h g = g
@@ -216,7 +210,7 @@ columns-more k m (c ∷ columns) h e =
     and-both (ltb c m) (columnsBelow m columns) (lt-ltb c m (le-trans (ltb-true c k (and-first (ltb c k) (columnsBelow k columns) e)) h)) (columns-more k m columns h (and-second (ltb c k) (columnsBelow k columns) e))
 
 pub joined-length : (split : ℕ) (columns : List ℕ) (l r : Row) → length columns ≤ 4 → length (joinedRow split columns l r) ≡ 4
-joined-length split columns l r h = length-padded 4 (map (joinedField split l r) columns) (rw (length-map (joinedField split l r) columns) h)
+joined-length split columns l r h = length-padded 4 (map (joinedField split l r) columns) (rw (length-map columns (joinedField split l r)) h)
 
 pub columns-same : (k : ℕ) (columns : List ℕ) (f g : ℕ → ℕ) → columnsBelow k columns ≡ true → ((c : ℕ) → c < k → f c ≡ g c) → map f columns ≡ map g columns
 columns-same k [] f g e h = refl
@@ -242,7 +236,7 @@ module _ (columns : List ℕ) (w : ℕ) (s : List ℕ) (n : ℕ) (pl : Place w s
       (columns-same w columns (joinedField 4 (padded 4 r) (padded 4 r)) (λ c. getD r c 0) below (λ c h. rw (lt-ltb c 4 (omega (arith, pl .narrow))) (field-padded 4 r c (rw e h))))
 
   columns-wide : (r : Row) → length r ≡ w → Wide (length columns) (columnsOf columns r ∷ [])
-  columns-wide r e = (length-map (λ c. getD r c 0) columns, tt)
+  columns-wide r e = (length-map columns (λ c. getD r c 0), tt)
 
   pub project-is : putFrom (projected columns) [] s n 0 ≡ map (padded 4) (projectRows columns (relationIn w s n))
   unfolding projectRows
@@ -331,7 +325,7 @@ module _ (how : Joining) (w : ℕ) (left : List ℕ) (n : ℕ) (right : List ℕ
 
   map-wide : (l : Row) (rel : List Row) → Wide (length (take (how .n) (how .columns))) (map (λ r. columnsOf (take (how .n) (how .columns)) (l ++ r)) rel)
   map-wide l [] = tt
-  map-wide l (r ∷ rel) = (length-map (λ c. getD (l ++ r) c 0) (take (how .n) (how .columns)), map-wide l rel)
+  map-wide l (r ∷ rel) = (length-map (take (how .n) (how .columns)) (λ c. getD (l ++ r) c 0), map-wide l rel)
 
   one-wide : (l : Row) → length l ≡ how .split → Wide (length (take (how .n) (how .columns))) (joinOne (pairsOf (how .p) (how .pairs)) (take (how .n) (how .columns)) (relationIn w right m) l)
   unfolding joinOne

@@ -16,7 +16,7 @@ use Rattle.rows.proofs.Form.{slice-part}
 use Rattle.areas.proofs.All.{all-ext}
 use Rattle.model.specs.Network.{Node, widths}
 use Rattle.model.proofs.Sets.{and-first, and-second}
-use Rattle.areas.specs.Lent.{countsFrom, lent}
+use Rattle.areas.specs.Lent.{countsFrom, lent, placeAt}
 use Rattle.model.proofs.Fits.{length-widths}
 
 -- ---- long enough
@@ -47,10 +47,6 @@ empty-is area i count e = rw e
 pub empty-not : (area : List ℕ) (i count : ℕ) → eqb count 0 ≡ false → emptyPlace layout count area i ≡ false
 unfolding emptyPlace
 empty-not area i count e = rw e
-
--- the part of an area that is lent as a node's place
-abbrev pub placeAt : List ℕ → ℕ → List ℕ
-placeAt area i = take (i * 256 + 256 - i * 256) (drop (i * 256) area)
 
 pub part-is : (area : List ℕ) (i : ℕ) → placeAt area i ≡ take 256 (drop (256 * i) area)
 part-is area i =

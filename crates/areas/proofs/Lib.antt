@@ -1,2 +1,3 @@
 pub mod All
 pub mod Good
+pub mod Pasted

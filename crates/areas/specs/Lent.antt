@@ -1,7 +1,7 @@
 -- The areas of a call, from the four slices that are lent.
 use mathlib.Core.List.{List}
-use Prim.Native.Nat.{ℕ, _+_}
-use lib.ListN.{getD}
+use Prim.Native.Nat.{ℕ, _+_, _-_, _*_}
+use lib.ListN.{getD, take, drop}
 use Rattle.model.specs.Areas.{Areas}
 
 -- the four areas
@@ -11,3 +11,7 @@ lent rows gained lost head = record { rows = rows; gained = gained; lost = lost;
 -- the counts of the head from a word on, by node number
 abbrev pub countsFrom : List ℕ → ℕ → ℕ → ℕ
 countsFrom head first i = getD head (first + i) 0
+
+-- the part of an area that is lent as a node's place
+abbrev pub placeAt : List ℕ → ℕ → List ℕ
+placeAt area i = take (i * 256 + 256 - i * 256) (drop (i * 256) area)

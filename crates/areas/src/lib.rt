@@ -107,13 +107,13 @@ fn good_area(area: &[u32], widths: &[usize], n: usize, head: &[u32], first: usiz
 }
 
 // Whether node i's change stamp is at most the batch number, or 0 past the last node.
-fn good_stamp(head: &[u32], n: usize, i: usize) -> bool
+fn good_stamp(head: &[u32], n: usize, number: u32, i: usize) -> bool
     requires { ⌜ (162 ≤ length (now head)) × (i < 32) ⌝ }
-    ensures { λ r. ⌜ r ≡ leb (stampAt (now (head .entry)) i) (cond (ltb i n) (batchNumber (now (head .entry))) 0) ⌝ }
+    ensures { λ r. ⌜ r ≡ leb (stampAt (now (head .entry)) i) (cond (ltb i n) number 0) ⌝ }
 {
     let stamp = head[STAMPS + i];
     if i < n {
-        return stamp <= head[0];
+        return stamp <= number;
     }
     stamp <= 0
 }
@@ -123,9 +123,10 @@ fn good_stamps(head: &[u32], n: usize) -> bool
     requires { ⌜ 162 ≤ length (now head) ⌝ }
     ensures { λ r. ⌜ r ≡ goodStamps n (now (head .entry)) ⌝ }
 {
+    let number = head[0];
     let mut node = 0;
     while node < NODES {
-        if !good_stamp(head, n, node) {
+        if !good_stamp(head, n, number, node) {
             return false;
         }
         node += 1;
@@ -134,12 +135,12 @@ fn good_stamps(head: &[u32], n: usize) -> bool
 }
 
 // Whether entry k of the worked list is a node's number, or 0 past those that are counted.
-fn good_entry(head: &[u32], n: usize, k: usize) -> bool
+fn good_entry(head: &[u32], n: usize, counted: usize, k: usize) -> bool
     requires { ⌜ (162 ≤ length (now head)) × (k < 32) ⌝ }
-    ensures { λ r. ⌜ r ≡ cond (ltb k (workedCount (now (head .entry)))) (ltb (workedAt (now (head .entry)) k) n) (eqb (workedAt (now (head .entry)) k) 0) ⌝ }
+    ensures { λ r. ⌜ r ≡ cond (ltb k counted) (ltb (workedAt (now (head .entry)) k) n) (eqb (workedAt (now (head .entry)) k) 0) ⌝ }
 {
     let entry = head[WORKED + 1 + k];
-    if k < head[WORKED] as usize {
+    if k < counted {
         return (entry as usize) < n;
     }
     entry == 0
@@ -150,12 +151,13 @@ fn good_worked(head: &[u32], n: usize) -> bool
     requires { ⌜ 162 ≤ length (now head) ⌝ }
     ensures { λ r. ⌜ r ≡ goodWorked n (now (head .entry)) ⌝ }
 {
-    if n < head[WORKED] as usize {
+    let counted = head[WORKED] as usize;
+    if n < counted {
         return false;
     }
     let mut k = 0;
     while k < NODES {
-        if !good_entry(head, n, k) {
+        if !good_entry(head, n, counted, k) {
             return false;
         }
         k += 1;

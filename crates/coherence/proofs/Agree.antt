@@ -18,14 +18,15 @@ use Rattle.rows.proofs.Place.{held-wide, length-held}
 use Rattle.model.specs.Areas.{layout, placeOf, rowCount}
 use Rattle.evaluation.specs.Derived.{leftOf, rightOf}
 use Rattle.evaluation.proofs.Inside.{on-wide, width-on}
-use Rattle.coherence.proofs.Placed.{place-at, rows-few, words-at}
-use Rattle.areas.proofs.Good.{placeAt}
+use Rattle.coherence.proofs.Placed.{rows-few, words-at}
+use Rattle.areas.specs.Lent.{placeAt}
 use Rattle.model.proofs.Order.{sameRow-eq, sameRow-refl}
 use Rattle.model.proofs.Sets.{sameRows-eq, sameRows-refl}
 use Rattle.network.specs.Reading.{slotNode}
 use Rattle.rows.proofs.Padding.{unpadded}
 
 -- the same with fewer nodes
+
 pub fewer : (ws : List ℕ) (n m : ℕ) (rows head : List ℕ) → m ≤ n → Places ws n rows head → Places ws m rows head
 fewer ws n m rows head h p =
     record {
@@ -45,6 +46,28 @@ words-rows-same w a b h wa wb few size e =
     ∙ ap₂ {A = List ℕ} {B = ℕ} {C = Relation} (λ s n. map (take w) (firstRows s n)) e size
     ∙ read b wb (rw (← size) few)
 
+-- two places with the rows of one width: the words are the same exactly if the rows are
+pub places-decide : (w : ℕ) (a b : Relation) (x y : List ℕ) → w ≤ 4 → Wide w a → Wide w b → length a ≤ 64 → length a ≡ length b → x ≡ placeOf layout a → y ≡ placeOf layout b → sameFirst 256 x y ≡ sameRows a b
+places-decide w a b x y narrow wa wb few size ex ey =
+    let whole : (r : Relation) (s : List ℕ) → Wide w r → length r ≤ 64 → s ≡ placeOf layout r → take 256 s ≡ s = λ r s wr f e. take-all 256 s (rw (ap length e ∙ place-length w r narrow wr f) (le-refl 256)) in
+    let first : take 256 x ≡ x = whole a x wa few ex in
+    let second : take 256 y ≡ y = whole b y wb (rw (← size) few) ey in
+    bool-same (sameFirst 256 x y) (sameRows a b)
+    (λ g.
+    let same : a ≡ b = words-rows-same w a b narrow wa wb few size (sym ex ∙ sym first ∙ sameRow-eq (take 256 x) (take 256 y) g ∙ second ∙ ey) in
+    ap (sameRows a) (sym same) ∙ sameRows-refl a)
+    (λ g.
+    let words : x ≡ y = ex ∙ ap (placeOf layout) (sameRows-eq a b g) ∙ sym ey in
+    ap (λ (s : List ℕ). sameRow (take 256 x) (take 256 s)) (sym words) ∙ sameRow-refl (take 256 x))
+
+-- relations of other sizes are not the same
+pub sizes-differ : (a b : Relation) → (length a ≡ length b → ⊥) → sameRows a b ≡ false
+sizes-differ a b n = go (sameRows a b) refl
+  where
+    go : (t : Bool) → sameRows a b ≡ t → t ≡ false
+    go false g = refl
+    go true g = absurd (n (ap length (sameRows-eq a b g)))
+
 module _ (slot : Slot) (ws rows head : List ℕ) (i : ℕ) (p : Places ws (i + 1) rows head) (d : Derived slot ws i) where
   here : i < i + 1
   here = omega arith
@@ -61,36 +84,14 @@ module _ (slot : Slot) (ws rows head : List ℕ) (i : ℕ) (p : Places ws (i + 1
 
   -- another count: other rows
   pub count-differs : (out : List ℕ) (count : ℕ) → Fills (givenAt slot ws head rows) out count → (rowCount head i ≡ count → ⊥) → sameRows (heldAt ws head rows i) (givenAt slot ws head rows) ≡ false
-  count-differs out count f e = go (sameRows (heldAt ws head rows i) (givenAt slot ws head rows)) refl
-    where
-      go : (t : Bool) → sameRows (heldAt ws head rows i) (givenAt slot ws head rows) ≡ t → t ≡ false
-      go false g = refl
-      go true g = absurd (e (sym (length-held layout (getD ws i 0) (rowCount head i) rows i) ∙ ap length (sameRows-eq (heldAt ws head rows i) (givenAt slot ws head rows) g) ∙ sym (f .count)))
+  count-differs out count f e = sizes-differ (heldAt ws head rows i) (givenAt slot ws head rows) (λ g. e (sym (length-held layout (getD ws i 0) (rowCount head i) rows i) ∙ g ∙ sym (f .count)))
 
   -- too many: other rows
   pub over-differs : 64 < length (givenAt slot ws head rows) → sameRows (heldAt ws head rows i) (givenAt slot ws head rows) ≡ false
-  over-differs o = go (sameRows (heldAt ws head rows i) (givenAt slot ws head rows)) refl
-    where
-      go : (t : Bool) → sameRows (heldAt ws head rows i) (givenAt slot ws head rows) ≡ t → t ≡ false
-      go false g = refl
-      go true g = absurd (omega (arith, o, ap length (sameRows-eq (heldAt ws head rows i) (givenAt slot ws head rows) g), rows-few ws (i + 1) rows head p i here))
+  over-differs o = sizes-differ (heldAt ws head rows i) (givenAt slot ws head rows) (λ g. absurd (omega (arith, o, g, rows-few ws (i + 1) rows head p i here)))
 
   -- the same count: the same rows exactly if the words are the same
   pub words-decide : (out : List ℕ) (count : ℕ) → Fills (givenAt slot ws head rows) out count → rowCount head i ≡ count → sameFirst 256 (placeAt rows i) out ≡ sameRows (heldAt ws head rows i) (givenAt slot ws head rows)
   words-decide out count f e =
-      let size : length (heldAt ws head rows i) ≡ length (givenAt slot ws head rows) = length-held layout (getD ws i 0) (rowCount head i) rows i ∙ e ∙ f .count in
-      let held-words : placeAt rows i ≡ placeOf layout (heldAt ws head rows i) = words-at ws (i + 1) rows head p i here in
-      let long : length (placeAt rows i) ≡ 256 = place-at ws (i + 1) rows head p i here .long in
-      let whole : take 256 (placeAt rows i) ≡ placeAt rows i = take-all 256 (placeAt rows i) (rw long (le-refl 256)) in
-      let out-long : length out ≡ 256 = ap length (f .is) ∙ place-length (getD ws i 0) (givenAt slot ws head rows) (p .narrow i) wide-given (rw (← f .count) (f .few)) in
-      let whole-out : take 256 out ≡ out = take-all 256 out (rw out-long (le-refl 256)) in
-      bool-same (sameFirst 256 (placeAt rows i) out) (sameRows (heldAt ws head rows i) (givenAt slot ws head rows))
-      (λ g.
-      let words : placeAt rows i ≡ out = sym whole ∙ sameRow-eq (take 256 (placeAt rows i)) (take 256 out) g ∙ whole-out in
-      let same : heldAt ws head rows i ≡ givenAt slot ws head rows =
-      words-rows-same (getD ws i 0) (heldAt ws head rows i) (givenAt slot ws head rows) (p .narrow i) wide-held wide-given (rows-few ws (i + 1) rows head p i here) size (sym held-words ∙ words ∙ f .is) in
-      ap (sameRows (heldAt ws head rows i)) (sym same) ∙ sameRows-refl (heldAt ws head rows i))
-      (λ g.
-      let same : heldAt ws head rows i ≡ givenAt slot ws head rows = sameRows-eq (heldAt ws head rows i) (givenAt slot ws head rows) g in
-      let words : placeAt rows i ≡ out = held-words ∙ ap (placeOf layout) same ∙ sym (f .is) in
-      ap (λ (s : List ℕ). sameRow (take 256 (placeAt rows i)) (take 256 s)) (sym words) ∙ sameRow-refl (take 256 (placeAt rows i)))
+      places-decide (getD ws i 0) (heldAt ws head rows i) (givenAt slot ws head rows) (placeAt rows i) out (p .narrow i) wide-held wide-given (rows-few ws (i + 1) rows head p i here)
+      (length-held layout (getD ws i 0) (rowCount head i) rows i ∙ e ∙ f .count) (words-at ws (i + 1) rows head p i here) (f .is)

@@ -1,18 +1,21 @@
 -- Areas whose rows are of good form: coherence judged node by node. Assumes nothing.
+-- two tests that say the same of the numbers below n
 use mathlib.Core.Bool.{Bool, false, true, cond}
 use mathlib.Core.List.{List, [], map, _∷_}
 use mathlib.Core.Path.{ap, refl, sym, _∙_, _≡_}
-use Prim.Native.Nat.{_+_, _<_, suc, zero, ℕ}
-use native.Mathlib.Nat.{add-zero, le-of-suc-le-suc, not-suc-le-zero, zero-add}
+use Prim.Native.Nat.{_<_, suc, zero, ℕ, _≤_, zero-le}
+use native.Mathlib.Nat.{le-of-suc-le-suc, not-suc-le-zero, zero-add}
 use native.Mathlib.Omega.{arith}
-use lib.ListN.{getD, length, take}
+use lib.ListN.{getD, length, take, length-map, List·getD-eq-default}
 use lib.Seq.{getD-take, length-take-le}
+use lib.Dec.{ltb}
+use borrow.Author.Tests.{ltb-true, ltb-false}
 use Rattle.rows.proofs.Place.{all-below, below-all}
-use Rattle.model.specs.Network.{AllFit, build, isTable, nodeAt, table, widthOf, widths, Node, highest, inputsOf, levelOf, levels}
+use Rattle.model.specs.Network.{AllFit, isTable, nodeAt, table, widths, Node, highest, inputsOf, levelOf, levels}
 use Rattle.network.specs.declared.Network.{Network}
 use Rattle.network.specs.Reading.{Built, noSlot, nodesOf, slotNode}
 use Rattle.coherence.specs.Held.{Derived, freshIn, heldAt, rowsHeld, slotAgrees}
-use Rattle.model.specs.Row.{Relation, allOf, countFrom, numbersBelow}
+use Rattle.model.specs.Row.{allOf, numbersBelow}
 use Rattle.network.specs.declared.Slot.{Slot}
 use Rattle.evaluation.proofs.Fresh.{agreesAt, columns-fit, fresh-checked, inputs-before, width-at}
 use Rattle.rows.proofs.Checked.{bool-same}
@@ -22,8 +25,8 @@ use Rattle.model.specs.Areas.{heldIn, layout, relationsIn, rowCount}
 use Rattle.model.proofs.Fits.{length-widths}
 use Rattle.model.specs.Evaluation.{rowsAt}
 use Rattle.evaluation.proofs.Inside.{width-on, widthOn}
+use Rattle.model.proofs.Parts.{length-counted, counted-at}
 
--- two tests that say the same of the numbers below n
 all-same : (p q : ℕ → Bool) (n : ℕ) → ((j : ℕ) → j < n → p j ≡ q j) → allOf p (numbersBelow n) ≡ allOf q (numbersBelow n)
 all-same p q n f =
     bool-same (allOf p (numbersBelow n)) (allOf q (numbersBelow n))
@@ -35,23 +38,18 @@ getD-map [] i h = absurd (not-suc-le-zero h)
 getD-map (x ∷ l) zero h = refl
 getD-map (x ∷ l) (suc i) h = getD-map l i (le-of-suc-le-suc h)
 
-length-slots : (l : List Slot) → length (map slotNode l) ≡ length l
-length-slots [] = refl
-length-slots (x ∷ l) = ap suc (length-slots l)
+-- the relation of a node among those of an area
+pub relation-at : (ws : List ℕ) (count : ℕ → ℕ) (area : List ℕ) (i : ℕ) → i < length ws → getD (relationsIn layout ws count area) i [] ≡ heldIn layout (getD ws i 0) (count i) area i
+unfolding relationsIn
+relation-at ws count area i h = counted-at [] (λ j. heldIn layout (getD ws j 0) (count j) area j) 0 (length ws) i h ∙ ap (λ (j : ℕ). heldIn layout (getD ws j 0) (count j) area j) (zero-add i)
 
--- the value of a counted list
-pub getD-held : (f : ℕ → Relation) (from n j : ℕ) → j < n → getD (map f (countFrom from n)) j [] ≡ f (from + j)
-getD-held f from zero j h = absurd (not-suc-le-zero h)
-getD-held f from (suc n) zero h = ap f (sym (add-zero from))
-getD-held f from (suc n) (suc j) h = let e : suc from + j ≡ from + suc j = omega arith in getD-held f (suc from) n j (le-of-suc-le-suc h) ∙ ap f e
-
-pub length-counted : (f : ℕ → Relation) (from n : ℕ) → length (map f (countFrom from n)) ≡ n
-length-counted f from zero = refl
-length-counted f from (suc n) = ap suc (length-counted f (suc from) n)
+pub relations-length : (ws : List ℕ) (count : ℕ → ℕ) (area : List ℕ) → length (relationsIn layout ws count area) ≡ length ws
+unfolding relationsIn
+relations-length ws count area = length-counted (λ j. heldIn layout (getD ws j 0) (count j) area j) 0 (length ws)
 
 module _ (net : Network) (b : Built net) where
   pub nodes-count : length (nodesOf net) ≡ net .count
-  nodes-count = length-slots (take (net .count) (net .slots)) ∙ length-take-le (net .count) (net .slots) (omega (arith, b .sound .few, b .slots-length))
+  nodes-count = length-map (take (net .count) (net .slots)) slotNode ∙ length-take-le (net .count) (net .slots) (omega (arith, b .sound .few, b .slots-length))
 
   pub slot-node : (i : ℕ) → i < net .count → nodeAt (nodesOf net) i ≡ slotNode (getD (net .slots) i noSlot)
   slot-node i h =
@@ -61,6 +59,13 @@ module _ (net : Network) (b : Built net) where
   -- a width of the model's network is that of the array
   pub width-is : (i : ℕ) → i < net .count → getD (widths (nodesOf net)) i 0 ≡ getD (net .widths) i 0
   width-is i h = ap (λ (l : List ℕ). getD l i 0) (sym (b .sound .widths)) ∙ getD-take (net .count) (net .widths) i 0 h
+
+  pub narrow-widths : (i : ℕ) → getD (widths (nodesOf net)) i 0 ≤ 4
+  narrow-widths i = go (ltb i (net .count)) refl
+    where
+      go : (t : Bool) → ltb i (net .count) ≡ t → getD (widths (nodesOf net)) i 0 ≤ 4
+      go true e = rw (width-is i (ltb-true i (net .count) e)) (b .narrow i)
+      go false e = rw (List·getD-eq-default (widths (nodesOf net)) 0 {n = i} (rw (length-widths (nodesOf net), nodes-count) (ltb-false i (net .count) e))) zero-le
 
   -- a node's level is 0 exactly if it is a table
   pub level-at : (i : ℕ) → i < net .count → getD (net .levels) i 0 ≡ cond (isTable (slotNode (getD (net .slots) i noSlot))) 0 (suc (highest (take i (levels (nodesOf net))) (inputsOf (slotNode (getD (net .slots) i noSlot)))))
@@ -115,14 +120,11 @@ module _ (net : Network) (b : Built net) (fit : AllFit (nodesOf net)) where
 
   module _ (rows head : List ℕ) where
     pub rows-length : length (rowsHeld net rows head) ≡ length (nodesOf net)
-    unfolding relationsIn
-    rows-length = length-counted (λ i. heldIn layout (getD (widths (nodesOf net)) i 0) (rowCount head i) rows i) 0 (length (widths (nodesOf net))) ∙ length-widths (nodesOf net)
+    rows-length = relations-length (widths (nodesOf net)) (rowCount head) rows ∙ length-widths (nodesOf net)
 
     pub rows-held : (i : ℕ) → i < net .count → rowsAt (rowsHeld net rows head) i ≡ heldAt (net .widths) head rows i
-    unfolding relationsIn
     rows-held i h =
-        getD-held (λ j. heldIn layout (getD (widths (nodesOf net)) j 0) (rowCount head j) rows j) 0 (length (widths (nodesOf net))) i (rw (length-widths (nodesOf net), nodes-count net b) h)
-        ∙ ap (λ (j : ℕ). heldIn layout (getD (widths (nodesOf net)) j 0) (rowCount head j) rows j) (zero-add i)
+        relation-at (widths (nodesOf net)) (rowCount head) rows i (rw (length-widths (nodesOf net), nodes-count net b) h)
         ∙ ap (λ (w : ℕ). heldIn layout w (rowCount head i) rows i) (width-is net b i h)
 
     -- what is checked of node i

@@ -15,7 +15,8 @@ use Rattle.model.specs.Row.{ascending}
 use Rattle.model.specs.Areas.{goodPlace, layout, placeOf, rowCount, unusedZero}
 use Rattle.rows.proofs.Place.{length-held}
 use Rattle.rows.proofs.Checked.{part-good, part-held}
-use Rattle.areas.proofs.Good.{placeAt, part-is}
+use Rattle.areas.proofs.Good.{part-is}
+use Rattle.areas.specs.Lent.{placeAt}
 use Rattle.rows.proofs.Checked as checked
 
 module _ (ws : List ℕ) (n : ℕ) (rows head : List ℕ) (p : Places ws n rows head) (j : ℕ) (h : j < n) where

@@ -1,97 +1,31 @@
 -- Any coherent areas hold a proper state, so a batch leaves them coherent. Assumes nothing.
-use mathlib.Core.Bool.{_&&_, Bool, cond, false, true}
-use mathlib.Core.List.{List, [], map, zipWith, _∷_}
-use mathlib.Core.Path.{ap, ap₂, refl, sym, _∙_, _≡_}
-use Prim.Native.Nat.{_+_, _<_, suc, zero, zero-le, ℕ, _≤_}
-use native.Mathlib.Nat.{add-zero, le-of-suc-le-suc, not-suc-le-zero, zero-add}
+use mathlib.Core.Bool.{Bool, cond, false, true}
+use mathlib.Core.List.{List, map}
+use mathlib.Core.Path.{ap, refl, sym, _∙_, _≡_}
+use Prim.Native.Nat.{_<_, zero-le, ℕ, _≤_}
+use native.Mathlib.Nat.{zero-add}
 use native.Mathlib.Omega.{arith}
 use lib.ListN.{List·getD-eq-default, getD, length}
 use lib.Dec.{eqb, leb, ltb}
 use borrow.Author.Tests.{leb-true, lt-ltb, ltb-false, ltb-true}
-use Rattle.model.specs.Network.{Node, AllFit, readNetwork, widths, nodeAt, isTable}
-use Rattle.rows.proofs.Place.{all-below, below-all, held-wide, length-held}
+use Rattle.model.specs.Network.{Node, readNetwork, widths}
+use Rattle.rows.proofs.Place.{all-below}
 use Rattle.model.specs.Calls.{Applied, Keeps, Result, applyPromise, resultOf, settled}
-use Rattle.model.specs.Areas.{Areas, batchNumber, changesIn, coherent, emptyPlace, gainedCount, goodArea, goodForm, goodPlace, goodStamps, goodWorked, heldIn, holding, layout, longEnough, lostCount, relationsIn, rowCount, rowsIn, sameRelations, stampAt, stateIn, tablesOf, unusedZero, workedAt, workedCount}
+use Rattle.model.specs.Areas.{Areas, batchNumber, changesIn, coherent, gainedCount, goodArea, goodForm, goodStamps, goodWorked, holding, layout, longEnough, lostCount, relationsIn, rowCount, rowsIn, sameRelations, stampAt, stateIn, tablesOf, workedAt, workedCount}
 use Rattle.model.specs.Record.{Bytes, isAccepted}
-use Rattle.demand3.proofs.Written.{Fitting}
+use Rattle.states.proofs.Written.{Fitting}
 use Rattle.demand3.proofs.Holds.{Proper, holding-coherent}
-use Rattle.model.specs.Row.{Relation, allOf, ascending, countFrom, numbersBelow}
+use Rattle.model.specs.Row.{allOf, numbersBelow}
 use Rattle.model.proofs.Fits.{Small, length-widths, read-fits, read-small}
 use Rattle.model.specs.Station.{Step, step}
 use Rattle.model.proofs.Sets.{and-first, and-second}
 use Rattle.model.specs.Evaluation.{evaluate}
-use Rattle.coherence.proofs.Coherent.{getD-held, length-counted}
 use Rattle.evaluation.proofs.Fresh.{same-eq}
 use Rattle.demand3.proofs.Theorem.{settled-on}
 use Rattle.demand3.proofs.Steps.{step-sound}
-use Rattle.demand3.proofs.Worked.{worked-few, worked-low}
-use Rattle.model.specs.Delta.{Change}
-
-map-gained : (a b : List Relation) → length a ≡ length b → map (λ (c : Change). c .gained) (zipWith (λ g l. record { gained = g; lost = l }) a b) ≡ a
-unfolding zipWith
-map-gained [] b e = refl
-map-gained (x ∷ a) [] e = absurd (omega arith)
-map-gained (x ∷ a) (y ∷ b) e = ap (λ (l : List Relation). x ∷ l) (map-gained a b (omega arith))
-
-map-lost : (a b : List Relation) → length a ≡ length b → map (λ (c : Change). c .lost) (zipWith (λ g l. record { gained = g; lost = l }) a b) ≡ b
-unfolding zipWith
-map-lost [] [] e = refl
-map-lost [] (y ∷ b) e = absurd (omega arith)
-map-lost (x ∷ a) [] e = absurd (omega arith)
-map-lost (x ∷ a) (y ∷ b) e = ap (λ (l : List Relation). y ∷ l) (map-lost a b (omega arith))
-
--- an area of good form holds relations that fit
-module _ (ws : List ℕ) (few : length ws ≤ 32) (narrow : (i : ℕ) → getD ws i 0 ≤ 4) (count : ℕ → ℕ) (area : List ℕ) (g : goodArea layout ws count area ≡ true) where
-  place-good : (i : ℕ) → i < length ws → goodPlace layout (getD ws i 0) (count i) area i ≡ true
-  unfolding goodArea
-  place-good i h =
-      let here : cond (ltb i (length ws)) (goodPlace layout (getD ws i 0) (count i) area i) (emptyPlace layout (count i) area i) ≡ true = ap (λ (j : ℕ). cond (ltb j (length ws)) (goodPlace layout (getD ws j 0) (count j) area j) (emptyPlace layout (count j) area j)) (sym (zero-add i)) ∙ all-below (λ j. cond (ltb j (length ws)) (goodPlace layout (getD ws j 0) (count j) area j) (emptyPlace layout (count j) area j)) 0 32 g i (omega arith) in
-      rw (lt-ltb i (length ws) h) at here
-
-  first-two : (i : ℕ) → i < length ws → (leb (count i) 64 && ascending (heldIn layout (getD ws i 0) (count i) area i)) ≡ true
-  unfolding goodPlace
-  first-two i h = and-first (leb (count i) 64 && ascending (heldIn layout (getD ws i 0) (count i) area i)) (unusedZero layout (getD ws i 0) (count i) area i) (place-good i h)
-
-  relation-at : (i : ℕ) → i < length ws → getD (relationsIn layout ws count area) i [] ≡ heldIn layout (getD ws i 0) (count i) area i
-  unfolding relationsIn
-  relation-at i h = getD-held (λ j. heldIn layout (getD ws j 0) (count j) area j) 0 (length ws) i h ∙ ap (λ (j : ℕ). heldIn layout (getD ws j 0) (count j) area j) (zero-add i)
-
-  pub area-fits : Fitting ws (relationsIn layout ws count area)
-  unfolding relationsIn
-  area-fits =
-      record {
-        size = length-counted (λ j. heldIn layout (getD ws j 0) (count j) area j) 0 (length ws);
-        few = few;
-        narrow = narrow;
-        wide = λ i h. rw (relation-at i h) (held-wide layout (getD ws i 0) (count i) area i);
-        small = λ i h. rw (relation-at i h, length-held layout (getD ws i 0) (count i) area i) (leb-true (count i) 64 (and-first (leb (count i) 64) (ascending (heldIn layout (getD ws i 0) (count i) area i)) (first-two i h)));
-        asc = λ i h. rw (relation-at i h) (and-second (leb (count i) 64) (ascending (heldIn layout (getD ws i 0) (count i) area i)) (first-two i h));
-      }
-
-numbers-at : (f : ℕ → ℕ) (from n k : ℕ) → k < n → getD (map f (countFrom from n)) k 0 ≡ f (from + k)
-numbers-at f from zero k h = absurd (not-suc-le-zero h)
-numbers-at f from (suc n) zero h = ap f (sym (add-zero from))
-numbers-at f from (suc n) (suc k) h = let e : suc from + k ≡ from + suc k = omega arith in numbers-at f (suc from) n k (le-of-suc-le-suc h) ∙ ap f e
-
-numbers-length : (f : ℕ → ℕ) (from n : ℕ) → length (map f (countFrom from n)) ≡ n
-numbers-length f from zero = refl
-numbers-length f from (suc n) = ap suc (numbers-length f (suc from) n)
-
-only-twice : (nodes : List Node) (rels : List Relation) → tablesOf nodes (tablesOf nodes rels) ≡ tablesOf nodes rels
-unfolding tablesOf zipWith
-only-twice [] rels = refl
-only-twice (n ∷ nodes) [] = refl
-only-twice (n ∷ nodes) (r ∷ rels) = ap₂ {A = Relation} {B = List Relation} {C = List Relation} (λ a b. a ∷ b) (go (isTable n)) (only-twice nodes rels)
-  where
-    go : (t : Bool) → cond t (cond t r []) [] ≡ cond t r []
-    go true = refl
-    go false = refl
-
-only-length : (nodes : List Node) (rels : List Relation) → length rels ≡ length nodes → length (tablesOf nodes rels) ≡ length nodes
-unfolding tablesOf zipWith
-only-length [] rels e = refl
-only-length (n ∷ nodes) [] e = absurd (omega arith)
-only-length (n ∷ nodes) (r ∷ rels) e = ap suc (only-length nodes rels (omega arith))
+use Rattle.states.proofs.Worked.{worked-few, worked-low}
+use Rattle.states.proofs.Fitted.{area-fits, only-length, only-twice, map-gained, map-lost, form-parts}
+use Rattle.model.proofs.Parts.{length-counted, counted-at}
 
 module _ (nodes : List Node) (small : Small nodes) (a : Areas) (c : coherent layout nodes a ≡ true) where
   form : goodForm layout nodes a ≡ true
@@ -105,32 +39,24 @@ module _ (nodes : List Node) (small : Small nodes) (a : Areas) (c : coherent lay
   few : length (widths nodes) ≤ 32
   few = omega (arith, small .few, length-widths nodes)
 
-  four : (goodArea layout (widths nodes) (rowCount (a .head)) (a .rows) && goodArea layout (widths nodes) (gainedCount (a .head)) (a .gained) && goodArea layout (widths nodes) (lostCount (a .head)) (a .lost) && goodStamps (length nodes) (a .head)) ≡ true
-  unfolding goodForm
-  four = and-first (goodArea layout (widths nodes) (rowCount (a .head)) (a .rows) && goodArea layout (widths nodes) (gainedCount (a .head)) (a .gained) && goodArea layout (widths nodes) (lostCount (a .head)) (a .lost) && goodStamps (length nodes) (a .head)) (goodWorked (length nodes) (a .head)) form
+  parts : (goodArea layout (widths nodes) (rowCount (a .head)) (a .rows) ≡ true) × (goodArea layout (widths nodes) (gainedCount (a .head)) (a .gained) ≡ true) × (goodArea layout (widths nodes) (lostCount (a .head)) (a .lost) ≡ true) × (goodStamps (length nodes) (a .head) ≡ true) × (goodWorked (length nodes) (a .head) ≡ true)
+  parts = form-parts nodes a form
 
   worked : goodWorked (length nodes) (a .head) ≡ true
-  unfolding goodForm
-  worked = and-second (goodArea layout (widths nodes) (rowCount (a .head)) (a .rows) && goodArea layout (widths nodes) (gainedCount (a .head)) (a .gained) && goodArea layout (widths nodes) (lostCount (a .head)) (a .lost) && goodStamps (length nodes) (a .head)) (goodWorked (length nodes) (a .head)) form
+  worked = parts .4
 
   stamps : goodStamps (length nodes) (a .head) ≡ true
-  stamps = and-second (goodArea layout (widths nodes) (rowCount (a .head)) (a .rows) && goodArea layout (widths nodes) (gainedCount (a .head)) (a .gained) && goodArea layout (widths nodes) (lostCount (a .head)) (a .lost)) (goodStamps (length nodes) (a .head)) four
-
-  three : (goodArea layout (widths nodes) (rowCount (a .head)) (a .rows) && goodArea layout (widths nodes) (gainedCount (a .head)) (a .gained) && goodArea layout (widths nodes) (lostCount (a .head)) (a .lost)) ≡ true
-  three = and-first (goodArea layout (widths nodes) (rowCount (a .head)) (a .rows) && goodArea layout (widths nodes) (gainedCount (a .head)) (a .gained) && goodArea layout (widths nodes) (lostCount (a .head)) (a .lost)) (goodStamps (length nodes) (a .head)) four
-
-  two : (goodArea layout (widths nodes) (rowCount (a .head)) (a .rows) && goodArea layout (widths nodes) (gainedCount (a .head)) (a .gained)) ≡ true
-  two = and-first (goodArea layout (widths nodes) (rowCount (a .head)) (a .rows) && goodArea layout (widths nodes) (gainedCount (a .head)) (a .gained)) (goodArea layout (widths nodes) (lostCount (a .head)) (a .lost)) three
+  stamps = parts .3
 
   rows-fit : Fitting (widths nodes) (rowsIn layout nodes a)
   unfolding rowsIn
-  rows-fit = area-fits (widths nodes) few (small .narrow) (rowCount (a .head)) (a .rows) (and-first (goodArea layout (widths nodes) (rowCount (a .head)) (a .rows)) (goodArea layout (widths nodes) (gainedCount (a .head)) (a .gained)) two)
+  rows-fit = area-fits (widths nodes) few (small .narrow) (rowCount (a .head)) (a .rows) (parts .0)
 
   gained-fit : Fitting (widths nodes) (relationsIn layout (widths nodes) (gainedCount (a .head)) (a .gained))
-  gained-fit = area-fits (widths nodes) few (small .narrow) (gainedCount (a .head)) (a .gained) (and-second (goodArea layout (widths nodes) (rowCount (a .head)) (a .rows)) (goodArea layout (widths nodes) (gainedCount (a .head)) (a .gained)) two)
+  gained-fit = area-fits (widths nodes) few (small .narrow) (gainedCount (a .head)) (a .gained) (parts .1)
 
   lost-fit : Fitting (widths nodes) (relationsIn layout (widths nodes) (lostCount (a .head)) (a .lost))
-  lost-fit = area-fits (widths nodes) few (small .narrow) (lostCount (a .head)) (a .lost) (and-second (goodArea layout (widths nodes) (rowCount (a .head)) (a .rows) && goodArea layout (widths nodes) (gainedCount (a .head)) (a .gained)) (goodArea layout (widths nodes) (lostCount (a .head)) (a .lost)) three)
+  lost-fit = area-fits (widths nodes) few (small .narrow) (lostCount (a .head)) (a .lost) (parts .2)
 
   same-length : length (relationsIn layout (widths nodes) (gainedCount (a .head)) (a .gained)) ≡ length (relationsIn layout (widths nodes) (lostCount (a .head)) (a .lost))
   same-length = gained-fit .size ∙ sym (lost-fit .size)
@@ -163,15 +89,15 @@ module _ (nodes : List Node) (small : Small nodes) (a : Areas) (c : coherent lay
         rows = rw (← fresh) rows-fit;
         gained = rw (map-gained (relationsIn layout (widths nodes) (gainedCount (a .head)) (a .gained)) (relationsIn layout (widths nodes) (lostCount (a .head)) (a .lost)) same-length) gained-fit;
         lost = rw (map-lost (relationsIn layout (widths nodes) (gainedCount (a .head)) (a .gained)) (relationsIn layout (widths nodes) (lostCount (a .head)) (a .lost)) same-length) lost-fit;
-        stamps-size = numbers-length (stampAt (a .head)) 0 (length nodes);
+        stamps-size = length-counted (stampAt (a .head)) 0 (length nodes);
         stamps-low = λ i. go i (ltb i (length nodes)) refl;
-        worked-few = rw (numbers-length (workedAt (a .head)) 0 (workedCount (a .head))) worked-few-here;
-        worked-low = λ k h. let b : k < workedCount (a .head) = rw (numbers-length (workedAt (a .head)) 0 (workedCount (a .head))) at h in rw (numbers-at (workedAt (a .head)) 0 (workedCount (a .head)) k b, zero-add k) (worked-at k b);
+        worked-few = rw (length-counted (workedAt (a .head)) 0 (workedCount (a .head))) worked-few-here;
+        worked-low = λ k h. let b : k < workedCount (a .head) = rw (length-counted (workedAt (a .head)) 0 (workedCount (a .head))) at h in rw (counted-at 0 (workedAt (a .head)) 0 (workedCount (a .head)) k b, zero-add k) (worked-at k b);
       }
     where
       go : (i : ℕ) (t : Bool) → ltb i (length nodes) ≡ t → getD (map (stampAt (a .head)) (numbersBelow (length nodes))) i 0 ≤ batchNumber (a .head)
-      go i true e = let b : i < length nodes = ltb-true i (length nodes) e in rw (numbers-at (stampAt (a .head)) 0 (length nodes) i b, zero-add i) (stamp-low i b)
-      go i false e = rw (List·getD-eq-default (map (stampAt (a .head)) (numbersBelow (length nodes))) 0 {n = i} (rw (numbers-length (stampAt (a .head)) 0 (length nodes)) (ltb-false i (length nodes) e))) zero-le
+      go i true e = let b : i < length nodes = ltb-true i (length nodes) e in rw (counted-at 0 (stampAt (a .head)) 0 (length nodes) i b, zero-add i) (stamp-low i b)
+      go i false e = rw (List·getD-eq-default (map (stampAt (a .head)) (numbersBelow (length nodes))) 0 {n = i} (rw (length-counted (stampAt (a .head)) 0 (length nodes)) (ltb-false i (length nodes) e))) zero-le
 
 -- "coherent areas are coherent again"
 pub coherent-again : (net : Bytes) → readNetwork net .verdict .number ≡ 0 → (a : Areas) (batch : Bytes) (r : Result) → longEnough layout a ≡ true → coherent layout (readNetwork net .network .nodes) a ≡ true → Applied net batch a r → coherent layout (readNetwork net .network .nodes) (r .areas) ≡ true

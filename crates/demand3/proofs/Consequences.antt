@@ -1,5 +1,6 @@
 -- What the order draws from demand 3, as theorems of their own. Assumes nothing.
-use mathlib.Core.Bool.{_&&_, Bool, cond, false, not, or-true, true, true≢false, _||_}
+-- ---- "a refused batch changes no word"
+use mathlib.Core.Bool.{_&&_, Bool, cond, false, true, true≢false, _||_}
 use mathlib.Core.List.{_++_, List, [], flatMap, zipWith, _∷_}
 use mathlib.Core.Path.{_≡_, ap, ap₂, refl, sym, _∙_}
 use Prim.Native.Nat.{_+_, _<_, suc, zero, ℕ, _≤_, zero-le}
@@ -7,25 +8,20 @@ use native.Mathlib.Omega.{arith}
 use native.Mathlib.Nat.{le-of-suc-le-suc, le-refl, not-suc-le-zero}
 use lib.ListN.{getD, length, take}
 use lib.Seq.{getD-take, length-take-le}
-use Rattle.model.specs.Network.{Node, AllFit, readNetwork, widths, nodeAt, isTable, inputsOf, build, join, project, select, setOperation, table, within, highest, levelOf, levels}
-use Rattle.rows.proofs.Place.{all-below, below-all}
+use Rattle.model.specs.Network.{Node, AllFit, readNetwork, nodeAt, isTable, inputsOf, build, join, project, select, setOperation, table, within, highest, levelOf, levels}
 use Rattle.model.specs.Calls.{Applied, Keeps, Promise, Result, applyPromise, formVerdict, free, freelyAccepted, freelyRefused, promiseOf, resultOf, settled}
 use Rattle.model.specs.Areas.{Areas, coherent, holding, layout, stateIn}
 use Rattle.model.specs.Record.{Bytes, isAccepted}
 use Rattle.model.specs.Delta.{Change, changeAt, netChange, netChanges, noChange}
-use Rattle.model.specs.Row.{Relation, Row, keep, keepIf, member, sameRow}
+use Rattle.model.specs.Row.{Relation, Row, member}
 use Rattle.model.specs.Station.{State, Step, advance, stampOf, step, hasChangedInput, workedList}
 use Rattle.model.proofs.Build.{build-at, length-build, length-evaluate}
 use Rattle.model.specs.Evaluation.{builtOn, evaluate, rowsAt}
 use Rattle.model.proofs.Delta.{change-disjoint}
-use Rattle.demand3.proofs.Steps.{changes-at, changes-length}
-use Rattle.model.specs.Algebra.{differenceRows}
+use Rattle.states.proofs.Changes.{changes-at, changes-length, no-change}
 use Rattle.evaluation.specs.Derived.{evaluateOn, leftOf, rightOf}
 use Rattle.evaluation.proofs.Fresh.{fresh-derived, fresh-table, inputs-before}
-use Rattle.model.proofs.Order.{sameRow-refl}
-use Rattle.demand3.proofs.Worked.{isOn, worked-is}
-
--- ---- "a refused batch changes no word"
+use Rattle.states.proofs.Worked.{isOn, worked-is}
 
 keeps-refused : (p : Promise) (a : Areas) (r : Result) → ((x : Result) → p ≡ settled x → isAccepted (x .verdict) ≡ false → x .areas ≡ a) → Keeps p a r → isAccepted (r .verdict) ≡ false → r .areas ≡ a
 keeps-refused (settled x) a r h k e = ap (λ (y : Result). y .areas) k ∙ h x refl (ap (λ (y : Result). isAccepted (y .verdict)) (sym k) ∙ e)
@@ -62,21 +58,6 @@ refused-keeps net batch a r m e = keeps-refused (applyPromise net batch a) a r g
     go x f g = part (isAccepted (formVerdict net a)) x f g
 
 -- ---- gained and lost rows
-
-difference-self : (l m : Relation) → ((r : Row) → member r l ≡ true → member r m ≡ true) → keep (λ r. not (member r m)) l ≡ []
-difference-self [] m h = refl
-difference-self (x ∷ l) m h = go (member x m) (h x (ap (λ (t : Bool). t || member x l) (sameRow-refl x))) (difference-self l m (λ r e. h r (later r e)))
-  where
-    later : (r : Row) → member r l ≡ true → member r (x ∷ l) ≡ true
-    later r e = ap (λ (t : Bool). sameRow r x || t) e ∙ or-true (sameRow r x)
-
-    go : (t : Bool) → t ≡ true → keep (λ r. not (member r m)) l ≡ [] → keepIf (not t) x (keep (λ r. not (member r m)) l) ≡ []
-    go true e ih = ih
-    go false e ih = absurd (true≢false (sym e))
-
-pub no-change : (r : Relation) → netChange r r ≡ noChange
-unfolding netChange differenceRows
-no-change r = let none : keep (λ x. not (member x r)) r ≡ [] = difference-self r r (λ x e. e) in λ i. record { gained = none i; lost = none i }
 
 -- "gained and lost share no row", and are the differences of the fresh evaluations before and after
 pub change-is : (nodes : List Node) (s : State) (copy : List Relation) (i : ℕ) → i < length nodes → changeAt (advance nodes s copy .changes) i ≡ netChange (rowsAt (evaluate nodes (s .tables)) i) (rowsAt (evaluate nodes copy) i)

@@ -1,30 +1,32 @@
 -- Areas with a state in their named words: they are of good form, coherent, and hold that state. Assumes nothing.
+-- a state as opening and batches leave it
 use mathlib.Core.Bool.{Bool, cond, false, true}
-use mathlib.Core.List.{List, [], map, zipWith, _∷_}
+use mathlib.Core.List.{List, [], map, zipWith, _∷_, _++_}
 use mathlib.Core.Path.{ap, ap₂, refl, sym, _∙_, _≡_}
-use Prim.Native.Nat.{_+_, _-_, _<_, suc, suc-le-suc, zero, zero-le, ℕ, _≤_}
+use Prim.Native.Nat.{_+_, _-_, _<_, suc, suc-le-suc, zero-le, ℕ, _≤_}
 use native.Mathlib.Nat.{add-zero, zero-add}
 use native.Mathlib.Omega.{arith}
-use lib.ListN.{List·getD-append, drop, getD, length, length-append, replicate}
+use lib.ListN.{List·getD-append, drop, getD, length, length-append, replicate, length-map}
 use lib.Dec.{eqb, leb, ltb}
-use lib.Seq.{ext-getD}
+use lib.Seq.{ext-getD, drop-at}
 use borrow.Author.Tests.{le-leb, lt-ltb, ltb-false, ltb-true}
 use Rattle.model.specs.Network.{Node, AllFit, widths, isTable, nodeAt}
-use Rattle.rows.proofs.Place.{all-below, below-all}
-use Rattle.model.specs.Areas.{Areas, batchNumber, changesIn, gainedCount, goodArea, goodForm, goodStamps, goodWorked, headOf, holding, layout, longEnough, lostCount, padded, rowCount, rowsIn, stampAt, tablesOf, workedAt, workedCount, HoldsState, coherent, sameRelations, stateIn}
+use Rattle.rows.proofs.Place.{below-all}
+use Rattle.model.specs.Areas.{Areas, batchNumber, changesIn, gainedCount, goodArea, goodForm, goodStamps, goodWorked, headOf, holding, layout, longEnough, lostCount, padded, rowCount, rowsIn, stampAt, tablesOf, workedAt, workedCount, HoldsState, coherent, sameRelations, stateIn, over, areaOf}
 use Rattle.model.specs.Delta.{Change}
-use Rattle.demand3.proofs.Written.{Fitting, written-back, written-good, written-long}
+use Rattle.states.proofs.Written.{Fitting, written-back, written-good, written-long, area-length}
 use Rattle.model.specs.Row.{Relation, allOf, countFrom, numbersBelow}
 use Rattle.model.specs.Station.{State}
 use Rattle.model.proofs.Sets.{and-both}
 use Rattle.model.specs.Evaluation.{evaluate, rowsAt}
 use Rattle.areas.proofs.Good.{form-last, long-last}
-use Rattle.demand3.proofs.Head.{head-length, padded-length, padded-zero, word-b, word-first, word-p, word-q, word-r, word-s, word-t}
+use Rattle.states.proofs.Head.{head-length, padded-length, padded-zero, word-b, word-first, word-p, word-q, word-r, word-s, word-t, head-size}
 use Rattle.model.proofs.Fits.{length-widths}
 use Rattle.evaluation.proofs.Fresh.{fresh-table, same-refl, tables-at}
 use Rattle.model.proofs.Build.{length-evaluate}
+use Rattle.states.proofs.Fitted.{only-length}
+use Rattle.states.proofs.Changes.{map-twice, lengths-at}
 
--- a state as opening and batches leave it
 pub record Proper (nodes : List Node) (s : State) : Type 0 where
   pub tables-size : length (s .tables) ≡ length nodes
   pub tables-only : tablesOf nodes (s .tables) ≡ s .tables
@@ -37,19 +39,6 @@ pub record Proper (nodes : List Node) (s : State) : Type 0 where
   pub worked-low : (k : ℕ) → k < length (s .worked) → getD (s .worked) k 0 < length nodes
 
 -- ---- lists
-
-length-lengths : (rels : List Relation) → length (map length rels) ≡ length rels
-length-lengths [] = refl
-length-lengths (r ∷ rels) = ap suc (length-lengths rels)
-
-lengths-at : (rels : List Relation) (i : ℕ) → getD (map length rels) i 0 ≡ length (getD rels i [])
-lengths-at [] i = refl
-lengths-at (r ∷ rels) zero = refl
-lengths-at (r ∷ rels) (suc i) = lengths-at rels i
-
-map-twice : (g : Change → Relation) (cs : List Change) → map (λ c. length (g c)) cs ≡ map length (map g cs)
-map-twice g [] = refl
-map-twice g (c ∷ cs) = ap (λ (l : List ℕ). length (g c) ∷ l) (map-twice g cs)
 
 pub zip-changes : (cs : List Change) → zipWith (λ g l. record { gained = g; lost = l }) (map (λ c. c .gained) cs) (map (λ c. c .lost) cs) ≡ cs
 unfolding zipWith
@@ -104,10 +93,10 @@ module _ (nodes : List Node) (s : State) (p : Proper nodes s) (before : Areas) w
   c5 = padded 32 (s .worked)
 
   counted : (g : Change → Relation) → length (map g (s .changes)) ≡ length (widths nodes) → length (map (λ c. length (g c)) (s .changes)) ≡ length nodes
-  counted g e = ap length (map-twice g (s .changes)) ∙ length-lengths (map g (s .changes)) ∙ e ∙ ws-size
+  counted g e = ap length (map-twice g (s .changes)) ∙ length-map (map g (s .changes)) length ∙ e ∙ ws-size
 
   n1 : length (map length (evaluate nodes (s .tables))) ≡ length nodes
-  n1 = length-lengths (evaluate nodes (s .tables)) ∙ p .rows .size ∙ ws-size
+  n1 = length-map (evaluate nodes (s .tables)) length ∙ p .rows .size ∙ ws-size
 
   n3 : length (map (λ c. length (c .gained)) (s .changes)) ≡ length nodes
   n3 = counted (λ c. c .gained) (p .gained .size)
@@ -253,18 +242,12 @@ module _ (nodes : List Node) (s : State) (p : Proper nodes s) (before : Areas) w
 
   -- ---- the tables
 
-  zip-length : (ns : List Node) (rs : List Relation) → length rs ≡ length ns → length (tablesOf ns rs) ≡ length ns
-  unfolding tablesOf zipWith
-  zip-length [] rs e = refl
-  zip-length (n ∷ ns) [] e = absurd (omega arith)
-  zip-length (n ∷ ns) (r ∷ rs) e = ap suc (zip-length ns rs (omega arith))
-
   -- evaluation leaves the tables as they are
   fresh-tables : AllFit nodes → tablesOf nodes (evaluate nodes (s .tables)) ≡ s .tables
   fresh-tables fit =
       let long : length (evaluate nodes (s .tables)) ≡ length nodes = length-evaluate nodes (s .tables) in
-      let size : length (tablesOf nodes (evaluate nodes (s .tables))) ≡ length nodes = zip-length nodes (evaluate nodes (s .tables)) long in
-      ext-getD [] (tablesOf nodes (evaluate nodes (s .tables))) (tablesOf nodes (s .tables)) (size ∙ sym (zip-length nodes (s .tables) (p .tables-size)))
+      let size : length (tablesOf nodes (evaluate nodes (s .tables))) ≡ length nodes = only-length nodes (evaluate nodes (s .tables)) long in
+      ext-getD [] (tablesOf nodes (evaluate nodes (s .tables))) (tablesOf nodes (s .tables)) (size ∙ sym (only-length nodes (s .tables) (p .tables-size)))
       (λ i b.
       let k : i < length nodes = rw size at b in
       tables-at nodes (evaluate nodes (s .tables)) i long k ∙ go i k (isTable (nodeAt nodes i)) refl ∙ sym (tables-at nodes (s .tables) i (p .tables-size) k))
@@ -299,3 +282,28 @@ module _ (nodes : List Node) (s : State) (p : Proper nodes s) (before : Areas) w
         changes = ap (λ (x : State). x .changes) same;
         worked = ap (λ (x : State). x .worked) same;
       }
+
+-- ---- one state written over another
+
+over-over : (first second before : List ℕ) (n : ℕ) → length first ≡ n → length second ≡ n → over second (over first before) ≡ over second before
+over-over first second before n e f =
+    ap (λ (l : List ℕ). second ++ l) (drop-at first (drop (length first) before) (length second) (e ∙ sym f) ∙ ap (λ (k : ℕ). drop k before) (e ∙ sym f))
+
+module _ (nodes : List Node) (s : State) (p : Proper nodes s) where
+  head-words : length (headOf (evaluate nodes (s .tables)) s) ≡ 162
+  head-words =
+      let few : length nodes ≤ 32 = omega (arith, p .rows .few, length-widths nodes) in
+      let changes : length (s .changes) ≡ length nodes = sym (length-map (s .changes) (λ c. c .gained)) ∙ p .gained .size ∙ length-widths nodes in
+      head-size (evaluate nodes (s .tables)) s (omega (arith, p .rows .size, p .rows .few)) (omega (arith, p .stamps-size, few)) (omega (arith, changes, few)) (omega (arith, p .worked-few, few))
+
+-- a state written over another leaves nothing of it
+pub holding-again : (nodes : List Node) (s t : State) → Proper nodes s → Proper nodes t → (before : Areas) → holding layout nodes t (holding layout nodes s before) ≡ holding layout nodes t before
+unfolding holding
+holding-again nodes s t p q before =
+    λ i.
+    record {
+      rows = over-over (areaOf layout (evaluate nodes (s .tables))) (areaOf layout (evaluate nodes (t .tables))) (before .rows) 8192 (area-length (widths nodes) (evaluate nodes (s .tables)) (p .rows)) (area-length (widths nodes) (evaluate nodes (t .tables)) (q .rows)) i;
+      gained = over-over (areaOf layout (map (λ c. c .gained) (s .changes))) (areaOf layout (map (λ c. c .gained) (t .changes))) (before .gained) 8192 (area-length (widths nodes) (map (λ c. c .gained) (s .changes)) (p .gained)) (area-length (widths nodes) (map (λ c. c .gained) (t .changes)) (q .gained)) i;
+      lost = over-over (areaOf layout (map (λ c. c .lost) (s .changes))) (areaOf layout (map (λ c. c .lost) (t .changes))) (before .lost) 8192 (area-length (widths nodes) (map (λ c. c .lost) (s .changes)) (p .lost)) (area-length (widths nodes) (map (λ c. c .lost) (t .changes)) (q .lost)) i;
+      head = over-over (headOf (evaluate nodes (s .tables)) s) (headOf (evaluate nodes (t .tables)) t) (before .head) 162 (head-words nodes s p) (head-words nodes t q) i;
+    }

@@ -10,7 +10,7 @@ use lib.ListN.{getD, length, length-replicate, replicate, replicate-append-repli
 use Rattle.model.specs.Network.{Node, AllFit, widths, nodeAt, isTable, Operand, SetOperation, column, constant, difference, intersection, join, project, select, setOperation, table, union}
 use Rattle.model.specs.Areas.{Areas, areaOf, cleared, headOf, holding, layout, over, padded, placeOf, tablesOf}
 use Rattle.model.specs.Delta.{Change, noChange}
-use Rattle.demand3.proofs.Written.{Fitting, place-none}
+use Rattle.states.proofs.Written.{Fitting, place-none}
 use Rattle.demand3.proofs.Holds.{Proper}
 use Rattle.model.specs.Row.{Relation}
 use Rattle.model.proofs.Fits.{Small, length-widths}
@@ -20,10 +20,7 @@ use Rattle.evaluation.specs.Derived.{evaluateOn, leftOf, rightOf}
 use Rattle.evaluation.proofs.Fresh.{fresh-derived, fresh-table, inputs-before}
 use Rattle.model.proofs.Build.{length-evaluate}
 use Rattle.model.specs.Station.{opened}
-use Rattle.demand3.proofs.Worked.{worked-few, worked-low}
-
-none : ℕ → List Relation
-none n = replicate n []
+use Rattle.states.proofs.Worked.{worked-few, worked-low}
 
 none-at : (n i : ℕ) → getD (replicate {A = Relation} n []) i [] ≡ []
 none-at zero i = refl

@@ -1,120 +1,29 @@
 -- A batch of the plain station keeps its state proper; a refusal keeps it as it is. Assumes nothing.
-use mathlib.Core.Bool.{Bool, cond, false, not, true, true≢false}
-use mathlib.Core.List.{List, [], map, zipWith, _∷_}
+use mathlib.Core.Bool.{Bool, cond, false, true, true≢false}
+use mathlib.Core.List.{List, [], _∷_}
 use mathlib.Core.Path.{ap, refl, sym, _∙_, _≡_}
-use Prim.Native.Nat.{_+_, _<_, suc, zero, zero-le, ℕ, _≤_}
+use Prim.Native.Nat.{_+_, _<_, ℕ, _≤_}
 use native.Mathlib.Omega.{arith}
-use native.Mathlib.Nat.{le-of-suc-le-suc, le-refl, le-trans, not-suc-le-zero}
 use lib.Dec.{eqb}
 use lib.ListN.{getD, length}
 use Rattle.model.specs.Network.{Node, AllFit, widths, nodeAt, isTable}
 use Rattle.model.proofs.Sets.{Ascending, ascending-holds, ascending-true}
 use Rattle.model.specs.Record.{Bytes, isAccepted, refused}
-use Rattle.model.specs.Delta.{Change, changeAt, isChanged, netChange, netChanges}
-use Rattle.demand3.proofs.Written.{Fitting}
+use Rattle.model.specs.Delta.{netChanges}
+use Rattle.states.proofs.Written.{Fitting}
 use Rattle.demand3.proofs.Holds.{Proper}
-use Rattle.model.specs.Row.{Relation, Row, keep, keepIf, member}
-use Rattle.model.specs.Station.{State, Step, advance, applyEvents, lastNumber, limit, refusedStep, stampOf, step}
-use Rattle.demand3.proofs.Tables.{Tables, actAll-tables, fresh-asc, fresh-wide, none-over}
-use Rattle.rows.proofs.Words.{Wide, wide-keep}
+use Rattle.model.specs.Row.{Relation}
+use Rattle.model.specs.Station.{State, Step, advance, applyEvents, lastNumber, limit, refusedStep, step}
+use Rattle.states.proofs.Tables.{Tables, actAll-tables, fresh-asc, fresh-wide, none-over}
+use Rattle.rows.proofs.Words.{Wide}
 use Rattle.model.specs.Batch.{actAll, readBatch}
-use Rattle.model.proofs.Algebra.{asc-difference}
-use Rattle.demand3.proofs.Batches.{batch-good, batch-high}
-use Rattle.model.specs.Algebra.{differenceRows}
+use Rattle.states.proofs.Batches.{batch-good, batch-high}
 use Rattle.model.specs.Evaluation.{evaluate, overfull, rowsAt}
 use Rattle.evaluation.proofs.Fresh.{fresh-table, tables-at}
 use Rattle.model.proofs.Build.{length-evaluate}
 use Rattle.model.proofs.Fits.{length-widths}
-use Rattle.demand3.proofs.Worked.{worked-few, worked-low}
-
-keep-short : (p : Row → Bool) (l : List Row) → length (keep p l) ≤ length l
-keep-short p [] = zero-le
-keep-short p (r ∷ l) = go (p r) (keep-short p l)
-  where
-    go : (t : Bool) → length (keep p l) ≤ length l → length (keepIf t r (keep p l)) ≤ suc (length l)
-    go true ih = omega arith
-    go false ih = omega arith
-
--- ---- net changes
-
-pub changes-length : (old new : List Relation) → length old ≡ length new → length (netChanges old new) ≡ length old
-unfolding netChanges zipWith
-changes-length [] new e = refl
-changes-length (x ∷ old) [] e = absurd (omega arith)
-changes-length (x ∷ old) (y ∷ new) e = ap suc (changes-length old new (omega arith))
-
-pub changes-at : (old new : List Relation) (i : ℕ) → length old ≡ length new → i < length old → changeAt (netChanges old new) i ≡ netChange (getD old i []) (getD new i [])
-unfolding netChanges zipWith
-changes-at [] new i e h = absurd (not-suc-le-zero h)
-changes-at (x ∷ old) [] i e h = absurd (omega arith)
-changes-at (x ∷ old) (y ∷ new) zero e h = refl
-changes-at (x ∷ old) (y ∷ new) (suc i) e h = changes-at old new i (omega arith) (le-of-suc-le-suc h)
-
-map-length : (g : Change → Relation) (cs : List Change) → length (map g cs) ≡ length cs
-map-length g [] = refl
-map-length g (c ∷ cs) = ap suc (map-length g cs)
-
-map-at : (g : Change → Relation) (cs : List Change) (i : ℕ) → i < length cs → getD (map g cs) i [] ≡ g (changeAt cs i)
-map-at g [] i h = absurd (not-suc-le-zero h)
-map-at g (c ∷ cs) zero h = refl
-map-at g (c ∷ cs) (suc i) h = map-at g cs i (le-of-suc-le-suc h)
-
--- rows of one relation that are not in another
-less-wide : (w : ℕ) (a b : Relation) → Wide w a → Wide w (differenceRows a b)
-unfolding differenceRows
-less-wide w a b h = wide-keep w (λ r. not (member r b)) a h
-
-less-short : (a b : Relation) → length (differenceRows a b) ≤ length a
-unfolding differenceRows
-less-short a b = keep-short (λ r. not (member r b)) a
-
-module _ (ws : List ℕ) (old new : List Relation) (fo : Fitting ws old) (fn : Fitting ws new) where
-  same-size : length old ≡ length new
-  same-size = fo .size ∙ sym (fn .size)
-
-  changes-size : length (netChanges old new) ≡ length ws
-  changes-size = changes-length old new same-size ∙ fo .size
-
-  -- a part of each change that fits
-  part-fits : (g : Change → Relation) → ((i : ℕ) → i < length ws → Wide (getD ws i 0) (g (netChange (getD old i []) (getD new i []))) × (length (g (netChange (getD old i []) (getD new i []))) ≤ 64) × Ascending (g (netChange (getD old i []) (getD new i [])))) → Fitting ws (map g (netChanges old new))
-  part-fits g f =
-      let at : (i : ℕ) → i < length ws → getD (map g (netChanges old new)) i [] ≡ g (netChange (getD old i []) (getD new i [])) = λ i h. map-at g (netChanges old new) i (rw changes-size h) ∙ ap g (changes-at old new i same-size (rw (fo .size) h)) in
-      record {
-        size = map-length g (netChanges old new) ∙ changes-size;
-        few = fo .few;
-        narrow = fo .narrow;
-        wide = λ i h. rw (at i h) (f i h .0);
-        small = λ i h. rw (at i h) (f i h .1);
-        asc = λ i h. rw (at i h) (ascending-true (g (netChange (getD old i []) (getD new i []))) (f i h .2));
-      }
-
-  gained-fits : Fitting ws (map (λ c. c .gained) (netChanges old new))
-  unfolding netChange
-  gained-fits = part-fits (λ c. c .gained) (λ i h. (less-wide (getD ws i 0) (getD new i []) (getD old i []) (fn .wide i h), le-trans (less-short (getD new i []) (getD old i [])) (fn .small i h), asc-difference (getD new i []) (getD old i []) (ascending-holds (getD new i []) (fn .asc i h))))
-
-  lost-fits : Fitting ws (map (λ c. c .lost) (netChanges old new))
-  unfolding netChange
-  lost-fits = part-fits (λ c. c .lost) (λ i h. (less-wide (getD ws i 0) (getD old i []) (getD new i []) (fo .wide i h), le-trans (less-short (getD old i []) (getD new i [])) (fo .small i h), asc-difference (getD old i []) (getD new i []) (ascending-holds (getD old i []) (fo .asc i h))))
-
--- ---- stamps
-
-stamps-length : (k : ℕ) (cs : List Change) (stamps : List ℕ) → length cs ≡ length stamps → length (zipWith (stampOf k) cs stamps) ≡ length stamps
-unfolding zipWith
-stamps-length k [] [] e = refl
-stamps-length k [] (x ∷ stamps) e = absurd (omega arith)
-stamps-length k (c ∷ cs) [] e = absurd (omega arith)
-stamps-length k (c ∷ cs) (x ∷ stamps) e = ap suc (stamps-length k cs stamps (omega arith))
-
-stamps-below : (k : ℕ) (cs : List Change) (stamps : List ℕ) → ((i : ℕ) → getD stamps i 0 ≤ k) → (i : ℕ) → getD (zipWith (stampOf k) cs stamps) i 0 ≤ k
-unfolding zipWith
-stamps-below k [] stamps h i = zero-le
-stamps-below k (c ∷ cs) [] h i = zero-le
-stamps-below k (c ∷ cs) (x ∷ stamps) h zero = go (isChanged c)
-  where
-    go : (t : Bool) → cond t k x ≤ k
-    go true = le-refl k
-    go false = h 0
-stamps-below k (c ∷ cs) (x ∷ stamps) h (suc i) = stamps-below k cs stamps (λ j. h (suc j)) i
+use Rattle.states.proofs.Worked.{worked-few, worked-low}
+use Rattle.states.proofs.Changes.{changes-size, gained-fits, lost-fits, stamps-length, stamps-below}
 
 module _ (nodes : List Node) (fit : AllFit nodes) where
   -- the tables of a proper state

@@ -8,7 +8,7 @@ use Rattle.model.specs.Row.{allOf}
 use Rattle.model.specs.Record.{Bytes}
 use Rattle.model.specs.Network.{Node}
 use Rattle.model.specs.Station.{opened, verdicts, stateAfter}
-use Rattle.model.specs.Areas.{Areas, layout, coherent, HoldsState}
+use Rattle.model.specs.Areas.{Areas, layout, coherent, holding, HoldsState}
 use Rattle.model.specs.Calls.{Result, Applied}
 
 -- each batch's call meets its contract on the areas that the one before left; one result for each batch
@@ -31,5 +31,6 @@ neverEight results = allOf (λ r. not (eqb (r .verdict .number) 8)) results
 pub record Demand3 (nodes : List Node) (a : Areas) (batches : List Bytes) (results : List Result) : Type 0 where
   pub verdicts-are : map (λ r. r .verdict) results ≡ verdicts nodes (opened nodes) batches
   pub never-eight : neverEight results ≡ true
+  pub words-are : endOf a results ≡ holding layout nodes (stateAfter nodes (opened nodes) batches) a
   pub holds : HoldsState layout nodes (endOf a results) (stateAfter nodes (opened nodes) batches)
   pub coherent-still : coherent layout nodes (endOf a results) ≡ true

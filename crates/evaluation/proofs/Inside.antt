@@ -4,7 +4,7 @@ use mathlib.Core.List.{List, [], flatMap, _∷_, _++_, map}
 use mathlib.Core.Path.{refl, _≡_}
 use Prim.Native.Nat.{_+_, _<_, zero-le, ℕ, _≤_}
 use native.Mathlib.Omega.{arith}
-use lib.ListN.{length, take, getD}
+use lib.ListN.{length, take, getD, length-map}
 use lib.Dec.{ltb, eqb}
 use borrow.Author.Tests.{eqb-true, lt-ltb, ltb-true}
 use Rattle.nodes.specs.declared.Operand.{Operand}
@@ -21,7 +21,6 @@ use Rattle.model.specs.Row.{Relation, Row, keep, member}
 use Rattle.model.specs.Evaluation.{evaluateNode, rowsAt, evaluateSelect, evaluateSet}
 use Rattle.model.specs.Areas.{placeOf}
 use Rattle.rows.proofs.Words.{Wide, wide-keep}
-use Rattle.algebra.proofs.Joins.{length-map}
 use Rattle.rows.proofs.Place.{wide-append}
 use Rattle.rows.proofs.Padding.{wide-setOf}
 use Rattle.model.specs.Network as model
@@ -136,7 +135,7 @@ wide-map f v (r ∷ l) h = (h r, wide-map f v l h)
 
 wide-one : (pairs : List Pair) (columns : List ℕ) (right : Relation) (l : Row) → Wide (length columns) (joinOne pairs columns right l)
 unfolding joinOne
-wide-one pairs columns right l = wide-map (λ r. columnsOf columns (l ++ r)) (length columns) (keep (agree pairs l) right) (λ r. length-map (λ c. getD (l ++ r) c 0) columns)
+wide-one pairs columns right l = wide-map (λ r. columnsOf columns (l ++ r)) (length columns) (keep (agree pairs l) right) (λ r. length-map columns (λ c. getD (l ++ r) c 0))
 
 wide-select : (v c k : ℕ) (o : model.Operand) (l : Relation) → Wide v l → Wide v (evaluateSelect c k o l)
 unfolding evaluateSelect selectConstant selectColumns
@@ -154,6 +153,6 @@ pub on-wide : (v w : ℕ) (n : model.Node) (l r : Relation) → isTable n ≡ fa
 unfolding evaluateOn projectRows joinRows
 on-wide v w (model.table x) l r e f h g = absurd (true≢false e)
 on-wide v w (model.select i c k o) l r e f h g = wide-select v c k o l h
-on-wide v w (model.project i columns) l r e f h g = wide-setOf 4 (length columns) (map (columnsOf columns) l) (wide-map (columnsOf columns) (length columns) l (λ s. length-map (λ c. getD s c 0) columns))
+on-wide v w (model.project i columns) l r e f h g = wide-setOf 4 (length columns) (map (columnsOf columns) l) (wide-map (columnsOf columns) (length columns) l (λ s. length-map columns (λ c. getD s c 0)))
 on-wide v w (model.join i j pairs columns) l r e f h g = wide-setOf 4 (length columns) (flatMap (joinOne pairs columns r) l) (wide-each (length columns) (joinOne pairs columns r) l v h (λ s k. wide-one pairs columns r s))
 on-wide v w (model.setOperation o i j) l r e f h g = let same : v ≡ w = set-inside v w i j o f in wide-operation v o l r h (rw same g)

@@ -5,3 +5,4 @@ pub mod Build
 pub mod Delta
 pub mod Fits
 pub mod Parts
+pub mod Events

@@ -1,11 +1,12 @@
 -- Parts written one after the other. Assumes nothing.
-use mathlib.Core.List.{_++_, List, [], append-assoc, append-nil, flatMap, _∷_}
+use mathlib.Core.List.{_++_, List, append-assoc, append-nil, flatMap, _∷_, map, []}
 use mathlib.Core.Path.{ap, ap₂, refl, sym, _∙_, _≡_}
-use Prim.Native.Nat.{_+_, suc, ℕ, _≤_}
-use native.Mathlib.Nat.{add-zero, zero-add}
+use Prim.Native.Nat.{_+_, suc, ℕ, _≤_, zero, _<_}
+use native.Mathlib.Nat.{add-zero, zero-add, not-suc-le-zero, le-of-suc-le-suc}
 use native.Mathlib.Omega.{arith}
-use lib.ListN.{drop, length, set}
+use lib.ListN.{drop, length, set, getD}
 use lib.Seq.{sets, sets-eq}
+use Rattle.model.specs.Row.{countFrom}
 
 pub sets-append : (l : List ℕ) (i : ℕ) (a b : List ℕ) → sets (sets l i a) (i + length a) b ≡ sets l i (a ++ b)
 sets-append l i [] b = ap (λ (k : ℕ). sets l k b) (add-zero i)
@@ -30,3 +31,15 @@ module _ {A : Type 0} (f : A → List ℕ) where
   pub flat-one : (x : A) → flatMap f (x ∷ []) ≡ f x
   unfolding flatMap
   flat-one x = append-nil (f x)
+
+-- ---- a function of counted numbers
+
+module _ {A : Type 0} where
+  pub length-counted : (f : ℕ → A) (from n : ℕ) → length (map f (countFrom from n)) ≡ n
+  length-counted f from zero = refl
+  length-counted f from (suc n) = ap suc (length-counted f (suc from) n)
+
+  pub counted-at : (d : A) (f : ℕ → A) (from n j : ℕ) → j < n → getD (map f (countFrom from n)) j d ≡ f (from + j)
+  counted-at d f from zero j h = absurd (not-suc-le-zero h)
+  counted-at d f from (suc n) zero h = ap f (sym (add-zero from))
+  counted-at d f from (suc n) (suc j) h = let e : suc from + j ≡ from + suc j = omega arith in counted-at d f (suc from) n j (le-of-suc-le-suc h) ∙ ap f e

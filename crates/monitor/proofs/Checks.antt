@@ -1,72 +1,54 @@
 -- The coherence check after refusals 1 to 8, and what good form says of the places. Assumes nothing.
-use mathlib.Core.Bool.{_&&_, Bool, false, true}
+use mathlib.Core.Bool.{_&&_, Bool, false, true, cond}
 use mathlib.Core.List.{List}
-use mathlib.Core.Path.{ap, ap₂, sym, _∙_, _≡_}
-use Prim.Native.Nat.{_+_, _<_, ℕ, _≤_}
+use mathlib.Core.Path.{ap, ap₂, sym, _∙_, _≡_, subst}
+use Prim.Native.Nat.{ℕ, _≤_}
 use native.Mathlib.Omega.{arith}
-use native.Mathlib.Nat.{zero-add}
-use lib.ListN.{getD, length, take}
-use lib.Dec.{leb}
-use borrow.Author.Tests.{eq-eqb, leb-true, lt-ltb, ne-eqb}
+use lib.ListN.{getD, length}
+use borrow.Author.Tests.{eq-eqb, ne-eqb}
 use Rattle.network.specs.declared.Network.{Network}
 use Rattle.network.specs.declared.Reading.{Reading}
-use Rattle.rows.proofs.Place.{all-below}
-use Rattle.model.specs.Network.{AllFit, readNetwork}
-use Rattle.model.specs.Areas.{Areas, coherent, gainedCount, goodArea, goodForm, goodPlace, goodStamps, goodWorked, heldIn, layout, lostCount, rowsIn, unusedZero}
+use Rattle.model.specs.Network.{AllFit, readNetwork, widths}
+use Rattle.model.specs.Areas.{Areas, coherent, gainedCount, goodArea, goodForm, goodStamps, goodWorked, layout, lostCount, rowsIn, stateIn, rowCount}
 use Rattle.network.specs.Reading.{Built, networkOf, nodesOf, verdictOf}
-use Rattle.model.specs.Record.{Bytes, isAccepted}
+use Rattle.model.specs.Record.{Bytes, isAccepted, Verdict}
 use Rattle.monitor.specs.Promises.{Changes, Forms}
 use Rattle.coherence.specs.Held.{Checkable, Places, freshIn}
-use Rattle.model.specs.Row.{allOf, ascending, numbersBelow}
-use Rattle.model.proofs.Sets.{and-first, and-second}
-use Rattle.areas.proofs.Good.{area-is, form-is, long-parts, nodeGood}
-use Rattle.model.specs.Calls.{checkCall, formVerdict}
-use Rattle.areas.specs.Lent.{countsFrom, lent}
-use Rattle.model.proofs.Fits.{read-fits}
+use Rattle.areas.proofs.Good.{long-parts}
+use Rattle.model.specs.Calls.{checkCall, formVerdict, Applied, applyPromise, Keeps, promiseOf, settled, Result}
+use Rattle.areas.specs.Lent.{lent}
+use Rattle.model.proofs.Fits.{read-fits, length-widths}
+use Rattle.transition.proofs.Out.{head-long}
+use Rattle.model.specs.Station.{step}
+use Rattle.batch.specs.Applying.{Applicable, AppliedTo}
+use Rattle.states.proofs.Fitted.{form-parts, place-good, few-at}
+use Rattle.coherence.proofs.Coherent.{nodes-count, narrow-widths, width-is}
 use Rattle.model.specs.Network as model
 
 -- ---- the parts of good form
 
 module _ (net : Network) (b : Built net) (rows gained lost head : List ℕ) (good : goodForm layout (nodesOf net) (lent rows gained lost head) ≡ true) where
-  ws-long : net .count ≤ length (net .widths)
-  ws-long = omega (arith, b .widths-length, b .sound .few)
+  parts : (goodArea layout (widths (nodesOf net)) (rowCount head) rows ≡ true) × (goodArea layout (widths (nodesOf net)) (gainedCount head) gained ≡ true) × (goodArea layout (widths (nodesOf net)) (lostCount head) lost ≡ true) × (goodStamps (length (nodesOf net)) head ≡ true) × (goodWorked (length (nodesOf net)) head ≡ true)
+  parts = form-parts (nodesOf net) (lent rows gained lost head) good
 
-  parts : (goodArea layout (take (net .count) (net .widths)) (countsFrom head 1) rows ≡ true) × (goodArea layout (take (net .count) (net .widths)) (countsFrom head 65) gained ≡ true) × (goodArea layout (take (net .count) (net .widths)) (countsFrom head 97) lost ≡ true)
-  parts =
-      let r : Bool = goodArea layout (take (net .count) (net .widths)) (countsFrom head 1) rows in
-      let g : Bool = goodArea layout (take (net .count) (net .widths)) (countsFrom head 65) gained in
-      let l : Bool = goodArea layout (take (net .count) (net .widths)) (countsFrom head 97) lost in
-      let s : Bool = goodStamps (net .count) head in
-      let k : Bool = goodWorked (net .count) head in
-      let all : (goodArea layout (take (net .count) (net .widths)) (countsFrom head 1) rows && goodArea layout (take (net .count) (net .widths)) (countsFrom head 65) gained && goodArea layout (take (net .count) (net .widths)) (countsFrom head 97) lost && goodStamps (net .count) head && goodWorked (net .count) head) ≡ true =
-      sym (form-is (net .count) (net .widths) rows gained lost head (nodesOf net) ws-long (b .sound .widths)) ∙ good in
-      let four = and-first (r && g && l && s) k all in
-      let rgl = and-first (r && g && l) s four in
-      let rg = and-first (r && g) l rgl in
-      (and-first r g rg, and-second r g rg, and-second (r && g) l rgl)
+  size : length (widths (nodesOf net)) ≡ net .count
+  size = length-widths (nodesOf net) ∙ nodes-count net b
 
-  -- node i's place in an area of good form
-  place-good : (first : ℕ) (area : List ℕ) → goodArea layout (take (net .count) (net .widths)) (countsFrom head first) area ≡ true → (i : ℕ) → i < net .count → goodPlace layout (getD (net .widths) i 0) (countsFrom head first i) area i ≡ true
-  place-good first area e i h =
-      let all : allOf (nodeGood (net .widths) (net .count) (countsFrom head first) area) (numbersBelow 32) ≡ true = sym (area-is (net .widths) (net .count) (countsFrom head first) area ws-long) ∙ e in
-      let here : nodeGood (net .widths) (net .count) (countsFrom head first) area (0 + i) ≡ true = all-below (nodeGood (net .widths) (net .count) (countsFrom head first) area) 0 32 all i (omega (arith, b .sound .few)) in
-      let at : nodeGood (net .widths) (net .count) (countsFrom head first) area i ≡ true = ap (nodeGood (net .widths) (net .count) (countsFrom head first) area) (sym (zero-add i)) ∙ here in
-      rw (lt-ltb i (net .count) h) at at
+  few : length (widths (nodesOf net)) ≤ 32
+  few = rw size (b .sound .few)
 
-  count-few : (w count : ℕ) (area : List ℕ) (i : ℕ) → goodPlace layout w count area i ≡ true → count ≤ 64
-  unfolding goodPlace
-  count-few w count area i e =
-      leb-true count 64 (and-first (leb count 64) (ascending (heldIn layout w count area i)) (and-first (leb count 64 && ascending (heldIn layout w count area i)) (unusedZero layout w count area i) e))
+  narrow : (i : ℕ) → getD (widths (nodesOf net)) i 0 ≤ 4
+  narrow = narrow-widths net b
 
   pub rows-places : (8192 ≤ length rows) → (162 ≤ length head) → Places (net .widths) (net .count) rows head
   rows-places lr lh =
       record {
         few = b .sound .few;
-        widths-long = ws-long;
+        widths-long = omega (arith, b .widths-length, b .sound .few);
         narrow = b .narrow;
         rows-long = lr;
         head-long = lh;
-        good = place-good 1 rows (parts .0);
+        good = λ i h. rw (← width-is net b i h) (place-good (widths (nodesOf net)) few narrow (rowCount head) rows (parts .0) i (rw size h));
       }
 
   pub changes-good : (8192 ≤ length gained) → (8192 ≤ length lost) → (162 ≤ length head) → Changes net gained lost head
@@ -75,8 +57,8 @@ module _ (net : Network) (b : Built net) (rows gained lost head : List ℕ) (goo
         gained-long = lg;
         lost-long = ll;
         head-long = lh;
-        gained-few = λ i h. count-few (getD (net .widths) i 0) (gainedCount head i) gained i (place-good 65 gained (parts .1) i h);
-        lost-few = λ i h. count-few (getD (net .widths) i 0) (lostCount head i) lost i (place-good 97 lost (parts .2) i h);
+        gained-few = λ i h. few-at (widths (nodesOf net)) few narrow (gainedCount head) gained (parts .1) i (rw size h);
+        lost-few = λ i h. few-at (widths (nodesOf net)) few narrow (lostCount head) lost (parts .2) i (rw size h);
       }
 
 -- ---- after 1 to 8
@@ -92,6 +74,14 @@ module _ (net : Bytes) (rows gained lost head : List ℕ) (r : Reading) (f : For
       let no : isAccepted (formVerdict net a) ≡ false = ap isAccepted (sym v) ∙ ne-eqb (r .verdict .number) 0 n in
       λ i. record { verdict = v i; yes? = sym (ap (λ (t : Bool). t && coherent layout (readNetwork net .network .nodes) a) no) i }
 
+  pub apply-refused : (bs : Bytes) → (r .verdict .number ≡ 0 → ⊥) → Applied net bs (lent rows gained lost head) (record { verdict = verdictOf (r .verdict); areas = lent rows gained lost head })
+  unfolding applyPromise
+  apply-refused bs n =
+      let v : verdictOf (r .verdict) ≡ formVerdict net a = f .verdict in
+      let no : isAccepted (formVerdict net a) ≡ false = ap isAccepted (sym v) ∙ ne-eqb (r .verdict .number) 0 n in
+      subst (λ (t : Bool). Keeps (cond t (promiseOf (readNetwork net .network .nodes) a (step (readNetwork net .network .nodes) (stateIn layout (readNetwork net .network .nodes) a) bs)) (settled (record { verdict = formVerdict net a; areas = a }))) a (record { verdict = verdictOf (r .verdict); areas = a })) (sym no)
+      (ap (λ (y : Verdict). record { verdict = y; areas = a }) v)
+
   module _ (z : r .verdict .number ≡ 0) where
     same-network : networkOf (r .network) ≡ readNetwork net .network
     same-network = f .network z
@@ -105,11 +95,21 @@ module _ (net : Bytes) (rows gained lost head : List ℕ) (r : Reading) (f : For
     pub checkable : Checkable (r .network) rows head
     checkable = record { built = f .built; fit = fits; places = rows-places (r .network) (f .built) rows gained lost head (f .good z) (long .0) (long .3) }
 
-    pub reportable : Changes (r .network) gained lost head
-    reportable = changes-good (r .network) (f .built) rows gained lost head (f .good z) (long .1) (long .2) (long .3)
-
     pub form-accepted : isAccepted (formVerdict net (lent rows gained lost head)) ≡ true
     form-accepted = ap isAccepted (sym (f .verdict)) ∙ eq-eqb (r .verdict .number) 0 z
+
+    pub applicable : Applicable (r .network) (lent rows gained lost head)
+    applicable = record { checkable = checkable; long = f .long z; form = f .good z }
+
+    pub applied : (bs : Bytes) (x : Result) → AppliedTo (r .network) bs (lent rows gained lost head) x → Applied net bs (lent rows gained lost head) x
+    unfolding applyPromise
+    applied bs x k =
+        let same : nodesOf (r .network) ≡ readNetwork net .network .nodes = ap (λ (y : model.Network). y .nodes) same-network in
+        subst (λ (t : Bool). Keeps (cond t (promiseOf (readNetwork net .network .nodes) a (step (readNetwork net .network .nodes) (stateIn layout (readNetwork net .network .nodes) a) bs)) (settled (record { verdict = formVerdict net a; areas = a }))) a x) (sym form-accepted)
+        (subst (λ (l : List model.Node). Keeps (promiseOf l a (step l (stateIn layout l a) bs)) a x) same k)
+
+    pub reportable : Changes (r .network) gained lost head
+    reportable = changes-good (r .network) (f .built) rows gained lost head (f .good z) (long .1) (long .2) (long .3)
 
     pub check-answered : (answer : Bool) → answer ≡ freshIn (r .network) rows head → record { verdict = verdictOf (r .verdict); yes? = answer } ≡ checkCall net (lent rows gained lost head)
     unfolding checkCall coherent rowsIn

@@ -4,7 +4,7 @@ use mathlib.Core.List.{List, [], zipWith, _∷_}
 use mathlib.Core.Path.{ap, ap₂, refl, sym, _∙_, _≡_}
 use Prim.Native.Nat.{_*_, _+_, _<_, suc, zero, ℕ, _≤_}
 use native.Mathlib.Omega.{arith}
-use native.Mathlib.Nat.{le-of-suc-le-suc, not-suc-le-zero, zero-add}
+use native.Mathlib.Nat.{le-of-suc-le-suc, not-suc-le-zero}
 use lib.ListN.{List·getD-eq-default, getD, length, take}
 use lib.Dec.{eqb, leb, ltb}
 use lib.Seq.{length-take-le}
@@ -18,7 +18,7 @@ use Rattle.monitor.specs.Promises.{Forms, changeIn, reportIn}
 use Rattle.model.specs.Row.{Relation}
 use Rattle.model.specs.Calls.{allowsGained, allowsLost, formVerdict, isWatched, reportBytes, reportCall, reportOf, reportVerdict, writtenTo, ReportAnswer, orElse, unless}
 use Rattle.monitor.proofs.Checks.{form-accepted}
-use Rattle.coherence.proofs.Coherent.{getD-held, length-counted, nodes-count, width-is}
+use Rattle.coherence.proofs.Coherent.{nodes-count, width-is, relation-at, relations-length}
 use Rattle.model.proofs.Fits.{length-widths}
 use Rattle.areas.specs.Lent.{lent}
 use Rattle.reports.proofs.Bytes.{report-length}
@@ -53,22 +53,17 @@ module _ (net : Network) (b : Built net) (node : ℕ) (gained lost head : List �
       go true f = ltb-true node (net .count) f
       go false f = absurd (n (e ∙ List·getD-eq-default (take (net .count) (net .signs)) 0 (rw size (ltb-false node (net .count) f))))
 
-  relation-at : (count : ℕ → ℕ) (area : List ℕ) → node < net .count → getD (relationsIn layout (widths (nodesOf net)) count area) node [] ≡ heldIn layout (getD (net .widths) node 0) (count node) area node
-  unfolding relationsIn
-  relation-at count area h =
-      getD-held (λ j. heldIn layout (getD (widths (nodesOf net)) j 0) (count j) area j) 0 (length (widths (nodesOf net))) node (rw (length-widths (nodesOf net), nodes-count net b) h)
-      ∙ ap (λ (j : ℕ). heldIn layout (getD (widths (nodesOf net)) j 0) (count j) area j) (zero-add node)
-      ∙ ap (λ (w : ℕ). heldIn layout w (count node) area node) (width-is net b node h)
+  in-widths : node < net .count → node < length (widths (nodesOf net))
+  in-widths h = rw (length-widths (nodesOf net), nodes-count net b) h
 
-  relations-length : (count : ℕ → ℕ) (area : List ℕ) → length (relationsIn layout (widths (nodesOf net)) count area) ≡ net .count
-  unfolding relationsIn
-  relations-length count area = length-counted (λ j. heldIn layout (getD (widths (nodesOf net)) j 0) (count j) area j) 0 (length (widths (nodesOf net))) ∙ length-widths (nodesOf net) ∙ nodes-count net b
+  held-is : (count : ℕ → ℕ) (area : List ℕ) → node < net .count → getD (relationsIn layout (widths (nodesOf net)) count area) node [] ≡ heldIn layout (getD (net .widths) node 0) (count node) area node
+  held-is count area h = relation-at (widths (nodesOf net)) count area node (in-widths h) ∙ ap (λ (w : ℕ). heldIn layout w (count node) area node) (width-is net b node h)
 
   change-at : node < net .count → changeAt (changesIn layout (nodesOf net) (lent [] gained lost head)) node ≡ changeIn net node gained lost head
   unfolding changesIn
   change-at h =
-      zip-at (relationsIn layout (widths (nodesOf net)) (gainedCount head) gained) (relationsIn layout (widths (nodesOf net)) (lostCount head) lost) node (rw (relations-length (gainedCount head) gained) h) (rw (relations-length (lostCount head) lost) h)
-      ∙ ap₂ {A = Relation} {B = Relation} {C = Change} (λ g l. record { gained = g; lost = l }) (relation-at (gainedCount head) gained h) (relation-at (lostCount head) lost h)
+      zip-at (relationsIn layout (widths (nodesOf net)) (gainedCount head) gained) (relationsIn layout (widths (nodesOf net)) (lostCount head) lost) node (rw (relations-length (widths (nodesOf net)) (gainedCount head) gained) (in-widths h)) (rw (relations-length (widths (nodesOf net)) (lostCount head) lost) (in-widths h))
+      ∙ ap₂ {A = Relation} {B = Relation} {C = Change} (λ g l. record { gained = g; lost = l }) (held-is (gainedCount head) gained h) (held-is (lostCount head) lost h)
 
   -- the report's bytes
   report-is : (sign : ℕ) → sign ≡ getD (take (net .count) (net .signs)) node 0 → node < net .count → reportOf (networkOf net) node (lent [] gained lost head) ≡ reportBytes sign node (changeIn net node gained lost head)

@@ -9,9 +9,8 @@ use Rattle.model.specs.Record.{Bytes, isAccepted}
 use Rattle.network.specs.declared.Network.{Network}
 use Rattle.model.specs.Network.{readNetwork}
 use Rattle.model.specs.Areas.{Areas, layout, longEnough, goodForm, gainedCount, heldIn, lostCount}
-use Rattle.model.specs.Calls.{Result, CheckAnswer, ReportAnswer, formVerdict, isWatched, orElse, reportOf, unless, writtenTo}
+use Rattle.model.specs.Calls.{CheckAnswer, ReportAnswer, formVerdict, isWatched, orElse, reportOf, unless, writtenTo}
 use Rattle.network.specs.Reading.{verdictOf, networkOf, nodesOf, Built}
-use Rattle.network.specs.declared.Verdict.{Verdict}
 use Rattle.model.specs.Delta.{Change}
 use Rattle.network.specs.declared.Reading.{Reading}
 use Rattle.model.specs.Row.{place}
@@ -19,10 +18,6 @@ use Rattle.model.specs.Network as model
 use Rattle.model.specs.Record as modelRecord
 use Rattle.monitor.specs.declared.CheckAnswer as answer
 use Rattle.monitor.specs.declared.ReportAnswer as report
-
--- a verdict, with the areas that a call leaves
-abbrev pub resultWith : Verdict → Areas → Result
-resultWith v a = record { verdict = verdictOf v; areas = a }
 
 -- the coherence check's answer
 abbrev pub checkAnswerOf : answer.CheckAnswer → CheckAnswer

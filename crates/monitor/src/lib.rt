@@ -1,4 +1,4 @@
-// The calls of the condition monitor: open, check, report.
+// The calls of the condition monitor: open, apply, check, report.
 ghost use mathlib.Core.Path.{_≡_};
 ghost use mathlib.Core.Bool.{Bool, true, false};
 ghost use mathlib.Core.List.{[]};
@@ -6,10 +6,11 @@ ghost use Prim.Native.Nat.{ℕ, _+_, _≤_, _<_};
 ghost use lib.ListN.{length, getD, take};
 ghost use Rattle.model.specs.Network.{readNetwork};
 ghost use Rattle.model.specs.Areas.{layout, longEnough, cleared};
-ghost use Rattle.model.specs.Calls.{openCall, checkCall, reportCall};
+ghost use Rattle.model.specs.Calls.{openCall, Applied, checkCall, reportCall};
 ghost use Rattle.network.specs.Reading.{Built, networkOf};
 ghost use Rattle.areas.specs.Lent.{lent};
-ghost use Rattle.monitor.specs.Promises.{resultWith, checkAnswerOf, reportAnswerOf, reportIn, Forms, Changes};
+ghost use Rattle.batch.specs.Applying.{resultWith};
+ghost use Rattle.monitor.specs.Promises.{checkAnswerOf, reportAnswerOf, reportIn, Forms, Changes};
 use areas::AREA;
 use areas::GAINED;
 use areas::HEAD;
@@ -75,6 +76,28 @@ fn read_areas(net: &[u8], rows: &[u32], gained: &[u32], lost: &[u32], head: &[u3
         return network::refused_reading(8, 0);
     }
     reading
+}
+
+// ---- batches
+
+// Applies a batch: refusals 1 to 14, or the next state.
+pub fn apply(
+    net: &[u8],
+    batch: &[u8],
+    rows: &mut [u32],
+    gained: &mut [u32],
+    lost: &mut [u32],
+    head: &mut [u32],
+) -> Verdict
+    ensures { λ r. ⌜ Applied (now (net .entry)) (now (batch .entry)) (lent (now (rows .entry)) (now (gained .entry)) (now (lost .entry)) (now (head .entry))) (resultWith r (lent (now (rows .exit)) (now (gained .exit)) (now (lost .exit)) (now (head .exit)))) ⌝ }
+{
+    let reading = read_areas(net, rows, gained, lost, head);
+    let verdict = reading.verdict;
+    if verdict.number != 0 {
+        return verdict;
+    }
+    let network = reading.network;
+    batch::apply_batch(network, batch, rows, gained, lost, head)
 }
 
 // ---- the coherence check

@@ -1,13 +1,13 @@
 -- Numbers stored one after the other, with zeros behind them. Assumes nothing.
+-- a list that ends in zeros is its first numbers, padded
 use mathlib.Core.Path.{_≡_, refl, sym, ap, _∙_}
-use mathlib.Core.List.{List, [], _∷_, _++_, map, append-assoc}
-use Prim.Native.Nat.{ℕ, zero, suc, _+_, _-_, _≤_, _<_}
+use mathlib.Core.List.{List, [], _∷_, _++_, map}
+use Prim.Native.Nat.{ℕ, suc, _+_, _-_, _≤_, _<_}
 use native.Mathlib.Omega.{arith}
 use native.Mathlib.Numerals.{add-one}
-use lib.ListN.{length, getD, set, take, drop, replicate, length-append, take-append-drop, length-drop, length-replicate}
-use lib.Seq.{set-at, take-suc, length-take-le, ext-getD, getD-drop}
+use lib.ListN.{length, getD, set, take, drop, replicate, take-append-drop, length-drop, length-replicate, length-map}
+use lib.Seq.{take-suc, length-take-le, ext-getD, getD-drop}
 use Rattle.model.specs.Areas.{padded}
-use Rattle.model.specs.Network as model
 use Rattle.model.specs.Network.{kindOf}
 use Rattle.model.specs.Record.{Bytes}
 use Rattle.model.specs.Calls.{ReadAnswer, readCall}
@@ -17,8 +17,8 @@ use Rattle.network.specs.declared.Network.{Network}
 use Rattle.network.specs.declared.Reading.{Reading}
 use Rattle.network.specs.declared.Slot.{Slot}
 use Rattle.network.proofs.Building.{zero-at}
+use Rattle.model.specs.Network as model
 
--- a list that ends in zeros is its first numbers, padded
 pub ends-padded : (n count : ℕ) (l : List ℕ) → length l ≡ n → count ≤ n → Ends count l → l ≡ padded n (take count l)
 ends-padded n count l e h z =
     let rest : drop count l ≡ replicate (n - count) 0 =
@@ -47,10 +47,6 @@ kinds-more slots i x kinds h g e f =
 
 -- ---- the reader's answer
 
-length-slots : (l : List Slot) → length (map slotNode l) ≡ length l
-length-slots [] = refl
-length-slots (x ∷ l) = ap suc (length-slots l)
-
 -- what the model's reading answers
 answer : model.Reading → ReadAnswer
 answer r =
@@ -68,7 +64,7 @@ unfolding readCall answer
 answered bs r kinds h k =
     let b : Built (r .network) = h .built in
     let net : Network = r .network in
-    let count : net .count ≡ length (nodesOf net) = sym (length-slots (take (net .count) (net .slots)) ∙ length-take-le (net .count) (net .slots) (omega (arith, h .built .sound .few, h .built .slots-length))) in
+    let count : net .count ≡ length (nodesOf net) = sym (length-map (take (net .count) (net .slots)) slotNode ∙ length-take-le (net .count) (net .slots) (omega (arith, h .built .sound .few, h .built .slots-length))) in
     let ws : net .widths ≡ padded 32 (model.widths (nodesOf net)) = ends-padded 32 (net .count) (net .widths) (b .widths-length) (b .sound .few) (b .widths-end) ∙ ap (padded 32) (b .sound .widths) in
     let ls : net .levels ≡ padded 32 (model.levels (nodesOf net)) = ends-padded 32 (net .count) (net .levels) (b .levels-length) (b .sound .few) (b .levels-end) ∙ ap (padded 32) (b .sound .levels) in
     let same : answerOf (record { number = r .verdict .number; place = r .verdict .place; count = r .network .count; kinds = kinds; widths = r .network .widths; levels = r .network .levels }) ≡ answer (readingOf r) =

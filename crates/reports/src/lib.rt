@@ -126,7 +126,7 @@ fn allowed_size(allowed: bool, n: usize, w: usize) -> usize
     0
 }
 
-// The records of the rows in a node's place, where they are allowed: where the bytes after them begin.
+// The records of the rows in a node's place from an offset on, where they are allowed.
 fn put_allowed(
     allowed: bool,
     out: &mut [u8],

@@ -69,7 +69,7 @@ placed-rows w rel h a f =
     ∙ ap (firstRows (words (map (padded 4) rel) ++ replicate (256 - length (words (map (padded 4) rel))) 0)) (sym (length-map-padded 4 rel))
     ∙ rows-words 4 (map (padded 4) rel) (replicate (256 - length (words (map (padded 4) rel))) 0) (wide-padded w 4 rel h a)
 
-rest-zero : (w : ℕ) (rel : Relation) → w ≤ 4 → Wide w rel → length rel ≤ 64 → drop (length rel * 4) (placeOf layout rel) ≡ replicate (256 - length rel * 4) 0
+pub rest-zero : (w : ℕ) (rel : Relation) → w ≤ 4 → Wide w rel → length rel ≤ 64 → drop (length rel * 4) (placeOf layout rel) ≡ replicate (256 - length rel * 4) 0
 rest-zero w rel h a f =
     let size : length (words (map (padded 4) rel)) ≡ length rel * 4 = length-words 4 (map (padded 4) rel) (wide-padded w 4 rel h a) ∙ ap (λ (k : ℕ). k * 4) (length-map-padded 4 rel) in
     ap (drop (length rel * 4)) (place-split rel)

@@ -20,6 +20,7 @@ use Rattle.tables.specs.Fold.{Stands, actOn, Events, Foldable, Table, fo
 use Rattle.model.proofs.Sets.{Ascending, asc-delete, asc-insert, ascending-holds, ascending-true}
 use Rattle.records.proofs.Header.{Whole, whole}
 use Rattle.records.proofs.Offsets.{remaining, remaining-all, remaining-broken, remaining-none, remaining-whole}
+use Rattle.model.proofs.Events.{length-row-in}
 
 row-more : (bs : Bytes) (at k : ℕ) → rowIn bs at (k + 1) ≡ rowIn bs at k ++ (u32 bs (at + 4 * k) ∷ [])
 row-more bs at zero = ap (λ (n : ℕ). u32 bs n ∷ []) (let e : at ≡ at + 4 * 0 = omega arith in e)
@@ -27,10 +28,6 @@ row-more bs at (suc k) =
     let e : suc k + 1 ≡ suc (k + 1) = omega arith in
     let f : at + 4 + 4 * k ≡ at + 4 * suc k = omega arith in
     rw e (ap (λ (l : List ℕ). u32 bs at ∷ l) (row-more bs (at + 4) k ∙ ap (λ (n : ℕ). rowIn bs (at + 4) k ++ (u32 bs n ∷ [])) f))
-
-pub length-row-in : (bs : Bytes) (at w : ℕ) → length (rowIn bs at w) ≡ w
-length-row-in bs at zero = refl
-length-row-in bs at (suc w) = ap suc (length-row-in bs (at + 4) w)
 
 -- one field more of an event's row
 pub row-filled : (bs : Bytes) (at k : ℕ) (row : List ℕ) (x : ℕ) → k < 4 → row ≡ padded 4 (rowIn bs at k) → x ≡ u32 bs (at + 4 * k) → set row k x ≡ padded 4 (rowIn bs at (k + 1))

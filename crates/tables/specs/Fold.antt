@@ -5,7 +5,7 @@ use mathlib.Core.List.{List, [], _∷_}
 use Prim.Native.Nat.{ℕ, _+_, _*_, _≤_}
 use lib.Dec.{eqb}
 use lib.ListN.{length}
-use Rattle.model.specs.Row.{Row, ascending, insertRow, deleteRow}
+use Rattle.model.specs.Row.{Row, Relation, ascending, insertRow, deleteRow}
 use Rattle.model.specs.Record.{Bytes, kindAt, fieldAt, isBroken, offsets}
 use Rattle.model.specs.Batch.{rowIn}
 use Rattle.model.specs.Areas.{padded}
@@ -20,14 +20,25 @@ pub record Table (words : List ℕ) (n : ℕ) : Type 0 where
   pub stands : Stands (firstRows words n) words n
   pub asc : ascending (firstRows words n) ≡ true
 
--- the event at an offset on some rows, its own row of a width
-abbrev pub actOn : Bytes → ℕ → ℕ → List Row → List Row
-actOn bs at w rows = cond (eqb (kindAt bs at) 32) (insertRow (padded 4 (rowIn bs (at + 6) w)) rows) (deleteRow (padded 4 (rowIn bs (at + 6) w)) rows)
+-- the event at an offset on some rows, its own row of a width, in the form of those rows
+abbrev pub actIn : (Row → Row) → Bytes → ℕ → ℕ → List Row → List Row
+actIn form bs at w rows = cond (eqb (kindAt bs at) 32) (insertRow (form (rowIn bs (at + 6) w)) rows) (deleteRow (form (rowIn bs (at + 6) w)) rows)
 
 -- the events at some offsets, those on one table, in order
+abbrev pub foldIn : (Row → Row) → Bytes → ℕ → ℕ → List ℕ → List Row → List Row
+foldIn form bs t w [] rows = rows
+foldIn form bs t w (at ∷ ats) rows = foldIn form bs t w ats (cond (eqb (fieldAt bs at 0) t) (actIn form bs at w rows) rows)
+
+-- on rows in words, each with zeros up to the stride
+abbrev pub actOn : Bytes → ℕ → ℕ → List Row → List Row
+actOn bs at w rows = actIn (padded 4) bs at w rows
+
 abbrev pub foldAt : Bytes → ℕ → ℕ → List ℕ → List Row → List Row
-foldAt bs t w [] rows = rows
-foldAt bs t w (at ∷ ats) rows = foldAt bs t w ats (cond (eqb (fieldAt bs at 0) t) (actOn bs at w rows) rows)
+foldAt bs t w ats rows = foldIn (padded 4) bs t w ats rows
+
+-- on a relation
+abbrev pub foldRows : Bytes → ℕ → ℕ → List ℕ → Relation → Relation
+foldRows bs t w ats rel = foldIn (λ r. r) bs t w ats rel
 
 -- records that can be folded: whole, and with a row of the width where they are on the table
 abbrev pub Events : Bytes → ℕ → ℕ → List ℕ → Type 0

@@ -1,10 +1,9 @@
-use mathlib.Core.Path.{refl}
-use Prim.Native.Nat.{_+_}
-use native.Mathlib.Omega.{arith}
 use borrow.Author.Needs.{needs}
-use borrow.Author.Tests.{le-ltb, lt-ltb}
+use native.Mathlib.Omega.{arith}
+use Prim.Native.Nat.{_+_}
+use borrow.Author.Tests.{lt-ltb, le-ltb}
+use mathlib.Core.Path.{refl}
 use Rattle.areas.proofs.good_entry.Statement.{statement}
-use Rattle.model.specs.Areas.{workedCount}
 use Rattle.areas.proofs.good_entry.Tie as tie
 use Rattle.areas.proofs.good_entry.Reads as reads
 use Rattle.areas.proofs.good_entry.Lts as lts
@@ -21,20 +20,14 @@ mul-entry c = search needs
 shared-slice-read-entry : tie.Need-shared-slice-read-entry
 shared-slice-read-entry c = search needs
 
-shared-slice-read-if1 : tie.Need-shared-slice-read-if1
-shared-slice-read-if1 c = search needs
-
-cast-if1 : tie.Need-cast-if1
-cast-if1 c = let a = c .before .before .args in omega (arith, c .shared-slice-known2 .given 129)
-
 cast-result : tie.Need-cast-result
-cast-result c = let a = c .before .before .before .args in omega (arith, c .before .before .shared-slice-known .given (130 + a .k))
+cast-result c = let a = c .before .before .args in omega (arith, c .before .shared-slice-known .given (130 + a .k))
 
 returns : tie.Need-returns
-returns c = let a = c .before .before .before .args in rw (lt-ltb (a .k) (workedCount (a .head .now)) (c .if1 .taken)) refl
+returns c = let a = c .before .before .args in rw (lt-ltb (a .k) (a .counted) (c .if1 .taken)) refl
 
 returns-2 : tie.Need-returns-2
-returns-2 c = let a = c .before .before .before .args in rw (le-ltb (a .k) (workedCount (a .head .now)) (omega (arith, c .if1 .left))) refl
+returns-2 c = let a = c .before .before .args in rw (le-ltb (a .k) (a .counted) (omega (arith, c .if1 .left))) refl
 
 pub good-entry-spec : {M : Type 1} → statement M
 good-entry-spec =
@@ -44,8 +37,6 @@ good-entry-spec =
     add-entry-2
     mul-entry
     shared-slice-read-entry
-    shared-slice-read-if1
-    cast-if1
     cast-result
     returns
     returns-2)

@@ -6,7 +6,8 @@ use borrow.Author.Needs.{needs}
 use borrow.Author.Tests.{not-false, not-true}
 use Rattle.areas.proofs.good_place.Statement.{statement}
 use Rattle.model.specs.Areas.{allZero}
-use Rattle.areas.proofs.Good.{part-is, place-form, placeAt, too-many}
+use Rattle.areas.proofs.Good.{part-is, place-form, too-many}
+use Rattle.areas.specs.Lent.{placeAt}
 use Rattle.areas.proofs.good_place.Tie as tie
 use Rattle.areas.proofs.good_place.Reads as reads
 use Rattle.areas.proofs.good_place.Lts as lts

@@ -1,33 +1,36 @@
-use mathlib.Core.Bool.{cond}
-use mathlib.Core.Path.{sym, _∙_}
-use Prim.Native.Nat.{_-_, _≤_}
-use native.Mathlib.Omega.{arith}
+use Prim.Native.Nat.{_≤_, _-_}
 use lib.Dec.{leb, ltb}
-use borrow.Author.Tests.{not-false, not-true}
+use mathlib.Core.Bool.{cond}
+use native.Mathlib.Omega.{arith}
 use borrow.Author.Needs.{needs}
+use mathlib.Core.Path.{sym, _∙_}
+use borrow.Author.Tests.{not-true, not-false}
 use Rattle.areas.proofs.good_stamps.Statement.{statement}
-use Rattle.areas.proofs.All.{AllTo, all-done, all-more, all-none, all-not}
-use Rattle.model.specs.Areas.{batchNumber, goodStamps, stampAt}
+use Rattle.areas.proofs.All.{AllTo, all-none, all-not, all-more, all-done}
+use Rattle.model.specs.Areas.{stampAt, batchNumber, goodStamps}
 use Rattle.areas.proofs.good_stamps.Tie as tie
 use Rattle.areas.proofs.good_stamps.Reads as reads
 use Rattle.areas.proofs.good_stamps.Lts as lts
 use Rattle.areas.proofs.good_stamp.Reads as good-stamp-reads
 
 abbrev Inv-loop : tie.InvT-loop
-Inv-loop head n i₀ i = (i ≤ 32) × AllTo (λ j. leb (stampAt head j) (cond (ltb j n) (batchNumber head) 0)) 32 i
+Inv-loop head n number node₀ node = (node ≤ 32) × AllTo (λ j. leb (stampAt head j) (cond (ltb j n) (batchNumber head) 0)) 32 node
 
 abbrev μ-loop : tie.MeasureT-loop
-μ-loop head n i₀ i = 32 - i
+μ-loop head n number node₀ node = 32 - node
+
+shared-slice-read-number : tie.Need-shared-slice-read-number Inv-loop μ-loop
+shared-slice-read-number c = omega arith
 
 loop-holds : tie.Need-loop-holds Inv-loop μ-loop
-loop-holds c = let a = c .before .args in (omega arith, all-none (λ i. leb (stampAt (a .head .now) i) (cond (ltb i (a .n)) (batchNumber (a .head .now)) 0)) 32)
+loop-holds c = let a = c .before .before .args in (omega arith, all-none (λ i. leb (stampAt (a .head .now) i) (cond (ltb i (a .n)) (batchNumber (a .head .now)) 0)) 32)
 
 good-stamp-requires : tie.Need-good-stamp-requires Inv-loop μ-loop
 good-stamp-requires c κs = search needs
 
 returns : tie.Need-returns Inv-loop μ-loop
 unfolding goodStamps
-returns c = let a = c .before .before .before .before .before .args in sym (all-not (λ i. leb (stampAt (a .head .now) i) (cond (ltb i (a .n)) (batchNumber (a .head .now)) 0)) 32 (c .before .before .before .loop .node) (omega arith) (sym (c .before .good-stamp .ensures) ∙ not-true (c .before .good-stamp .result) (c .if1 .taken)))
+returns c = let a = c .before .before .before .before .before .before .args in sym (all-not (λ i. leb (stampAt (a .head .now) i) (cond (ltb i (a .n)) (batchNumber (a .head .now)) 0)) 32 (c .before .before .before .loop .node) (omega arith) (sym (c .before .good-stamp .ensures) ∙ not-true (c .before .good-stamp .result) (c .if1 .taken)))
 
 add-node : tie.Need-add-node Inv-loop μ-loop
 add-node c = omega arith
@@ -36,11 +39,11 @@ loop-less : tie.Need-loop-less Inv-loop μ-loop
 loop-less c = omega arith
 
 loop-again : tie.Need-loop-again Inv-loop μ-loop
-loop-again c = let a = c .before .before .before .before .before .args in (omega arith, all-more (λ i. leb (stampAt (a .head .now) i) (cond (ltb i (a .n)) (batchNumber (a .head .now)) 0)) 32 (c .before .before .before .loop .node) (c .before .before .before .loop .inv .1) (sym (c .before .good-stamp .ensures) ∙ not-false (c .before .good-stamp .result) (c .if1 .left)))
+loop-again c = let a = c .before .before .before .before .before .before .args in (omega arith, all-more (λ i. leb (stampAt (a .head .now) i) (cond (ltb i (a .n)) (batchNumber (a .head .now)) 0)) 32 (c .before .before .before .loop .node) (c .before .before .before .loop .inv .1) (sym (c .before .good-stamp .ensures) ∙ not-false (c .before .good-stamp .result) (c .if1 .left)))
 
 returns-2 : tie.Need-returns-2 Inv-loop μ-loop
 unfolding goodStamps
-returns-2 c = let a = c .before .before .before .args in sym (all-done (λ i. leb (stampAt (a .head .now) i) (cond (ltb i (a .n)) (batchNumber (a .head .now)) 0)) 32 (c .before .loop .node) (omega arith) (c .before .loop .inv .1))
+returns-2 c = let a = c .before .before .before .before .args in sym (all-done (λ i. leb (stampAt (a .head .now) i) (cond (ltb i (a .n)) (batchNumber (a .head .now)) 0)) 32 (c .before .loop .node) (omega arith) (c .before .loop .inv .1))
 
 pub good-stamps-spec : {M : Type 1} → statement M
 good-stamps-spec =
@@ -48,6 +51,7 @@ good-stamps-spec =
     (tie.spec
     Inv-loop
     μ-loop
+    shared-slice-read-number
     loop-holds
     good-stamp-requires
     returns

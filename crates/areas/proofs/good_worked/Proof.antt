@@ -1,29 +1,29 @@
+use Prim.Native.Nat.{_≤_, _-_}
 use mathlib.Core.Bool.{cond}
-use mathlib.Core.Path.{refl, sym, _∙_}
-use Prim.Native.Nat.{_-_, _≤_}
+use lib.Dec.{ltb, eqb}
 use native.Mathlib.Omega.{arith}
-use lib.Dec.{eqb, ltb}
-use borrow.Author.Tests.{le-leb, lt-leb, not-false, not-true}
+use borrow.Author.Tests.{lt-leb, le-leb, not-true, not-false}
+use mathlib.Core.Path.{refl, sym, _∙_}
 use borrow.Author.Needs.{needs}
 use Rattle.areas.proofs.good_worked.Statement.{statement}
-use Rattle.areas.proofs.All.{AllTo, all-done, all-more, all-none, all-not}
-use Rattle.model.specs.Areas.{goodWorked, workedAt, workedCount}
+use Rattle.areas.proofs.All.{AllTo, all-none, all-not, all-more, all-done}
+use Rattle.model.specs.Areas.{workedCount, workedAt, goodWorked}
 use Rattle.areas.proofs.good_worked.Tie as tie
 use Rattle.areas.proofs.good_worked.Reads as reads
 use Rattle.areas.proofs.good_worked.Lts as lts
 use Rattle.areas.proofs.good_entry.Reads as good-entry-reads
 
 abbrev Inv-loop : tie.InvT-loop
-Inv-loop head n k₀ k = (k ≤ 32) × AllTo (λ j. cond (ltb j (workedCount head)) (ltb (workedAt head j) n) (eqb (workedAt head j) 0)) 32 k
+Inv-loop head n counted k₀ k = (k ≤ 32) × AllTo (λ j. cond (ltb j (workedCount head)) (ltb (workedAt head j) n) (eqb (workedAt head j) 0)) 32 k
 
 abbrev μ-loop : tie.MeasureT-loop
-μ-loop head n k₀ k = 32 - k
+μ-loop head n counted k₀ k = 32 - k
 
-shared-slice-read-if1 : tie.Need-shared-slice-read-if1 Inv-loop μ-loop
-shared-slice-read-if1 c = omega arith
+shared-slice-read-counted : tie.Need-shared-slice-read-counted Inv-loop μ-loop
+shared-slice-read-counted c = omega arith
 
-cast-if1 : tie.Need-cast-if1 Inv-loop μ-loop
-cast-if1 c = let a = c .before .before .args in omega (arith, c .shared-slice-known2 .given 129)
+cast-counted : tie.Need-cast-counted Inv-loop μ-loop
+cast-counted c = omega (arith, c .before .shared-slice-known .given 129)
 
 returns : tie.Need-returns Inv-loop μ-loop
 unfolding goodWorked
@@ -58,8 +58,8 @@ good-worked-spec =
     (tie.spec
     Inv-loop
     μ-loop
-    shared-slice-read-if1
-    cast-if1
+    shared-slice-read-counted
+    cast-counted
     returns
     loop-holds
     good-entry-requires

@@ -8,9 +8,9 @@ use Rattle.calls.proofs.main.Statement.{statement}
 use Rattle.calls.proofs.main.Tie as tie
 use Rattle.calls.proofs.main.Reads as reads
 use Rattle.calls.proofs.main.Lts as lts
-use Rattle.calls.proofs.operation_at.Reads as operation-at-reads
-use Rattle.calls.proofs.spread.Reads as spread-reads
-use Rattle.calls.proofs.store.Reads as store-reads
+use Rattle.script.proofs.operation_at.Reads as operation-at-reads
+use Rattle.script.proofs.spread.Reads as spread-reads
+use Rattle.script.proofs.store.Reads as store-reads
 use Rattle.io.proofs.large_buffer.Reads as large-buffer-reads
 use Rattle.io.proofs.read_full.Reads as read-full-reads
 use Rattle.io.proofs.write_all.Reads as write-all-reads

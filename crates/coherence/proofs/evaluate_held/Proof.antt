@@ -6,7 +6,7 @@ use native.Mathlib.Omega.{arith}
 use lib.ListN.{getD}
 use borrow.Author.Needs.{needs}
 use Rattle.evaluation.specs.declared.Held.{Held}
-use Rattle.areas.proofs.Good.{placeAt}
+use Rattle.areas.specs.Lent.{placeAt}
 use Rattle.coherence.proofs.evaluate_held.Statement.{statement}
 use Rattle.coherence.specs.Held.{Derived, Places, heldAt}
 use Rattle.algebra.specs.Places.{Place, relationIn}

@@ -4,7 +4,7 @@ use native.Mathlib.Omega.{arith}
 use lib.ListN.{length}
 use borrow.Author.Needs.{needs}
 use Rattle.tables.proofs.act.Statement.{statement}
-use Rattle.tables.proofs.Folds.{act-put, act-remove, event-row-at, length-row-in, some-row}
+use Rattle.tables.proofs.Folds.{act-put, act-remove, event-row-at, some-row}
 use Rattle.model.proofs.Sets.{ascending-holds, insert-once}
 use Rattle.rows.specs.Rows.{firstRows}
 use Rattle.rows.proofs.Stand.{leave-in, put-full, put-new, put-present, take-out}
@@ -12,6 +12,7 @@ use Rattle.rows.proofs.Place.{length-padded}
 use Rattle.model.specs.Areas.{padded}
 use Rattle.model.specs.Batch.{rowIn}
 use Rattle.rows.proofs.Words.{wide-rows}
+use Rattle.model.proofs.Events.{length-row-in}
 use Rattle.tables.proofs.act.Tie as tie
 use Rattle.tables.proofs.act.Reads as reads
 use Rattle.tables.proofs.act.Lts as lts

@@ -1,0 +1,59 @@
+use borrow.Author.Needs.{needs}
+use native.Mathlib.Omega.{arith}
+use borrow.Author.Tests.{ne-eqb, eq-eqb}
+use mathlib.Core.Path.{ap, sym, _∙_}
+use Rattle.batch.proofs.apply_batch.Statement.{statement}
+use Rattle.areas.proofs.Good.{long-parts}
+use Rattle.batch.proofs.Promised.{last-refused, read-refused}
+use Rattle.network.specs.Reading.{verdictOf}
+use Rattle.model.specs.Record.{isAccepted}
+use Rattle.batch.proofs.apply_batch.Tie as tie
+use Rattle.batch.proofs.apply_batch.Reads as reads
+use Rattle.batch.proofs.apply_batch.Lts as lts
+use Rattle.batch.proofs.advance.Reads as advance-reads
+use Rattle.events.proofs.read_batch.Reads as read-batch-reads
+
+slice-read-if1 : tie.Need-slice-read-if1
+slice-read-if1 c = let a = (c .before .before .before .before .before .before .args) in let l = long-parts (a .rows .now) (a .gained .now) (a .lost .now) (a .head .now) (c .before .before .before .before .before .before .pre .long) in omega (arith, l .3)
+
+returns : tie.Need-returns
+returns c = let a = (c .before .before .before .before .before .before .before .args) in last-refused (a .net) (a .bytes .now) (a .rows .now) (a .gained .now) (a .lost .now) (a .head .now) (c .before .before .before .before .before .before .before .pre) (c .if1 .taken)
+
+read-batch-requires : tie.Need-read-batch-requires
+read-batch-requires c κs = c .before .before .before .before .before .before .before .pre .checkable .built
+
+returns-2 : tie.Need-returns-2
+returns-2 c = let a = (c .before .before .before .before .before .before .before .before .before .before .args) in read-refused (a .net) (a .bytes .now) (a .rows .now) (a .gained .now) (a .lost .now) (a .head .now) (c .before .before .before .before .before .before .before .before .before .before .pre) (c .before .before .before .if1 .left) (verdictOf (c .before .before .read-batch .result)) (c .before .before .read-batch .ensures) (ne-eqb (c .before .before .read-batch .result .number) 0 (c .if2 .taken))
+
+advance-requires : tie.Need-advance-requires
+advance-requires c κs = (c .before .before .before .before .before .before .before .before .before .before .before .before .before .before .pre, record { number = c .before .before .before .before .before .before .before .if1 .left; accepts = ap isAccepted (sym (c .before .before .before .before .before .before .read-batch .ensures)) ∙ eq-eqb (c .before .before .before .before .before .before .read-batch .result .number) 0 (c .before .before .before .before .if2 .left) })
+
+same-length : tie.Need-same-length
+same-length c = search needs
+
+same-length-2 : tie.Need-same-length-2
+same-length-2 c = search needs
+
+same-length-3 : tie.Need-same-length-3
+same-length-3 c = search needs
+
+same-length-4 : tie.Need-same-length-4
+same-length-4 c = search needs
+
+returns-3 : tie.Need-returns-3
+returns-3 c = c .before .before .before .before .before .before .before .before .advance .ensures
+
+pub apply-batch-spec : {M : Type 1} → statement M
+apply-batch-spec =
+    tie.close
+    (tie.spec
+    slice-read-if1
+    returns
+    read-batch-requires
+    returns-2
+    advance-requires
+    same-length
+    same-length-2
+    same-length-3
+    same-length-4
+    returns-3)

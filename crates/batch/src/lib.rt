@@ -1,0 +1,69 @@
+// A batch on areas of good form: refusals 9 to 14, or the next state.
+ghost use mathlib.Core.Path.{_≡_};
+ghost use mathlib.Core.Bool.{Bool, true, false};
+ghost use Prim.Native.Nat.{ℕ};
+ghost use Rattle.areas.specs.Lent.{lent};
+ghost use Rattle.batch.specs.Applying.{Applicable, AppliedTo, Unrefused, resultWith};
+use areas::AREA;
+use areas::NODES;
+use network::Network;
+use network::Verdict;
+use propagation::Propagated;
+
+// The largest batch number.
+const LAST: u32 = 4294967295;
+
+// The nodes worked and written: refusal 14, or the next state. The areas are written once nothing can be refused any more.
+fn advance(
+    net: Network,
+    bytes: &[u8],
+    rows: &mut [u32],
+    gained: &mut [u32],
+    lost: &mut [u32],
+    head: &mut [u32],
+) -> Verdict
+    requires { ⌜ Applicable net (lent (now rows) (now gained) (now lost) (now head)) × Unrefused net (now bytes) (now head) ⌝ }
+    ensures { λ r. ⌜ AppliedTo net (now (bytes .entry)) (lent (now (rows .entry)) (now (gained .entry)) (now (lost .entry)) (now (head .entry))) (resultWith r (lent (now (rows .exit)) (now (gained .exit)) (now (lost .exit)) (now (head .exit)))) ⌝ }
+{
+    let mut work = [0u32; AREA];
+    let mut counts = [0u32; NODES];
+    let mut changed = [false; NODES];
+    match propagation::propagate(net, bytes, rows, head, &mut work, &mut counts, &mut changed) {
+        Propagated::Over(node) => Verdict {
+            number: 14,
+            place: node,
+        },
+        Propagated::All => {
+            transition::write_state(net, &work, &counts, &changed, rows, gained, lost, head);
+            Verdict {
+                number: 0,
+                place: 0,
+            }
+        }
+    }
+}
+
+// A batch applied to areas of good form: refusals 9 to 14, or the next state.
+pub fn apply_batch(
+    net: Network,
+    bytes: &[u8],
+    rows: &mut [u32],
+    gained: &mut [u32],
+    lost: &mut [u32],
+    head: &mut [u32],
+) -> Verdict
+    requires { ⌜ Applicable net (lent (now rows) (now gained) (now lost) (now head)) ⌝ }
+    ensures { λ r. ⌜ AppliedTo net (now (bytes .entry)) (lent (now (rows .entry)) (now (gained .entry)) (now (lost .entry)) (now (head .entry))) (resultWith r (lent (now (rows .exit)) (now (gained .exit)) (now (lost .exit)) (now (head .exit)))) ⌝ }
+{
+    if head[0] == LAST {
+        return Verdict {
+            number: 9,
+            place: 0,
+        };
+    }
+    let read = events::read_batch(net, bytes);
+    if read.number != 0 {
+        return read;
+    }
+    advance(net, bytes, rows, gained, lost, head)
+}

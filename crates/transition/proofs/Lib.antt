@@ -1,0 +1,5 @@
+pub mod Filled
+pub mod Kept
+pub mod Out
+pub mod Listing
+pub mod Next

@@ -1,0 +1,147 @@
+-- The worked list, entry by entry. Assumes nothing.
+use Prim.Native.Nat.{ℕ, suc, _+_, zero, _≤_, _<_, _-_}
+use mathlib.Core.Path.{_≡_, ap, sym, _∙_, refl, ap₂}
+use mathlib.Core.List.{_++_, _∷_, List, flatMap, map, []}
+use native.Mathlib.Nat.{add-zero, zero-add, le-refl, le-trans}
+use native.Mathlib.Omega.{arith}
+use mathlib.Core.Bool.{Bool, true, false, cond}
+use lib.ListN.{length, length-append, getD, replicate, length-replicate, set, drop, take}
+use lib.Seq.{sets, paste, drop-append-add, drop-drop, take-at, take-all, drop-cons, set-at, append-snoc, getD-set-other, getD-set-same}
+use lib.Dec.{ltb}
+use borrow.Author.Tests.{ltb-true, ltb-false}
+use Rattle.model.specs.Row.{countFrom, numbersBelow, keep, keepIf}
+use Rattle.transition.specs.Written.{isOfLevel, levelList, listTo, stampsFrom, headFrom}
+use Rattle.model.proofs.Parts.{sets-more, flat-append, flat-one, sets-first, length-counted}
+use Rattle.states.proofs.Worked.{at-most-once, length-numbers}
+use Rattle.model.specs.Areas.{padded, stampAt, over}
+use Rattle.rows.proofs.Words.{drop-zeros}
+use Rattle.rows.proofs.Padding.{padded-more}
+
+pub count-more : (from n : ℕ) → countFrom from (suc n) ≡ countFrom from n ++ ((from + n) ∷ [])
+count-more from zero = ap (λ (x : ℕ). x ∷ []) (sym (add-zero from))
+count-more from (suc n) = let e : suc from + n ≡ from + suc n = omega arith in ap (λ (l : List ℕ). from ∷ l) (count-more (suc from) n ∙ ap (λ (x : ℕ). countFrom (suc from) n ++ (x ∷ [])) e)
+
+pub numbers-more : (n : ℕ) → numbersBelow (n + 1) ≡ numbersBelow n ++ (n ∷ [])
+numbers-more n = let e : n + 1 ≡ suc n = omega arith in ap numbersBelow e ∙ count-more 0 n ∙ ap (λ (x : ℕ). numbersBelow n ++ (x ∷ [])) (zero-add n)
+
+keep-append : (p : ℕ → Bool) (a b : List ℕ) → keep p (a ++ b) ≡ keep p a ++ keep p b
+keep-append p [] b = refl
+keep-append p (x ∷ a) b = ap (keepIf (p x) x) (keep-append p a b) ∙ go (p x)
+  where
+    go : (t : Bool) → keepIf t x (keep p a ++ keep p b) ≡ keepIf t x (keep p a) ++ keep p b
+    go true = refl
+    go false = refl
+
+pub keep-more : (p : ℕ → Bool) (n : ℕ) → keep p (numbersBelow (n + 1)) ≡ keep p (numbersBelow n) ++ keepIf (p n) n []
+keep-more p n = ap (keep p) (numbers-more n) ∙ keep-append p (numbersBelow n) (n ∷ [])
+
+-- fewer numbers, fewer entries
+keep-fewer : (p : ℕ → Bool) (i k : ℕ) → length (keep p (numbersBelow i)) ≤ length (keep p (numbersBelow (i + k)))
+keep-fewer p i zero = let e : i + 0 ≡ i = omega arith in rw e (le-refl (length (keep p (numbersBelow i))))
+keep-fewer p i (suc k) =
+    let e : i + suc k ≡ i + k + 1 = omega arith in
+    rw e (le-trans (keep-fewer p i k) (rw (keep-more p (i + k), length-append (keep p (numbersBelow (i + k))) (keepIf (p (i + k)) (i + k) [])) (omega arith)))
+
+module _ (levels : List ℕ) (listed : List Bool) (n level : ℕ) where
+  abbrev p : ℕ → Bool
+  p i = isOfLevel levels listed level i
+
+  pub level-more : (i : ℕ) → levelList levels listed (i + 1) level ≡ levelList levels listed i level ++ keepIf (isOfLevel levels listed level i) i []
+  level-more i = keep-more (isOfLevel levels listed level) i
+
+  -- room for the next entry
+  pub level-room : (i k : ℕ) → i < n → k + length (levelList levels listed n level) ≤ 32 → k + length (levelList levels listed i level) + length (keepIf (isOfLevel levels listed level i) i []) ≤ 32
+  level-room i k h room =
+      let e : i + 1 + (n - (i + 1)) ≡ n = omega arith in
+      let short : length (levelList levels listed (i + 1) level) ≤ length (levelList levels listed n level) = rw e at (keep-fewer (isOfLevel levels listed level) (i + 1) (n - (i + 1))) in
+      omega (arith, room, short, ap length (level-more i), length-append (levelList levels listed i level) (keepIf (isOfLevel levels listed level i) i []))
+
+  pub level-step : (entries before after : List ℕ) (i k end r : ℕ) → before ≡ sets entries k (levelList levels listed i level) → end ≡ k + length (levelList levels listed i level) →
+      after ≡ sets before end (keepIf (isOfLevel levels listed level i) i []) → r ≡ end + length (keepIf (isOfLevel levels listed level i) i []) →
+      (after ≡ sets entries k (levelList levels listed (i + 1) level)) × (r ≡ k + length (levelList levels listed (i + 1) level))
+  level-step entries before after i k end r e f g h = (
+    sets-more entries before after k end (levelList levels listed i level) (keepIf (isOfLevel levels listed level i) i []) e f g ∙ ap (sets entries k) (sym (level-more i)),
+    omega (arith, f, h, ap length (level-more i), length-append (levelList levels listed i level) (keepIf (isOfLevel levels listed level i) i [])),
+  )
+
+  -- the next level
+  pub list-more : listTo levels listed n (level + 1) ≡ listTo levels listed n level ++ levelList levels listed n level
+  list-more = ap (flatMap (levelList levels listed n)) (numbers-more level) ∙ flat-append (levelList levels listed n) (numbersBelow level) (level ∷ []) ∙ ap (λ (l : List ℕ). listTo levels listed n level ++ l) (flat-one (levelList levels listed n) level)
+
+  pub list-short : (l : ℕ) → length (listTo levels listed n l) ≤ n
+  list-short l = omega (arith, at-most-once (λ i. getD levels i 0) (λ i. getD listed i false) l (numbersBelow n), length-numbers 0 n)
+
+  pub list-room : n ≤ 32 → length (listTo levels listed n level) + length (levelList levels listed n level) ≤ 32
+  list-room h = omega (arith, h, list-short (level + 1), ap length list-more, length-append (listTo levels listed n level) (levelList levels listed n level))
+
+  pub list-step : (entries before after : List ℕ) (k r : ℕ) → before ≡ sets entries 0 (listTo levels listed n level) → k ≡ length (listTo levels listed n level) →
+      after ≡ sets before k (levelList levels listed n level) → r ≡ k + length (levelList levels listed n level) →
+      (after ≡ sets entries 0 (listTo levels listed n (level + 1))) × (r ≡ length (listTo levels listed n (level + 1)))
+  list-step entries before after k r e f g h = (
+    sets-more entries before after 0 k (listTo levels listed n level) (levelList levels listed n level) e (f ∙ sym (zero-add (length (listTo levels listed n level)))) g ∙ ap (sets entries 0) (sym list-more),
+    omega (arith, f, h, ap length list-more, length-append (listTo levels listed n level) (levelList levels listed n level)),
+  )
+
+-- entries in an array of zeros
+pub sets-zeros : (l : List ℕ) → length l ≤ 32 → sets (replicate 32 0) 0 l ≡ padded 32 l
+sets-zeros l h = sets-first (replicate 32 0) l (rw (length-replicate {A = ℕ} 32 0) h) ∙ ap (λ (z : List ℕ). l ++ z) (drop-zeros (length l) 32)
+
+-- ---- stamps
+
+pub stamps-more : (head : List ℕ) (changed : List Bool) (number i : ℕ) (stamps : List ℕ) (x : ℕ) → i < 32 → stamps ≡ padded 32 (stampsFrom head changed number i) → x ≡ cond (getD changed i false) number (stampAt head i) → set stamps i x ≡ padded 32 (stampsFrom head changed number (i + 1))
+stamps-more head changed number i stamps x h e f =
+    ap₂ {A = List ℕ} {B = ℕ} {C = List ℕ} (λ s y. set s i y) e f
+    ∙ padded-more 32 (stampsFrom head changed number i) (cond (getD changed i false) number (stampAt head i)) i (length-counted (λ j. cond (getD changed j false) number (stampAt head j)) 0 i) h
+    ∙ ap (padded 32) (sym (ap (map (λ j. cond (getD changed j false) number (stampAt head j))) (numbers-more i) ∙ map-snoc (λ j. cond (getD changed j false) number (stampAt head j)) (numbersBelow i) i))
+  where
+    map-snoc : (f : ℕ → ℕ) (l : List ℕ) (y : ℕ) → map f (l ++ (y ∷ [])) ≡ map f l ++ (f y ∷ [])
+    map-snoc f [] y = refl
+    map-snoc f (z ∷ l) y = ap (λ (m : List ℕ). f z ∷ m) (map-snoc f l y)
+
+-- ---- words written one after the other
+
+-- a run of words put where the words before it end
+pub over-more : (done xs h : List ℕ) (at n : ℕ) → length done ≡ at → length xs ≡ n → at + n ≤ length h → paste (over done h) at (drop 0 xs) n ≡ over (done ++ xs) h
+over-more done xs h at n d x fits =
+    let past : drop (at + n) (done ++ drop (length done) h) ≡ drop (length (done ++ xs)) h =
+    ap (λ (k : ℕ). drop (k + n) (done ++ drop (length done) h)) (sym d) ∙ drop-append-add done (drop (length done) h) n ∙ drop-drop n (length done) h ∙ ap (λ (k : ℕ). drop k h) (ap (λ (k : ℕ). length done + k) (sym x) ∙ sym (length-append done xs)) in
+    ap₂ {A = List ℕ} {B = List ℕ} {C = List ℕ} (λ a b. a ++ take n xs ++ b) (take-at done (drop (length done) h) at d) past
+    ∙ ap (λ (l : List ℕ). done ++ l ++ drop (length (done ++ xs)) h) (take-all n xs (omega (arith, x)))
+
+-- one word put there
+pub over-one : (done h : List ℕ) (at x : ℕ) → length done ≡ at → at < length h → set (over done h) at x ≡ over (done ++ (x ∷ [])) h
+over-one done h at x d fits =
+    let cons : drop (length done) h ≡ getD h (length done) 0 ∷ drop (suc (length done)) h = drop-cons h (length done) 0 (rw d fits) in
+    ap (λ (l : List ℕ). set (done ++ l) at x) cons
+    ∙ set-at done (getD h (length done) 0) (drop (suc (length done)) h) x at d
+    ∙ sym (append-snoc done x (drop (suc (length done)) h))
+    ∙ ap (λ (k : ℕ). done ++ (x ∷ []) ++ drop k h) (let e : suc (length done) ≡ length (done ++ (x ∷ [])) = omega (arith, length-append done (x ∷ [])) in e)
+
+-- all of the head's words
+pub head-written : (h counts stamps gains losses entries h1 h2 h3 h4 h5 : List ℕ) (number k : ℕ) → 162 ≤ length h → length counts ≡ 32 → length stamps ≡ 32 → length gains ≡ 32 → length losses ≡ 32 → length entries ≡ 32 →
+    h1 ≡ paste (set h 0 number) 1 (drop 0 counts) 32 → h2 ≡ paste h1 33 (drop 0 stamps) 32 → h3 ≡ paste h2 65 (drop 0 gains) 32 → h4 ≡ paste h3 97 (drop 0 losses) 32 → h5 ≡ paste (set h4 129 k) 130 (drop 0 entries) 32 →
+    h5 ≡ over (headFrom number counts stamps gains losses k entries) h
+head-written h counts stamps gains losses entries h1 h2 h3 h4 h5 number k long lc ls lg ll le e1 e2 e3 e4 e5 =
+    let d1 : List ℕ = (number ∷ []) ++ counts in
+    let n1 : length ((number ∷ []) ++ counts) ≡ 33 = omega (arith, length-append (number ∷ []) counts, lc) in
+    let n2 : length ((number ∷ []) ++ counts ++ stamps) ≡ 65 = omega (arith, length-append ((number ∷ []) ++ counts) stamps, n1, ls) in
+    let n3 : length ((number ∷ []) ++ counts ++ stamps ++ gains) ≡ 97 = omega (arith, length-append ((number ∷ []) ++ counts ++ stamps) gains, n2, lg) in
+    let n4 : length ((number ∷ []) ++ counts ++ stamps ++ gains ++ losses) ≡ 129 = omega (arith, length-append ((number ∷ []) ++ counts ++ stamps ++ gains) losses, n3, ll) in
+    let n5 : length ((number ∷ []) ++ counts ++ stamps ++ gains ++ losses ++ (k ∷ [])) ≡ 130 = omega (arith, length-append ((number ∷ []) ++ counts ++ stamps ++ gains ++ losses) (k ∷ []), n4) in
+    let s0 : set h 0 number ≡ over (number ∷ []) h = over-one [] h 0 number refl (omega arith) in
+    let s1 : h1 ≡ over ((number ∷ []) ++ counts) h = e1 ∙ ap (λ (l : List ℕ). paste l 1 (drop 0 counts) 32) s0 ∙ over-more (number ∷ []) counts h 1 32 refl lc (omega arith) in
+    let s2 : h2 ≡ over ((number ∷ []) ++ counts ++ stamps) h = e2 ∙ ap (λ (l : List ℕ). paste l 33 (drop 0 stamps) 32) s1 ∙ over-more ((number ∷ []) ++ counts) stamps h 33 32 n1 ls (omega arith) in
+    let s3 : h3 ≡ over ((number ∷ []) ++ counts ++ stamps ++ gains) h = e3 ∙ ap (λ (l : List ℕ). paste l 65 (drop 0 gains) 32) s2 ∙ over-more ((number ∷ []) ++ counts ++ stamps) gains h 65 32 n2 lg (omega arith) in
+    let s4 : h4 ≡ over ((number ∷ []) ++ counts ++ stamps ++ gains ++ losses) h = e4 ∙ ap (λ (l : List ℕ). paste l 97 (drop 0 losses) 32) s3 ∙ over-more ((number ∷ []) ++ counts ++ stamps ++ gains) losses h 97 32 n3 ll (omega arith) in
+    let s5 : set h4 129 k ≡ over ((number ∷ []) ++ counts ++ stamps ++ gains ++ losses ++ (k ∷ [])) h = ap (λ (l : List ℕ). set l 129 k) s4 ∙ over-one ((number ∷ []) ++ counts ++ stamps ++ gains ++ losses) h 129 k n4 (omega arith) in
+    e5 ∙ ap (λ (l : List ℕ). paste l 130 (drop 0 entries) 32) s5 ∙ over-more ((number ∷ []) ++ counts ++ stamps ++ gains ++ losses ++ (k ∷ [])) entries h 130 32 n5 le (omega arith)
+
+-- ---- marks
+
+-- one mark more
+pub listed-more : (f : ℕ → Bool) (l : List Bool) (i : ℕ) (x : Bool) → i < length l → ((j : ℕ) → j < i → getD l j false ≡ f j) → x ≡ f i → (j : ℕ) → j < i + 1 → getD (set l i x) j false ≡ f j
+listed-more f l i x h before e j k = go (ltb j i) refl
+  where
+    go : (t : Bool) → ltb j i ≡ t → getD (set l i x) j false ≡ f j
+    go true g = let n : j < i = ltb-true j i g in getD-set-other l i j x false (λ z. absurd (omega (arith, n, z))) ∙ before j n
+    go false g = let n : i ≤ j = ltb-false j i g in let same : j ≡ i = omega arith in rw same (getD-set-same l i x false h ∙ e)
