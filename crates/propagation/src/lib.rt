@@ -144,7 +144,7 @@ fn put_node(
     rows::copy_run(out, 0, work, i * PLACE, PLACE);
 }
 
-// Node i's rows, of a level, worked in an empty place: how many, or that they are more than 64. The node has n rows in the rows area.
+// Node i's rows, of a level, worked in an empty place: how many, or that they are more than 64.
 fn work_rows<'a>(
     slot: Slot,
     level: usize,

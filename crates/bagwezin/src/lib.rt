@@ -1,0 +1,125 @@
+// The C interface: each function is one call of the monitor.
+ghost use mathlib.Core.Path.{_≡_};
+ghost use mathlib.Core.Bool.{Bool, true, false, cond};
+ghost use mathlib.Core.List.{List, _++_, _∷_, []};
+ghost use Prim.Native.Nat.{ℕ, _+_, _*_, _≤_, _<_};
+ghost use lib.ListN.{length, drop};
+ghost use lib.Dec.{eqb};
+ghost use lib.Seq.{sets};
+ghost use Rattle.model.specs.Record as modelRecord;
+ghost use Rattle.model.specs.Calls.{openCall, checkCall, reportCall};
+ghost use Rattle.network.specs.Reading.{verdictOf};
+ghost use Rattle.areas.specs.Lent.{lent};
+ghost use Rattle.bagwezin.specs.Answers.{half, asWords, packed, bit, Applies, readVerdict, readAfter};
+
+// The number in the upper 32 bits; below it the value, or beside a refusal the place.
+fn pack(number: usize, place: usize, value: usize) -> u64
+    ensures { λ r. ⌜ r ≡ packed (record { number = number; place = place }) value ⌝ }
+{
+    if number == 0 {
+        return (value % 4294967296) as u64;
+    }
+    ((number % 4294967296) * 4294967296 + place % 4294967296) as u64
+}
+
+// How many words the reader's answer takes.
+const WORDS: usize = 97;
+
+// Numbers written as words, from an index on.
+fn write_list(answer: &mut [u32], at: usize, list: &[usize])
+    requires { ⌜ at + length (now list) ≤ length (now answer) ⌝ }
+    ensures { λ _. ⌜ now (answer .exit) ≡ sets (now (answer .entry)) at (asWords (now (list .entry))) ⌝ }
+{
+    let n = list.len();
+    let mut k = 0;
+    while k < n {
+        answer[at + k] = (list[k] % 4294967296) as u32;
+        k += 1;
+    }
+}
+
+// Opens the areas for a network: refusals 1 to 7, or 0.
+#[no_mangle]
+pub extern "C" fn bagwezin_open(
+    net: &[u8],
+    rows: &mut [u32],
+    gained: &mut [u32],
+    lost: &mut [u32],
+    head: &mut [u32],
+) -> u64
+    ensures { λ r. ⌜ (r ≡ packed (openCall (now (net .entry)) (lent (now (rows .entry)) (now (gained .entry)) (now (lost .entry)) (now (head .entry))) .verdict) 0) × (lent (now (rows .exit)) (now (gained .exit)) (now (lost .exit)) (now (head .exit)) ≡ openCall (now (net .entry)) (lent (now (rows .entry)) (now (gained .entry)) (now (lost .entry)) (now (head .entry))) .areas) ⌝ }
+{
+    let v = monitor::open(net, rows, gained, lost, head);
+    pack(v.number, v.place, 0)
+}
+
+// Applies a batch: refusals 1 to 14, or 0.
+#[no_mangle]
+pub extern "C" fn bagwezin_apply(
+    net: &[u8],
+    batch: &[u8],
+    rows: &mut [u32],
+    gained: &mut [u32],
+    lost: &mut [u32],
+    head: &mut [u32],
+) -> u64
+    ensures { λ r. ⌜ Applies (now (net .entry)) (now (batch .entry)) (lent (now (rows .entry)) (now (gained .entry)) (now (lost .entry)) (now (head .entry))) (lent (now (rows .exit)) (now (gained .exit)) (now (lost .exit)) (now (head .exit))) r ⌝ }
+{
+    let v = monitor::apply(net, batch, rows, gained, lost, head);
+    pack(v.number, v.place, 0)
+}
+
+// Whether the areas are coherent: refusals 1 to 8, or 1 for yes and 0 for no.
+#[no_mangle]
+pub extern "C" fn bagwezin_check(
+    net: &[u8],
+    rows: &[u32],
+    gained: &[u32],
+    lost: &[u32],
+    head: &[u32],
+) -> u64
+    ensures { λ r. ⌜ r ≡ packed (checkCall (now (net .entry)) (lent (now (rows .entry)) (now (gained .entry)) (now (lost .entry)) (now (head .entry))) .verdict) (bit (checkCall (now (net .entry)) (lent (now (rows .entry)) (now (gained .entry)) (now (lost .entry)) (now (head .entry))) .yes?)) ⌝ }
+{
+    let v = monitor::check(net, rows, gained, lost, head);
+    pack(v.number, v.place, v.yes as usize)
+}
+
+// The report of a node: refusals 1 to 8, 15 and 16, or its length.
+#[no_mangle]
+pub extern "C" fn bagwezin_report(
+    net: &[u8],
+    node: u32,
+    rows: &[u32],
+    gained: &[u32],
+    lost: &[u32],
+    head: &[u32],
+    out: &mut [u8],
+) -> u64
+    ensures { λ r. ⌜ (r ≡ packed (reportCall (now (net .entry)) node (lent (now (rows .entry)) (now (gained .entry)) (now (lost .entry)) (now (head .entry))) (now (out .entry)) .verdict) (reportCall (now (net .entry)) node (lent (now (rows .entry)) (now (gained .entry)) (now (lost .entry)) (now (head .entry))) (now (out .entry)) .size)) × (now (out .exit) ≡ reportCall (now (net .entry)) node (lent (now (rows .entry)) (now (gained .entry)) (now (lost .entry)) (now (head .entry))) (now (out .entry)) .out) ⌝ }
+{
+    let v = monitor::report(net, node as usize, rows, gained, lost, head, out);
+    pack(v.number, v.place, v.size)
+}
+
+// The reader's answer in 97 words: refusal 1 where they are not lent, then 2 to 7, or 0.
+#[no_mangle]
+pub extern "C" fn bagwezin_read(net: &[u8], answer: &mut [u32]) -> u64
+    ensures { λ r. ⌜ (r ≡ packed (readVerdict (now (net .entry)) (now (answer .entry))) 0) × (now (answer .exit) ≡ readAfter (now (net .entry)) (now (answer .entry))) ⌝ }
+{
+    if answer.len() < WORDS {
+        return pack(1, 0, 0);
+    }
+    let read = network::read(net);
+    if read.number != 0 {
+        return pack(read.number, read.place, 0);
+    }
+    let first = [read.count];
+    let kinds = read.kinds;
+    let widths = read.widths;
+    let levels = read.levels;
+    write_list(answer, 0, &first);
+    write_list(answer, 1, &kinds);
+    write_list(answer, 33, &widths);
+    write_list(answer, 65, &levels);
+    pack(0, 0, 0)
+}

@@ -1,0 +1,401 @@
+//! The plain station, written from the order's sentences: sets of rows, everything evaluated afresh.
+use std::collections::BTreeSet;
+
+use crate::{AREA, HEAD};
+
+pub type Row = Vec<u32>;
+pub type Relation = BTreeSet<Row>;
+
+/// A refusal's number and place.
+pub type Verdict = (u32, u32);
+
+/// One node with its own data.
+#[derive(Clone, Debug)]
+pub enum Node {
+    Table(usize),
+    SelectConstant { input: usize, column: usize, code: usize, constant: u32 },
+    SelectColumn { input: usize, column: usize, code: usize, other: usize },
+    Project { input: usize, columns: Vec<usize> },
+    Join { left: usize, right: usize, pairs: Vec<(usize, usize)>, columns: Vec<usize> },
+    Set { kind: usize, left: usize, right: usize },
+}
+
+/// A network: nodes with widths and levels, and each node's watch sign (0: none).
+#[derive(Clone, Debug, Default)]
+pub struct Network {
+    pub nodes: Vec<Node>,
+    pub widths: Vec<usize>,
+    pub levels: Vec<usize>,
+    pub signs: Vec<usize>,
+}
+
+fn u16_at(bytes: &[u8], at: usize) -> usize {
+    bytes[at] as usize + 256 * bytes[at + 1] as usize
+}
+
+fn u32_at(bytes: &[u8], at: usize) -> u32 {
+    u32::from_le_bytes([bytes[at], bytes[at + 1], bytes[at + 2], bytes[at + 3]])
+}
+
+/// Rules 3 and 10: whether the record at an offset is broken.
+pub fn is_broken(bytes: &[u8], at: usize) -> bool {
+    let left = bytes.len() - at;
+    left < 4 || u16_at(bytes, at) < 4 || u16_at(bytes, at) > left
+}
+
+impl Node {
+    pub fn inputs(&self) -> Vec<usize> {
+        match self {
+            Node::Table(_) => vec![],
+            Node::SelectConstant { input, .. } | Node::SelectColumn { input, .. } | Node::Project { input, .. } => vec![*input],
+            Node::Join { left, right, .. } | Node::Set { left, right, .. } => vec![*left, *right],
+        }
+    }
+
+    pub fn kind(&self) -> u32 {
+        match self {
+            Node::Table(_) => 1,
+            Node::SelectConstant { .. } => 2,
+            Node::SelectColumn { .. } => 3,
+            Node::Project { .. } => 4,
+            Node::Join { .. } => 5,
+            Node::Set { kind, .. } => *kind as u32,
+        }
+    }
+}
+
+fn holds(code: usize, left: u32, right: u32) -> bool {
+    match code {
+        0 => left == right,
+        1 => left != right,
+        2 => left < right,
+        3 => left <= right,
+        4 => left > right,
+        _ => left >= right,
+    }
+}
+
+impl Network {
+    /// Refusals 2 to 7, or the network.
+    pub fn read(bytes: &[u8]) -> Result<Network, Verdict> {
+        if bytes.is_empty() {
+            return Err((2, 0));
+        }
+        let mut net = Network::default();
+        let mut at = 0;
+        while at < bytes.len() {
+            let refuse = |number| Err((number, at as u32));
+            if is_broken(bytes, at) {
+                return refuse(3);
+            }
+            let size = u16_at(bytes, at);
+            let kind = u16_at(bytes, at + 2);
+            if !(1..=9).contains(&kind) {
+                return refuse(4);
+            }
+            if kind != 9 && net.nodes.len() == 32 {
+                return refuse(5);
+            }
+            let field = |k: usize| u16_at(bytes, at + 4 + 2 * k);
+            let shape = match kind {
+                1 => size == 6,
+                2 => size == 14,
+                3 => size == 12,
+                4 => size >= 8 && (1..=4).contains(&field(1)) && size == 8 + 2 * field(1),
+                5 => {
+                    size >= 10 && field(2) <= 2 && size >= 12 + 4 * field(2) && {
+                        let c = field(3 + 2 * field(2));
+                        (1..=4).contains(&c) && size == 12 + 4 * field(2) + 2 * c
+                    }
+                }
+                _ => size == 8,
+            };
+            if !shape {
+                return refuse(6);
+            }
+            let n = net.nodes.len();
+            let width = |i: usize| net.widths[i];
+            if kind == 9 {
+                if field(0) >= n || !(1..=3).contains(&field(1)) || net.signs[field(0)] != 0 {
+                    return refuse(7);
+                }
+                net.signs[field(0)] = field(1);
+                at += size;
+                continue;
+            }
+            let (node, wide) = match kind {
+                1 => {
+                    if !(1..=4).contains(&field(0)) {
+                        return refuse(7);
+                    }
+                    (Node::Table(field(0)), field(0))
+                }
+                2 | 3 => {
+                    let (input, column, code) = (field(0), field(1), field(2));
+                    if input >= n || column >= width(input) || code > 5 || (kind == 3 && field(3) >= width(input)) {
+                        return refuse(7);
+                    }
+                    let w = width(input);
+                    if kind == 2 {
+                        (Node::SelectConstant { input, column, code, constant: u32_at(bytes, at + 10) }, w)
+                    } else {
+                        (Node::SelectColumn { input, column, code, other: field(3) }, w)
+                    }
+                }
+                4 => {
+                    let columns: Vec<usize> = (0..field(1)).map(|k| field(2 + k)).collect();
+                    if field(0) >= n || columns.iter().any(|&c| c >= width(field(0))) {
+                        return refuse(7);
+                    }
+                    let w = columns.len();
+                    (Node::Project { input: field(0), columns }, w)
+                }
+                5 => {
+                    let (left, right, p) = (field(0), field(1), field(2));
+                    let pairs: Vec<(usize, usize)> = (0..p).map(|k| (field(3 + 2 * k), field(4 + 2 * k))).collect();
+                    let columns: Vec<usize> = (0..field(3 + 2 * p)).map(|k| field(4 + 2 * p + k)).collect();
+                    if left >= n || right >= n || pairs.iter().any(|&(l, r)| l >= width(left) || r >= width(right)) || columns.iter().any(|&c| c >= width(left) + width(right)) {
+                        return refuse(7);
+                    }
+                    let w = columns.len();
+                    (Node::Join { left, right, pairs, columns }, w)
+                }
+                _ => {
+                    let (left, right) = (field(0), field(1));
+                    if left >= n || right >= n || width(left) != width(right) {
+                        return refuse(7);
+                    }
+                    let w = width(left);
+                    (Node::Set { kind, left, right }, w)
+                }
+            };
+            let level = node.inputs().iter().map(|&i| net.levels[i] + 1).max().unwrap_or(0);
+            net.nodes.push(node);
+            net.widths.push(wide);
+            net.levels.push(level);
+            net.signs.push(0);
+            at += size;
+        }
+        Ok(net)
+    }
+
+    /// The fresh evaluation of every node; tables stand at their node numbers.
+    pub fn evaluate(&self, tables: &[Relation]) -> Vec<Relation> {
+        let mut rels: Vec<Relation> = Vec::new();
+        for (i, node) in self.nodes.iter().enumerate() {
+            let rows = match node {
+                Node::Table(_) => tables[i].clone(),
+                Node::SelectConstant { input, column, code, constant } => rels[*input].iter().filter(|r| holds(*code, r[*column], *constant)).cloned().collect(),
+                Node::SelectColumn { input, column, code, other } => rels[*input].iter().filter(|r| holds(*code, r[*column], r[*other])).cloned().collect(),
+                Node::Project { input, columns } => rels[*input].iter().map(|r| columns.iter().map(|&c| r[c]).collect()).collect(),
+                Node::Join { left, right, pairs, columns } => {
+                    let mut out = Relation::new();
+                    for l in &rels[*left] {
+                        for r in rels[*right].iter().filter(|r| pairs.iter().all(|&(x, y)| l[x] == r[y])) {
+                            out.insert(columns.iter().map(|&c| if c < l.len() { l[c] } else { r[c - l.len()] }).collect());
+                        }
+                    }
+                    out
+                }
+                Node::Set { kind: 6, left, right } => &rels[*left] | &rels[*right],
+                Node::Set { kind: 7, left, right } => &rels[*left] - &rels[*right],
+                Node::Set { left, right, .. } => &rels[*left] & &rels[*right],
+            };
+            rels.push(rows);
+        }
+        rels
+    }
+}
+
+/// The four areas as words.
+#[derive(Clone, PartialEq, Eq)]
+pub struct Areas {
+    pub rows: Vec<u32>,
+    pub gained: Vec<u32>,
+    pub lost: Vec<u32>,
+    pub head: Vec<u32>,
+}
+
+impl Areas {
+    pub fn zero() -> Areas {
+        Areas { rows: vec![0; AREA], gained: vec![0; AREA], lost: vec![0; AREA], head: vec![0; HEAD] }
+    }
+
+    fn held(area: &[u32], head: &[u32], counts: usize, i: usize, width: usize) -> Vec<Row> {
+        (0..head[counts + i] as usize).map(|j| area[256 * i + 4 * j..256 * i + 4 * j + width].to_vec()).collect()
+    }
+
+    /// "Good form".
+    pub fn good_form(&self, net: &Network) -> bool {
+        let (n, head) = (net.nodes.len(), &self.head);
+        for (area, counts) in [(&self.rows, 1), (&self.gained, 65), (&self.lost, 97)] {
+            let mut used = vec![false; AREA];
+            for i in 0..32 {
+                let count = head[counts + i] as usize;
+                if count > 64 || (i >= n && count != 0) {
+                    return false;
+                }
+                if i < n {
+                    let rows = Areas::held(area, head, counts, i, net.widths[i]);
+                    if rows.windows(2).any(|p| p[0] >= p[1]) {
+                        return false;
+                    }
+                    for j in 0..count {
+                        used[256 * i + 4 * j..256 * i + 4 * j + net.widths[i]].fill(true);
+                    }
+                }
+            }
+            if (0..AREA).any(|k| !used[k] && area[k] != 0) {
+                return false;
+            }
+        }
+        (0..32).all(|i| head[33 + i] <= if i < n { head[0] } else { 0 })
+            && head[129] as usize <= n
+            && (0..32).all(|k| if k < head[129] as usize { (head[130 + k] as usize) < n } else { head[130 + k] == 0 })
+    }
+
+    /// "Coherent": good form, and each derived node's rows equal its fresh evaluation.
+    pub fn coherent(&self, net: &Network) -> bool {
+        if !self.good_form(net) {
+            return false;
+        }
+        let rels: Vec<Relation> = (0..net.nodes.len()).map(|i| Areas::held(&self.rows, &self.head, 1, i, net.widths[i]).into_iter().collect()).collect();
+        net.evaluate(&rels) == rels
+    }
+
+    /// The report of a node: refusals 15 and 16, or its bytes.
+    pub fn report(&self, net: &Network, node: usize, room: usize) -> Result<Vec<u8>, Verdict> {
+        if node >= net.nodes.len() || net.signs[node] == 0 {
+            return Err((15, 0));
+        }
+        let mut out = Vec::new();
+        for (area, counts, kind, signs) in [(&self.gained, 65, 64u16, [1, 3]), (&self.lost, 97, 65, [2, 3])] {
+            if signs.contains(&net.signs[node]) {
+                for row in Areas::held(area, &self.head, counts, node, net.widths[node]) {
+                    out.extend((6 + 4 * row.len() as u16).to_le_bytes());
+                    out.extend(kind.to_le_bytes());
+                    out.extend((node as u16).to_le_bytes());
+                    row.iter().for_each(|x| out.extend(x.to_le_bytes()));
+                }
+            }
+        }
+        if out.len() > room {
+            return Err((16, 0));
+        }
+        Ok(out)
+    }
+}
+
+/// The machine that demand 3 compares with.
+#[derive(Clone)]
+pub struct Station {
+    pub net: Network,
+    pub tables: Vec<Relation>,
+    pub number: u32,
+    pub stamps: Vec<u32>,
+    pub changes: Vec<(Relation, Relation)>,
+    pub worked: Vec<usize>,
+}
+
+impl Station {
+    pub fn open(net: &Network) -> Station {
+        let n = net.nodes.len();
+        Station { net: net.clone(), tables: vec![Relation::new(); n], number: 0, stamps: vec![0; n], changes: vec![Default::default(); n], worked: vec![] }
+    }
+
+    /// The state that areas of good form hold.
+    pub fn from(net: &Network, a: &Areas) -> Station {
+        let n = net.nodes.len();
+        let set = |area: &[u32], counts: usize, i: usize| -> Relation { Areas::held(area, &a.head, counts, i, net.widths[i]).into_iter().collect() };
+        Station {
+            net: net.clone(),
+            tables: (0..n).map(|i| if net.nodes[i].inputs().is_empty() { set(&a.rows, 1, i) } else { Relation::new() }).collect(),
+            number: a.head[0],
+            stamps: a.head[33..33 + n].to_vec(),
+            changes: (0..n).map(|i| (set(&a.gained, 65, i), set(&a.lost, 97, i))).collect(),
+            worked: a.head[130..130 + a.head[129] as usize].iter().map(|&x| x as usize).collect(),
+        }
+    }
+
+    /// Refusals 10 to 13, or the tables after the events.
+    fn events(&self, batch: &[u8]) -> Result<Vec<Relation>, Verdict> {
+        let (mut tables, mut at, mut count) = (self.tables.clone(), 0, 0);
+        while at < batch.len() {
+            let refuse = |number| Err((number, at as u32));
+            if is_broken(batch, at) {
+                return refuse(10);
+            }
+            let (size, kind) = (u16_at(batch, at), u16_at(batch, at + 2));
+            if kind != 32 && kind != 33 {
+                return refuse(11);
+            }
+            if count == 64 {
+                return refuse(12);
+            }
+            let node = if size >= 6 { u16_at(batch, at + 4) } else { usize::MAX };
+            match self.net.nodes.get(node) {
+                Some(Node::Table(w)) if size == 6 + 4 * w => {
+                    let row: Row = (0..*w).map(|k| u32_at(batch, at + 6 + 4 * k)).collect();
+                    if kind == 32 {
+                        tables[node].insert(row);
+                    } else {
+                        tables[node].remove(&row);
+                    }
+                }
+                _ => return refuse(13),
+            }
+            count += 1;
+            at += size;
+        }
+        Ok(tables)
+    }
+
+    /// One batch: 9 to 14, or the next state.
+    pub fn apply(&mut self, batch: &[u8]) -> Verdict {
+        if self.number == u32::MAX {
+            return (9, 0);
+        }
+        let copy = match self.events(batch) {
+            Ok(tables) => tables,
+            Err(refusal) => return refusal,
+        };
+        let (old, new) = (self.net.evaluate(&self.tables), self.net.evaluate(&copy));
+        if let Some(i) = new.iter().position(|r| r.len() > 64) {
+            return (14, i as u32);
+        }
+        self.number += 1;
+        self.changes = old.iter().zip(&new).map(|(a, b)| (b - a, a - b)).collect();
+        let changed: Vec<bool> = self.changes.iter().map(|(g, l)| !g.is_empty() || !l.is_empty()).collect();
+        for (i, c) in changed.iter().enumerate() {
+            if *c {
+                self.stamps[i] = self.number;
+            }
+        }
+        let mut worked: Vec<usize> = (0..self.net.nodes.len()).filter(|&i| self.net.nodes[i].inputs().iter().any(|&j| changed[j])).collect();
+        worked.sort_by_key(|&i| (self.net.levels[i], i));
+        self.worked = worked;
+        self.tables = copy;
+        (0, 0)
+    }
+
+    /// The areas that hold this state.
+    pub fn areas(&self) -> Areas {
+        let mut a = Areas::zero();
+        let fresh = self.net.evaluate(&self.tables);
+        a.head[0] = self.number;
+        for i in 0..self.net.nodes.len() {
+            a.head[33 + i] = self.stamps[i];
+            for (area, counts, rel) in [(&mut a.rows, 1, &fresh[i]), (&mut a.gained, 65, &self.changes[i].0), (&mut a.lost, 97, &self.changes[i].1)] {
+                a.head[counts + i] = rel.len() as u32;
+                for (j, row) in rel.iter().enumerate() {
+                    area[256 * i + 4 * j..256 * i + 4 * j + row.len()].copy_from_slice(row);
+                }
+            }
+        }
+        a.head[129] = self.worked.len() as u32;
+        for (k, &i) in self.worked.iter().enumerate() {
+            a.head[130 + k] = i as u32;
+        }
+        a
+    }
+}

@@ -1,0 +1,407 @@
+//! The library against the independent model, on random networks and batches, valid and damaged.
+//!
+//! `BAGWEZIN_SECONDS=60 cargo test --release -- --nocapture` runs for that long; `BAGWEZIN_SEED=7` starts from that seed.
+use std::time::{Duration, Instant};
+
+use bagwezin::model::{Areas, Network, Station, Verdict};
+use bagwezin::{outcome, raw, ANSWER, AREA, HEAD};
+
+struct Random(u64);
+
+impl Random {
+    fn next(&mut self) -> u64 {
+        self.0 ^= self.0 << 13;
+        self.0 ^= self.0 >> 7;
+        self.0 ^= self.0 << 17;
+        self.0
+    }
+
+    fn below(&mut self, n: usize) -> usize {
+        (self.next() >> 11) as usize % n
+    }
+
+    fn one_in(&mut self, n: usize) -> bool {
+        self.below(n) == 0
+    }
+}
+
+fn record(kind: usize, fields: &[usize]) -> Vec<u8> {
+    let mut out = Vec::new();
+    for x in [4 + 2 * fields.len(), kind].iter().chain(fields) {
+        out.extend((*x as u16).to_le_bytes());
+    }
+    out
+}
+
+/// A network that is accepted, unless it has more than 32 nodes.
+fn network(r: &mut Random) -> Vec<u8> {
+    let (mut net, mut widths, mut watched) = (Vec::new(), Vec::<usize>::new(), Vec::new());
+    let most = if r.one_in(8) { 33 } else { 1 + r.below(14) };
+    while widths.len() < most {
+        let n = widths.len();
+        if n > 0 && r.one_in(5) {
+            let node = r.below(n);
+            if !watched.contains(&node) {
+                watched.push(node);
+                net.extend(record(9, &[node, 1 + r.below(3)]));
+            }
+        }
+        if n == 0 || r.one_in(4) {
+            widths.push(1 + r.below(4));
+            net.extend(record(1, &[widths[n]]));
+            continue;
+        }
+        let (left, right) = (r.below(n), r.below(n));
+        let column = |r: &mut Random, w: usize| r.below(w);
+        match 2 + r.below(7) {
+            2 => {
+                let (c, k, v) = (column(r, widths[left]), r.below(6), r.below(4));
+                net.extend(record(2, &[left, c, k, v, 0]));
+                widths.push(widths[left]);
+            }
+            3 => {
+                let (c, k, o) = (column(r, widths[left]), r.below(6), column(r, widths[left]));
+                net.extend(record(3, &[left, c, k, o]));
+                widths.push(widths[left]);
+            }
+            4 => {
+                let c = 1 + r.below(4);
+                let mut fields = vec![left, c];
+                (0..c).for_each(|_| fields.push(r.below(widths[left])));
+                net.extend(record(4, &fields));
+                widths.push(c);
+            }
+            5 => {
+                let (p, c) = (r.below(3), 1 + r.below(4));
+                let mut fields = vec![left, right, p];
+                (0..p).for_each(|_| fields.extend([r.below(widths[left]), r.below(widths[right])]));
+                fields.push(c);
+                (0..c).for_each(|_| fields.push(r.below(widths[left] + widths[right])));
+                net.extend(record(5, &fields));
+                widths.push(c);
+            }
+            kind => {
+                let twins: Vec<usize> = (0..n).filter(|&j| widths[j] == widths[left]).collect();
+                net.extend(record(kind, &[left, twins[r.below(twins.len())]]));
+                widths.push(widths[left]);
+            }
+        }
+    }
+    net
+}
+
+fn batch(r: &mut Random, net: &Network) -> Vec<u8> {
+    let tables: Vec<usize> = (0..net.nodes.len()).filter(|&i| net.nodes[i].inputs().is_empty()).collect();
+    let (most, top) = if r.one_in(6) { (66, 40) } else { (6, 4) };
+    let mut out = Vec::new();
+    for _ in 0..r.below(most + 1) {
+        let node = tables[r.below(tables.len())];
+        let mut event = record(if r.one_in(3) { 33 } else { 32 }, &[node]);
+        for _ in 0..net.widths[node] {
+            event.extend((r.below(top) as u32).to_le_bytes());
+        }
+        let size = event.len() as u16;
+        event[..2].copy_from_slice(&size.to_le_bytes());
+        out.extend(event);
+    }
+    out
+}
+
+/// One byte changed, bytes cut off or put on.
+fn damage(r: &mut Random, bytes: &mut Vec<u8>) {
+    match r.below(4) {
+        0 if !bytes.is_empty() => {
+            let cut = r.below(bytes.len());
+            bytes.truncate(cut);
+        }
+        1 => bytes.extend((0..1 + r.below(5)).map(|_| r.next() as u8).collect::<Vec<u8>>()),
+        _ if !bytes.is_empty() => {
+            let at = r.below(bytes.len());
+            bytes[at] = if r.one_in(2) { r.next() as u8 } else { r.below(10) as u8 };
+        }
+        _ => {}
+    }
+}
+
+fn verdict(answer: u64) -> Verdict {
+    outcome(answer).map(|_| (0, 0)).unwrap_or_else(|e| (e.number, e.place))
+}
+
+/// Areas lent with some words more than are named, which must stay.
+struct Lent {
+    areas: Areas,
+}
+
+const PAST: u32 = 0xdead_beef;
+
+impl Lent {
+    fn new(a: &Areas) -> Lent {
+        let mut areas = a.clone();
+        for area in [&mut areas.rows, &mut areas.gained, &mut areas.lost, &mut areas.head] {
+            area.extend([PAST; 3]);
+        }
+        Lent { areas }
+    }
+
+    fn raw(&mut self) -> raw::Areas<'_> {
+        let a = &mut self.areas;
+        raw::Areas { rows: &mut a.rows, gained: &mut a.gained, lost: &mut a.lost, head: &mut a.head }
+    }
+
+    fn named(&self) -> Areas {
+        let a = &self.areas;
+        for (area, n) in [(&a.rows, AREA), (&a.gained, AREA), (&a.lost, AREA), (&a.head, HEAD)] {
+            assert_eq!(area[n..], [PAST; 3], "a word past the named ones changed");
+        }
+        Areas { rows: a.rows[..AREA].to_vec(), gained: a.gained[..AREA].to_vec(), lost: a.lost[..AREA].to_vec(), head: a.head[..HEAD].to_vec() }
+    }
+}
+
+fn check(bytes: &[u8], a: &Areas) -> u64 {
+    raw::check(bytes, &a.rows, &a.gained, &a.lost, &a.head)
+}
+
+/// The reader's answer and opening, on any bytes.
+fn reads(bytes: &[u8]) -> Option<Network> {
+    let mut answer = [7; ANSWER];
+    let given = verdict(raw::read(bytes, &mut answer));
+    let mut lent = Lent::new(&Areas { rows: vec![5; AREA], gained: vec![5; AREA], lost: vec![5; AREA], head: vec![5; HEAD] });
+    let before = lent.named();
+    let opened = verdict(raw::open(bytes, &mut lent.raw()));
+    match Network::read(bytes) {
+        Err(refusal) => {
+            assert_eq!((given, opened), (refusal, refusal));
+            assert_eq!(answer, [7; ANSWER], "a refusal wrote");
+            assert!(lent.named() == before, "a refusal wrote");
+            None
+        }
+        Ok(net) => {
+            assert_eq!((given, opened), ((0, 0), (0, 0)));
+            let mut words = [0; ANSWER];
+            words[0] = net.nodes.len() as u32;
+            for i in 0..net.nodes.len() {
+                (words[1 + i], words[33 + i], words[65 + i]) = (net.nodes[i].kind(), net.widths[i] as u32, net.levels[i] as u32);
+            }
+            assert_eq!(answer, words);
+            assert!(lent.named() == Areas::zero());
+            Some(net)
+        }
+    }
+}
+
+/// A batch on areas that hold the station's state, and the calls that only read.
+fn steps(bytes: &[u8], station: &mut Station, batch: &[u8], room: usize) {
+    let mut lent = Lent::new(&station.areas());
+    assert_eq!(verdict(raw::apply(bytes, batch, &mut lent.raw())), station.apply(batch));
+    let after = station.areas();
+    assert!(lent.named() == after, "the areas are not the plain station's");
+    assert_eq!(outcome(check(bytes, &after)), Ok(1));
+    for node in 0..station.net.nodes.len() + 1 {
+        reports(bytes, &station.net, &after, node, room);
+    }
+}
+
+fn reports(bytes: &[u8], net: &Network, a: &Areas, node: usize, room: usize) {
+    let mut out = vec![9; room];
+    let given = outcome(raw::report(bytes, node as u32, &a.rows, &a.gained, &a.lost, &a.head, &mut out));
+    let mut expected = vec![9; room];
+    match a.report(net, node, room) {
+        Err(refusal) => assert_eq!(given.unwrap_err(), bagwezin::Refusal { number: refusal.0, place: refusal.1 }),
+        Ok(text) => {
+            assert_eq!(given, Ok(text.len() as u32));
+            expected[..text.len()].copy_from_slice(&text);
+        }
+    }
+    assert_eq!(out, expected);
+}
+
+/// Areas with a word changed: refusal 8, or what holds of areas of good form.
+fn damaged(r: &mut Random, bytes: &[u8], net: &Network, mut a: Areas, batch: &[u8]) {
+    for _ in 0..1 + r.below(3) {
+        let n = net.nodes.len().max(1);
+        let (area, at) = match r.below(4) {
+            0 => (&mut a.rows, 256 * r.below(n) + r.below(24)),
+            1 => (&mut a.gained, 256 * r.below(n) + r.below(24)),
+            2 => (&mut a.lost, 256 * r.below(n + 1).min(31) + r.below(256)),
+            _ => (&mut a.head, r.below(HEAD)),
+        };
+        area[at] = if r.one_in(12) { u32::MAX } else { r.below(5) as u32 };
+    }
+    let (good, coherent) = (a.good_form(net), a.coherent(net));
+    let given = outcome(check(bytes, &a));
+    let mut lent = Lent::new(&a);
+    let applied = verdict(raw::apply(bytes, batch, &mut lent.raw()));
+    if !good {
+        assert_eq!(given.unwrap_err().number, 8);
+        assert_eq!(applied, (8, 0));
+        assert!(lent.named() == a, "a refusal wrote");
+        return;
+    }
+    assert_eq!(given, Ok(coherent as u32));
+    let mut station = Station::from(net, &a);
+    let expected = station.apply(batch);
+    if coherent || (9..=13).contains(&expected.0) {
+        assert_eq!(applied, expected);
+        assert!(lent.named() == if expected == (0, 0) { station.areas() } else { a });
+    } else {
+        assert!(applied == (0, 0) || applied.0 == 14 && lent.named() == a, "{:?}", applied);
+        lent.named();
+    }
+}
+
+fn round(seed: u64) {
+    let r = &mut Random(seed.wrapping_mul(0x9e37_79b9_7f4a_7c15) | 1);
+    let mut bytes = network(r);
+    if r.one_in(3) {
+        damage(r, &mut bytes);
+    }
+    let Some(net) = reads(&bytes) else { return };
+    let mut station = Station::open(&net);
+    for _ in 0..1 + r.below(8) {
+        let mut events = batch(r, &net);
+        if r.one_in(6) {
+            damage(r, &mut events);
+        }
+        let room = if r.one_in(3) { r.below(60) } else { bagwezin::REPORT };
+        steps(&bytes, &mut station, &events, room);
+        let more = batch(r, &net);
+        damaged(r, &bytes, &net, station.areas(), &more);
+    }
+}
+
+#[test]
+fn the_library_gives_what_the_model_gives() {
+    let number = |name: &str| std::env::var(name).ok().and_then(|x| x.parse::<u64>().ok());
+    let first = number("BAGWEZIN_SEED").unwrap_or(1);
+    let end = Instant::now() + Duration::from_secs(number("BAGWEZIN_SECONDS").unwrap_or(5));
+    let (mut seed, mut told) = (first, Instant::now());
+    while Instant::now() < end {
+        if std::panic::catch_unwind(|| round(seed)).is_err() {
+            panic!("failed with seed {seed}: repeat with BAGWEZIN_SEED={seed}");
+        }
+        seed += 1;
+        if told.elapsed() > Duration::from_secs(10) {
+            println!("seeds {first} to {} agree", seed - 1);
+            told = Instant::now();
+        }
+    }
+    println!("seeds {first} to {} agree", seed - 1);
+    assert!(seed > first + 50, "too few rounds to mean anything");
+}
+
+#[test]
+fn the_last_batch_number_is_refused_by_9() {
+    let bytes = record(1, &[1]);
+    let net = Network::read(&bytes).unwrap();
+    let mut station = Station::open(&net);
+    station.number = u32::MAX - 1;
+    steps(&bytes, &mut station, &[], 10);
+    assert_eq!(station.number, u32::MAX);
+    steps(&bytes, &mut station, &[], 10);
+    steps(&bytes, &mut station, &[1], 10);
+    assert_eq!(station.number, u32::MAX);
+}
+
+#[test]
+fn an_area_that_is_too_short_is_refused_by_1_before_anything_else() {
+    for short in 0..4 {
+        let mut sizes = [AREA, AREA, AREA, HEAD];
+        sizes[short] -= 1;
+        let mut words: Vec<Vec<u32>> = sizes.iter().map(|&n| vec![3; n]).collect();
+        let before = words.clone();
+        let [rows, gained, lost, head] = &mut words[..] else { unreachable!() };
+        let mut a = raw::Areas { rows, gained, lost, head };
+        assert_eq!(verdict(raw::open(&[], &mut a)), (1, 0));
+        assert_eq!(verdict(raw::apply(&[], &[1], &mut a)), (1, 0));
+        assert_eq!(verdict(raw::check(&[], a.rows, a.gained, a.lost, a.head)), (1, 0));
+        assert_eq!(verdict(raw::report(&[], 0, a.rows, a.gained, a.lost, a.head, &mut [])), (1, 0));
+        assert_eq!(words, before);
+    }
+    assert_eq!(verdict(raw::read(&[], &mut [0; ANSWER - 1])), (1, 0));
+}
+
+/// Memory whose last word is followed by a page that stops the test when it is touched.
+mod guarded {
+    extern "C" {
+        fn mmap(at: *mut u8, size: usize, protection: i32, flags: i32, fd: i32, offset: i64) -> *mut u8;
+        fn mprotect(at: *mut u8, size: usize, protection: i32) -> i32;
+    }
+
+    pub fn bytes(size: usize) -> &'static mut [u8] {
+        const PAGE: usize = 4096;
+        let pages = size.div_ceil(PAGE) * PAGE;
+        // SAFETY: a fresh private mapping of zeros that is never unmapped; the slice ends where the guard page begins.
+        unsafe {
+            let start = mmap(std::ptr::null_mut(), pages + PAGE, 3, 0x22, -1, 0);
+            assert!(start as isize > 0 && mprotect(start.add(pages), PAGE, 0) == 0);
+            std::slice::from_raw_parts_mut(start.add(pages - size), size)
+        }
+    }
+
+    pub fn words(n: usize) -> &'static mut [u32] {
+        let b = bytes(4 * n);
+        // SAFETY: aligned, since a page's end is, and as long.
+        unsafe { std::slice::from_raw_parts_mut(b.as_mut_ptr().cast(), n) }
+    }
+}
+
+#[test]
+fn nothing_past_the_lent_memory_is_touched() {
+    let r = &mut Random(77);
+    for _ in 0..20 {
+        let bytes = network(r);
+        let Ok(net) = Network::read(&bytes) else { continue };
+        let lent = guarded::bytes(bytes.len());
+        lent.copy_from_slice(&bytes);
+        let mut a = raw::Areas { rows: guarded::words(AREA), gained: guarded::words(AREA), lost: guarded::words(AREA), head: guarded::words(HEAD) };
+        let answer = guarded::words(ANSWER);
+        assert_eq!(verdict(raw::read(lent, answer)), (0, 0));
+        assert_eq!(verdict(raw::open(lent, &mut a)), (0, 0));
+        let mut station = Station::open(&net);
+        for _ in 0..4 {
+            let events = batch(r, &net);
+            let last = guarded::bytes(events.len());
+            last.copy_from_slice(&events);
+            assert_eq!(verdict(raw::apply(lent, last, &mut a)), station.apply(&events));
+            let named = Areas { rows: a.rows.to_vec(), gained: a.gained.to_vec(), lost: a.lost.to_vec(), head: a.head.to_vec() };
+            assert!(named == station.areas());
+            assert_eq!(outcome(raw::check(lent, a.rows, a.gained, a.lost, a.head)), Ok(1));
+            for node in 0..net.nodes.len() {
+                if let Ok(text) = named.report(&net, node, bagwezin::REPORT) {
+                    let out = guarded::bytes(text.len());
+                    assert_eq!(outcome(raw::report(lent, node as u32, a.rows, a.gained, a.lost, a.head, out)), Ok(text.len() as u32));
+                    assert_eq!(out, &text[..]);
+                }
+            }
+        }
+    }
+}
+
+#[test]
+fn the_wrapper_shows_what_the_paper_shows() {
+    let mut net = record(1, &[2]);
+    net.extend(record(2, &[0, 1, 5, 8, 0]));
+    net.extend(record(4, &[1, 1, 0]));
+    net.extend(record(1, &[1]));
+    net.extend(record(7, &[2, 3]));
+    net.extend(record(9, &[4, 3]));
+    let mut monitor = bagwezin::Monitor::open(&net).unwrap();
+    let put = |node: usize, row: &[u32]| {
+        let mut e = vec![6 + 4 * row.len() as u8, 0, 32, 0, node as u8, 0];
+        row.iter().for_each(|x| e.extend(x.to_le_bytes()));
+        e
+    };
+    let mut first = put(0, &[5, 9]);
+    first.extend(put(0, &[5, 12]));
+    assert_eq!(monitor.apply(&first), Ok(1));
+    assert_eq!(monitor.gained(4).collect::<Vec<_>>(), [[5]]);
+    assert_eq!(monitor.rows(0).collect::<Vec<_>>(), [[5, 9], [5, 12]]);
+    assert_eq!(monitor.worked(), [1, 2, 4]);
+    assert_eq!(monitor.apply(&put(3, &[5])), Ok(2));
+    assert_eq!((monitor.gained(4).count(), monitor.lost(4).collect::<Vec<_>>()), (0, vec![&[5][..]]));
+    assert_eq!(monitor.report(4).unwrap(), [10, 0, 65, 0, 4, 0, 5, 0, 0, 0]);
+    assert_eq!(monitor.check(), Ok(true));
+    assert_eq!(monitor.report(1).unwrap_err().to_string(), "refused 15: the node does not exist or has no watch");
+    assert_eq!(monitor.apply(&[1, 2]).unwrap_err().to_string(), "refused 10 at byte 0: an event record's length is broken");
+    assert_eq!(bagwezin::Monitor::open(&[6, 0, 1, 0, 5, 0]).err().unwrap().number, 7);
+}
