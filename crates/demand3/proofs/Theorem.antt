@@ -110,7 +110,7 @@ module _ (net : Bytes) (accepts : readNetwork net .verdict .number ≡ 0) where
 
 -- ---- opening
 
-open-accepts : (net : Bytes) (a : Areas) → openCall net a .verdict .number ≡ 0 → (longEnough layout a ≡ true) × (readNetwork net .verdict .number ≡ 0)
+pub open-accepts : (net : Bytes) (a : Areas) → openCall net a .verdict .number ≡ 0 → (longEnough layout a ≡ true) × (readNetwork net .verdict .number ≡ 0)
 unfolding openCall openVerdict
 open-accepts net a z = go (longEnough layout a) refl z
   where

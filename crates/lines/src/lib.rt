@@ -74,13 +74,21 @@ fn put_numbers(out: &mut [u8], at: usize, numbers: &[usize]) -> usize
     to
 }
 
-// A line: a word, then numbers, from the first byte on: its length.
+// A line: a word, then numbers, from an offset on: where the bytes after it begin.
+pub fn put_line_at(out: &mut [u8], at: usize, word: &[u8], numbers: &[usize]) -> usize
+    requires { ⌜ at + length (now word) + 21 * length (now numbers) < length (now out) ⌝ }
+    ensures { λ r. ⌜ (now (out .exit) ≡ sets (now (out .entry)) at (line (now (word .entry)) (now (numbers .entry)))) × (r ≡ at + length (line (now (word .entry)) (now (numbers .entry)))) × (r ≤ at + length (now (word .entry)) + 21 * length (now (numbers .entry)) + 1) ⌝ }
+{
+    let from = put_bytes(out, at, word);
+    let end = put_numbers(out, from, numbers);
+    out[end] = 10;
+    end + 1
+}
+
+// A line from the first byte on: its length.
 pub fn put_line(out: &mut [u8], word: &[u8], numbers: &[usize]) -> usize
     requires { ⌜ length (now word) + 21 * length (now numbers) < length (now out) ⌝ }
     ensures { λ r. ⌜ (now (out .exit) ≡ sets (now (out .entry)) 0 (line (now (word .entry)) (now (numbers .entry)))) × (r ≡ length (line (now (word .entry)) (now (numbers .entry)))) × (r ≤ length (now (out .entry))) ⌝ }
 {
-    let from = put_bytes(out, 0, word);
-    let end = put_numbers(out, from, numbers);
-    out[end] = 10;
-    end + 1
+    put_line_at(out, 0, word, numbers)
 }

@@ -59,7 +59,7 @@ module _ (net : Network) (b : Built net) (node : ℕ) (gained lost head : List �
   held-is : (count : ℕ → ℕ) (area : List ℕ) → node < net .count → getD (relationsIn layout (widths (nodesOf net)) count area) node [] ≡ heldIn layout (getD (net .widths) node 0) (count node) area node
   held-is count area h = relation-at (widths (nodesOf net)) count area node (in-widths h) ∙ ap (λ (w : ℕ). heldIn layout w (count node) area node) (width-is net b node h)
 
-  change-at : node < net .count → changeAt (changesIn layout (nodesOf net) (lent [] gained lost head)) node ≡ changeIn net node gained lost head
+  pub change-at : node < net .count → changeAt (changesIn layout (nodesOf net) (lent [] gained lost head)) node ≡ changeIn net node gained lost head
   unfolding changesIn
   change-at h =
       zip-at (relationsIn layout (widths (nodesOf net)) (gainedCount head) gained) (relationsIn layout (widths (nodesOf net)) (lostCount head) lost) node (rw (relations-length (widths (nodesOf net)) (gainedCount head) gained) (in-widths h)) (rw (relations-length (widths (nodesOf net)) (lostCount head) lost) (in-widths h))

@@ -96,7 +96,7 @@ fn put_records(
 }
 
 // Whether a watch's sign allows gained rows.
-fn allows_gained(sign: usize) -> bool
+pub fn allows_gained(sign: usize) -> bool
     ensures { λ r. ⌜ r ≡ allowsGained sign ⌝ }
 {
     if sign == 1 {
@@ -106,7 +106,7 @@ fn allows_gained(sign: usize) -> bool
 }
 
 // Whether a watch's sign allows lost rows.
-fn allows_lost(sign: usize) -> bool
+pub fn allows_lost(sign: usize) -> bool
     ensures { λ r. ⌜ r ≡ allowsLost sign ⌝ }
 {
     if sign == 2 {

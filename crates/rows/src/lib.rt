@@ -83,19 +83,18 @@ pub fn clear_run(words: &mut [u32], from: usize, to: usize)
     }
 }
 
-// Whether the words from index from up to index to are all 0.
+// Whether the words from index from up to index to are all 0: their bits are gathered, with no test at each word.
 pub fn all_zero(words: &[u32], from: usize, to: usize) -> bool
     requires { ⌜ (from ≤ to) × (to ≤ length (now words)) ⌝ }
     ensures { λ r. ⌜ r ≡ allZero (slice from to (now (words .entry))) ⌝ }
 {
+    let mut bits = 0u32;
     let mut k = from;
     while k < to {
-        if words[k] != 0 {
-            return false;
-        }
+        bits |= words[k];
         k += 1;
     }
-    true
+    bits == 0
 }
 
 // Whether the first count words of a and of b are the same.

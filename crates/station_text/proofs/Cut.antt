@@ -19,11 +19,10 @@ module _ (file : Bytes) (start : ℕ) where
   -- the search so far: no mark yet
   pub record Seeking (at : ℕ) : Type 0 where
     pub from : start ≤ at
-    pub inside : at ≤ length file
     pub same : piecesOn file start ≡ piecesFrom file start (remaining file at)
 
-  pub seek-start : start ≤ length file → Seeking start
-  seek-start h = record { from = le-refl start; inside = h; same = refl }
+  pub seek-start : Seeking start
+  seek-start = record { from = le-refl start; same = refl }
 
   module _ (at : ℕ) (s : Seeking at) (h : at < length file) where
     pub cut-broken : isBroken file at ≡ true → piecesOn file start ≡ broken (at - start) ∷ []
@@ -45,7 +44,7 @@ module _ (file : Bytes) (start : ℕ) where
 
       pub cut-on : isMark file at ≡ false → (next : ℕ) → next ≡ at + lengthAt file at → Seeking next
       unfolding piecesFrom
-      cut-on m next e = rw e (record { from = omega (arith, s .from); inside = omega (arith, whole-here .inside); same = here ∙ rw (w, m) refl })
+      cut-on m next e = rw e (record { from = omega (arith, s .from); same = here ∙ rw (w, m) refl })
 
   pub cut-unfinished : (at : ℕ) → Seeking at → length file ≤ at → start < length file → piecesOn file start ≡ unfinished ∷ []
   unfolding piecesFrom

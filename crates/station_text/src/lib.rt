@@ -1,11 +1,29 @@
-// The station program's file of batches: where each batch ends.
+// The station program's text: where each batch of its file ends, and the lines that it prints.
 ghost use mathlib.Core.Path.{_≡_};
-ghost use mathlib.Core.Bool.{Bool, true, false};
-ghost use Prim.Native.Nat.{ℕ, _+_, _≤_, _<_};
+ghost use mathlib.Core.Bool.{Bool, true, false, cond};
+ghost use mathlib.Core.List.{_++_, _∷_, [], flatMap};
+ghost use Prim.Native.Nat.{ℕ, _+_, _*_, _≤_, _<_};
 ghost use lib.ListN.{length};
+ghost use lib.Seq.{sets};
+ghost use Rattle.model.specs.Row.{numbersBelow};
 ghost use Rattle.model.specs.Record.{isBroken};
-ghost use Rattle.model.specs.Text.{isMark};
+ghost use Rattle.model.specs.Areas.{layout, fields, heldIn, padded, stateIn};
+ghost use Rattle.model.specs.Text.{isMark, line, changeLines, batchLines, refusedLine};
+ghost use Rattle.network.specs.Reading.{Built, networkOf, nodesOf};
+ghost use Rattle.areas.specs.Lent.{lent};
+ghost use Rattle.monitor.specs.Promises.{Changes};
 ghost use Rattle.station_text.specs.Pieces.{Next};
+ghost use Rattle.station_text.specs.Lines.{Put, linesIn, watchLines};
+use areas::GAINED;
+use areas::LOST;
+use areas::PLACE;
+use network::Network;
+use rows::STRIDE;
+
+// The signs of gained and of lost rows.
+const PLUS: u8 = 43;
+
+const MINUS: u8 = 45;
 
 // The mark's length and kind.
 const MARK_SIZE: usize = 4;
@@ -32,9 +50,8 @@ fn is_mark(file: &[u8], at: usize) -> bool
     records::u16_at(file, at + 2) == MARK
 }
 
-// The piece of a file that starts at an offset: the mark is looked for by record lengths.
+// The piece of a file that starts at an offset, past the end none: the mark is looked for by record lengths.
 pub fn next_piece(file: &[u8], start: usize) -> Piece
-    requires { ⌜ start ≤ length (now file) ⌝ }
     ensures { λ r. ⌜ Next (now (file .entry)) start r ⌝ }
 {
     let mut at = start;
@@ -52,4 +69,163 @@ pub fn next_piece(file: &[u8], start: usize) -> Piece
         return Piece::Unfinished;
     }
     Piece::End
+}
+
+// The numbers of a changed row's line: the node, then the row's fields, then zeros.
+fn change_numbers(node: usize, words: &[u32], from: usize, w: usize) -> [usize; 5]
+    requires { ⌜ (w ≤ 4) × (from + w ≤ length (now words)) ⌝ }
+    ensures { λ r. ⌜ r ≡ padded 5 (node ∷ fields w (now (words .entry)) from) ⌝ }
+{
+    let mut numbers = [0usize; 5];
+    numbers[0] = node;
+    let mut k = 0;
+    while k < w {
+        numbers[k + 1] = words[from + k] as usize;
+        k += 1;
+    }
+    numbers
+}
+
+// The line of a changed row, from an offset on: where the bytes after it begin.
+fn put_change(
+    out: &mut [u8],
+    at: usize,
+    sign: u8,
+    node: usize,
+    words: &[u32],
+    from: usize,
+    w: usize,
+) -> usize
+    requires { ⌜ (w ≤ 4) × (from + w ≤ length (now words)) × (at + 107 ≤ length (now out)) ⌝ }
+    ensures { λ r. ⌜ (now (out .exit) ≡ sets (now (out .entry)) at (line (sign ∷ []) (node ∷ fields w (now (words .entry)) from))) × (r ≡ at + length (line (sign ∷ []) (node ∷ fields w (now (words .entry)) from))) × (r ≤ at + 107) ⌝ }
+{
+    let numbers = change_numbers(node, words, from, w);
+    lines::put_line_at(out, at, &[sign], &numbers[..w + 1])
+}
+
+// The lines of the rows in a node's place, from an offset on: where the bytes after them begin.
+fn put_changes(
+    out: &mut [u8],
+    at: usize,
+    sign: u8,
+    node: usize,
+    area: &[u32],
+    n: usize,
+    w: usize,
+) -> usize
+    requires { ⌜ (w ≤ 4) × (n ≤ 64) × (node < 32) × (8192 ≤ length (now area)) × (at + 107 * n ≤ length (now out)) ⌝ }
+    ensures { λ r. ⌜ (now (out .exit) ≡ sets (now (out .entry)) at (changeLines sign node (heldIn layout w n (now (area .entry)) node))) × (r ≡ at + length (changeLines sign node (heldIn layout w n (now (area .entry)) node))) × (r ≤ at + 107 * n) ⌝ }
+{
+    let mut to = at;
+    let mut j = 0;
+    while j < n {
+        to = put_change(out, to, sign, node, area, node * PLACE + j * STRIDE, w);
+        j += 1;
+    }
+    to
+}
+
+// The lines of the rows in a node's place, where they are allowed: where the bytes after them begin.
+fn put_allowed(
+    allowed: bool,
+    out: &mut [u8],
+    at: usize,
+    sign: u8,
+    node: usize,
+    area: &[u32],
+    n: usize,
+    w: usize,
+) -> usize
+    requires { ⌜ (w ≤ 4) × (n ≤ 64) × (node < 32) × (8192 ≤ length (now area)) × (at + 107 * n ≤ length (now out)) ⌝ }
+    ensures { λ r. ⌜ (now (out .exit) ≡ sets (now (out .entry)) at (cond allowed (changeLines sign node (heldIn layout w n (now (area .entry)) node)) [])) × (r ≡ at + length (cond allowed (changeLines sign node (heldIn layout w n (now (area .entry)) node)) [])) × (r ≤ at + 107 * n) ⌝ }
+{
+    if allowed {
+        return put_changes(out, at, sign, node, area, n, w);
+    }
+    at
+}
+
+// The lines of a node from an offset on, as its watch's sign allows: where the bytes after them begin.
+fn put_node(
+    out: &mut [u8],
+    at: usize,
+    sign: usize,
+    node: usize,
+    w: usize,
+    gained: &[u32],
+    g: usize,
+    lost: &[u32],
+    l: usize,
+) -> usize
+    requires { ⌜ (w ≤ 4) × (g ≤ 64) × (l ≤ 64) × (node < 32) × (8192 ≤ length (now gained)) × (8192 ≤ length (now lost)) × (at + 13696 ≤ length (now out)) ⌝ }
+    ensures { λ r. ⌜ Put (watchLines sign node (record { gained = heldIn layout w g (now (gained .entry)) node; lost = heldIn layout w l (now (lost .entry)) node })) 13696 at (now (out .entry)) (now (out .exit)) r ⌝ }
+{
+    let more = reports::allows_gained(sign);
+    let less = reports::allows_lost(sign);
+    let to = put_allowed(more, out, at, PLUS, node, gained, g, w);
+    put_allowed(less, out, to, MINUS, node, lost, l, w)
+}
+
+// The lines of a node of a network from an offset on: where the bytes after them begin.
+fn put_watched(
+    out: &mut [u8],
+    at: usize,
+    network: Network,
+    node: usize,
+    gained: &[u32],
+    lost: &[u32],
+    head: &[u32],
+) -> usize
+    requires { ⌜ Built network × Changes network (now gained) (now lost) (now head) × (node < network .count) × (at + 13696 ≤ length (now out)) ⌝ }
+    ensures { λ r. ⌜ Put (linesIn network (now (gained .entry)) (now (lost .entry)) (now (head .entry)) node) 13696 at (now (out .entry)) (now (out .exit)) r ⌝ }
+{
+    let sign = network.signs[node];
+    let w = network.widths[node];
+    let g = head[GAINED + node] as usize;
+    let l = head[LOST + node] as usize;
+    put_node(out, at, sign, node, w, gained, g, lost, l)
+}
+
+// The lines of a network's nodes, ascending, from an offset on: where the bytes after them begin.
+fn put_nodes(
+    out: &mut [u8],
+    at: usize,
+    network: Network,
+    gained: &[u32],
+    lost: &[u32],
+    head: &[u32],
+) -> usize
+    requires { ⌜ Built network × Changes network (now gained) (now lost) (now head) × (at + 438272 ≤ length (now out)) ⌝ }
+    ensures { λ r. ⌜ Put (flatMap (linesIn network (now (gained .entry)) (now (lost .entry)) (now (head .entry))) (numbersBelow (network .count))) 438272 at (now (out .entry)) (now (out .exit)) r ⌝ }
+{
+    let mut to = at;
+    let mut node = 0;
+    while node < network.count {
+        to = put_watched(out, to, network, node, gained, lost, head);
+        node += 1;
+    }
+    to
+}
+
+// The lines of an accepted batch from the first byte on: their length.
+pub fn put_batch(
+    out: &mut [u8],
+    network: Network,
+    gained: &[u32],
+    lost: &[u32],
+    head: &[u32],
+) -> usize
+    requires { ⌜ Built network × Changes network (now gained) (now lost) (now head) × (438304 ≤ length (now out)) ⌝ }
+    ensures { λ r. ⌜ Put (batchLines (networkOf network) (stateIn layout (nodesOf network) (lent [] (now (gained .entry)) (now (lost .entry)) (now (head .entry))))) 438304 0 (now (out .entry)) (now (out .exit)) r ⌝ }
+{
+    let at = lines::put_line_at(out, 0, b"batch", &[head[0] as usize]);
+    put_nodes(out, at, network, gained, lost, head)
+}
+
+// The line of a refusal from the first byte on: its length.
+pub fn put_refused(out: &mut [u8], number: usize, place: usize) -> usize
+    requires { ⌜ 50 ≤ length (now out) ⌝ }
+    ensures { λ r. ⌜ Put (refusedLine number place) 50 0 (now (out .entry)) (now (out .exit)) r ⌝ }
+{
+    lines::put_line_at(out, 0, b"refused", &[number, place])
 }

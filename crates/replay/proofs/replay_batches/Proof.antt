@@ -24,7 +24,7 @@ loop-holds : tie.Need-loop-holds Inv-loop μ-loop
 loop-holds c = let a = (c .before .before .before .before .before .before .args) in (replay-start (a .net .now) (a .file .now) (lent (a .rows .now) (a .gained .now) (a .lost .now) (a .head .now)), refl, refl, refl, refl)
 
 next-piece-requires : tie.Need-next-piece-requires Inv-loop μ-loop
-next-piece-requires c κs = c .before .loop .inv .0 .inside
+next-piece-requires c κs = search needs
 
 enum-known-end : tie.Need-enum-known-end Inv-loop μ-loop
 enum-known-end c = search needs

@@ -18,7 +18,7 @@ abbrev μ-loop : tie.MeasureT-loop
 μ-loop file start at₀ at = length file - at
 
 loop-holds : tie.Need-loop-holds Inv-loop μ-loop
-loop-holds c = let a = (c .before .args) in seek-start (a .file .now) (a .start) (c .before .pre)
+loop-holds c = let a = (c .before .args) in seek-start (a .file .now) (a .start)
 
 is-broken-requires : tie.Need-is-broken-requires Inv-loop μ-loop
 is-broken-requires c κs = omega (arith, c .loop-test .taken)

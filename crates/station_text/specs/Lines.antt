@@ -1,0 +1,29 @@
+-- The lines of a batch, written into lent bytes.
+use mathlib.Core.Path.{_≡_}
+use mathlib.Core.Bool.{cond}
+use mathlib.Core.List.{List, _++_, []}
+use Prim.Native.Nat.{ℕ, _+_, _≤_}
+use lib.ListN.{length}
+use lib.Seq.{sets}
+use Rattle.model.specs.Record.{Bytes}
+use Rattle.model.specs.Delta.{Change}
+use Rattle.model.specs.Calls.{allowsGained, allowsLost}
+use Rattle.model.specs.Areas.{layout, changesIn}
+use Rattle.model.specs.Text.{changeLines, nodeLines}
+use Rattle.areas.specs.Lent.{lent}
+use Rattle.network.specs.declared.Network.{Network}
+use Rattle.network.specs.Reading.{networkOf, nodesOf}
+
+-- a text is written from an offset on, no other byte changes, and the answer is where the bytes after it begin
+pub record Put (text : Bytes) (most at : ℕ) (before after : Bytes) (r : ℕ) : Type 0 where
+  pub bytes : after ≡ sets before at text
+  pub next : r ≡ at + length text
+  pub short : r ≤ at + most
+
+-- a node's lines, as its watch's sign allows: "gained first"
+abbrev pub watchLines : ℕ → ℕ → Change → Bytes
+watchLines sign node change = cond (allowsGained sign) (changeLines 43 node (change .gained)) [] ++ cond (allowsLost sign) (changeLines 45 node (change .lost)) []
+
+-- a node's lines, from the areas
+abbrev pub linesIn : Network → List ℕ → List ℕ → List ℕ → ℕ → Bytes
+linesIn net gained lost head node = nodeLines (networkOf net) (changesIn layout (nodesOf net) (lent [] gained lost head)) node
