@@ -1,14 +1,14 @@
 // Networks read from bytes: refusals 2 to 7.
 ghost use mathlib.Core.Path.{_≡_};
-ghost use mathlib.Core.List.{List, map};
+ghost use mathlib.Core.List.{map};
 ghost use Prim.Native.Nat.{ℕ, _+_, _*_, _≤_, _<_, max};
 ghost use lib.ListN.{length, getD, take};
-ghost use Rattle.model.specs.Network.{nodeItem, watchItem, noNetwork, refusedReading, kindOf};
+ghost use Rattle.model.specs.Network.{noNetwork, refusedReading, kindOf};
 ghost use Rattle.model.specs.Record.{fieldsAt};
 ghost use Rattle.model.specs.Areas.{padded};
 ghost use Rattle.model.specs.Calls.{readCall};
-ghost use Rattle.nodes.specs.Nodes.{nodeAt, NodeFits, broughtBy};
-ghost use Rattle.network.specs.Reading.{ReadsNetwork, slotNode, Shaped, InputsBelow, widthIn, levelIn, Built, Extends, NextSlot, Follows, nodesOf, networkOf, readingOf, answerOf};
+ghost use Rattle.nodes.specs.Nodes.{nodeAt, NodeFits};
+ghost use Rattle.network.specs.Reading.{ReadsNetwork, slotNode, Shaped, InputsBelow, widthIn, levelIn, Built, nodesOf, networkOf, readingOf, answerOf};
 use nodes::Item;
 use nodes::MAX_NODES;
 use nodes::MAX_WIDTH;
@@ -163,54 +163,7 @@ pub fn refused_reading(number: usize, place: usize) -> Reading
     }
 }
 
-// The network with a watch on one of its nodes.
-fn with_watch(net: Network, node: usize, sign: usize) -> Network
-    requires { ⌜ Built net × (node < net .count) ⌝ }
-    ensures { λ r. ⌜ Extends net (watchItem (record { node = node; sign = sign })) r ⌝ }
-{
-    let mut next = net;
-    next.signs[node] = sign;
-    next
-}
-
-// The network with one node more.
-fn with_slot(net: Network, slot: Slot, width: usize, level: usize) -> Network
-    requires { ⌜ NextSlot net slot width level ⌝ }
-    ensures { λ r. ⌜ Extends net (nodeItem (slotNode slot)) r ⌝ }
-{
-    let mut next = net;
-    let count = net.count;
-    next.slots[count] = slot;
-    next.widths[count] = width;
-    next.levels[count] = level;
-    next.count = count + 1;
-    next
-}
-
-// The network with the node of the record at an offset.
-fn with_node(net: Network, bytes: &[u8], at: usize, node: Node) -> Network
-    requires { ⌜ Built net × (net .count < 32) × NodeFits node (net .count) (now bytes) at ⌝ }
-    ensures { λ r. ⌜ Extends net (nodeItem (nodeAt node (now (bytes .entry)) at)) r ⌝ }
-{
-    let count = net.count;
-    let slot = slot_at(bytes, at, node, count);
-    let width = width_of(node, &net.widths);
-    let level = level_of(node, &net.levels);
-    with_slot(net, slot, width, level)
-}
-
-// The network with what the record at an offset brings.
-fn with_item(net: Network, bytes: &[u8], at: usize, item: Item) -> Network
-    requires { ⌜ Built net × Follows item net (now bytes) at ⌝ }
-    ensures { λ r. ⌜ Extends net (broughtBy item (now (bytes .entry)) at) r ⌝ }
-{
-    match item {
-        Item::Node(node) => with_node(net, bytes, at, node),
-        Item::Watch(node, sign) => with_watch(net, node, sign),
-    }
-}
-
-// A network from its bytes: refusals 2 to 7.
+// A network from its bytes: refusals 2 to 7. It is built in place, so that no record copies it.
 pub fn read_network(bytes: &[u8]) -> Reading
     ensures { λ r. ⌜ ReadsNetwork (now (bytes .entry)) r ⌝ }
 {
@@ -226,8 +179,21 @@ pub fn read_network(bytes: &[u8]) -> Reading
         let Record::Item(item) = reading else {
             return refused_reading(nodes::number_of(reading), here);
         };
-        net = with_item(net, bytes, here, item);
         at = here + records::u16_at(bytes, here);
+        match item {
+            Item::Node(node) => {
+                let slot = slot_at(bytes, here, node, count);
+                let width = width_of(node, &net.widths);
+                let level = level_of(node, &net.levels);
+                net.slots[count] = slot;
+                net.widths[count] = width;
+                net.levels[count] = level;
+                net.count = count + 1;
+            }
+            Item::Watch(node, sign) => {
+                net.signs[node] = sign;
+            }
+        }
     }
     Reading {
         verdict: Verdict {
