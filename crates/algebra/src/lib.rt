@@ -43,8 +43,8 @@ fn passes(input: &[u32], i: usize, column: usize, code: usize, operand: Operand)
     let at = i * STRIDE;
     let left = input[at + column];
     match operand {
-        Operand::Constant(value) => nodes::holds(code, compare_values(left, value)),
-        Operand::Column(other) => nodes::holds(code, compare_values(left, input[at + other])),
+        Operand::Constant(value) => comparisons::holds(code, compare_values(left, value)),
+        Operand::Column(other) => comparisons::holds(code, compare_values(left, input[at + other])),
     }
 }
 
@@ -77,7 +77,7 @@ pub fn select_rows(
         let at = i;
         i += 1;
         if passes(input, at, column, code, operand) {
-            rows::copy_run(input, at * STRIDE, out, count * STRIDE, STRIDE);
+            words::copy_run(input, at * STRIDE, out, count * STRIDE, STRIDE);
             count += 1;
         }
     }
@@ -102,7 +102,7 @@ fn keep_rows(
         let at = i;
         i += 1;
         if contains(right, m, left, at) == wanted {
-            rows::copy_run(left, at * STRIDE, out, count * STRIDE, STRIDE);
+            words::copy_run(left, at * STRIDE, out, count * STRIDE, STRIDE);
             count += 1;
         }
     }
@@ -142,7 +142,7 @@ pub fn union_rows(left: &[u32], n: usize, right: &[u32], m: usize, out: &mut [u3
     requires { ⌜ (n * stride ≤ length (now left)) × (m ≤ 64) × (m * stride ≤ length (now right)) × (ascending (firstRows (now right) m) ≡ true) × Blank (now out) ⌝ }
     ensures { λ r. ⌜ ((w : ℕ) → Place w (now (left .entry)) n → Place w (now (right .entry)) m → Makes (unionRows (relationIn w (now (left .entry)) n) (relationIn w (now (right .entry)) m)) (now (out .exit)) r) ⌝ }
 {
-    rows::copy_run(right, 0, out, 0, m * STRIDE);
+    words::copy_run(right, 0, out, 0, m * STRIDE);
     let mut count = m;
     let mut i = n;
     while 0 < i {

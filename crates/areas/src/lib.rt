@@ -65,7 +65,7 @@ fn good_place(area: &[u32], i: usize, width: usize, count: usize) -> bool
     if !rows::good_rows(place, count, width) {
         return false;
     }
-    rows::all_zero(place, count * STRIDE, PLACE)
+    words::all_zero(place, count * STRIDE, PLACE)
 }
 
 // Whether the place of a number past the last node has 0 throughout.

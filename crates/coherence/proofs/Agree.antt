@@ -13,7 +13,8 @@ use Rattle.model.specs.Row.{Relation, sameRow, sameRows}
 use Rattle.network.specs.declared.Slot.{Slot}
 use Rattle.rows.proofs.Words.{Wide}
 use Rattle.rows.proofs.Checked.{bool-same, placed-rows, place-length}
-use Rattle.rows.specs.Rows.{firstRows, sameFirst}
+use Rattle.rows.specs.Rows.{firstRows}
+use Rattle.words.specs.Runs.{sameFirst}
 use Rattle.rows.proofs.Place.{held-wide, length-held}
 use Rattle.model.specs.Areas.{layout, placeOf, rowCount}
 use Rattle.evaluation.specs.Derived.{leftOf, rightOf}

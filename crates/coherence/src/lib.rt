@@ -69,7 +69,7 @@ fn rows_agree(slot: Slot, widths: &[usize], rows: &[u32], head: &[u32], i: usize
             if head[COUNTS + i] as usize != count {
                 return false;
             }
-            rows::same_words(&rows[i * PLACE..i * PLACE + PLACE], &out, PLACE)
+            words::same_words(&rows[i * PLACE..i * PLACE + PLACE], &out, PLACE)
         }
     }
 }

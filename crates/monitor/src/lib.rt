@@ -26,10 +26,10 @@ fn clear(rows: &mut [u32], gained: &mut [u32], lost: &mut [u32], head: &mut [u32
     requires { ⌜ longEnough layout (lent (now rows) (now gained) (now lost) (now head)) ≡ true ⌝ }
     ensures { λ _. ⌜ lent (now (rows .exit)) (now (gained .exit)) (now (lost .exit)) (now (head .exit)) ≡ cleared layout (lent (now (rows .entry)) (now (gained .entry)) (now (lost .entry)) (now (head .entry))) ⌝ }
 {
-    rows::clear_run(rows, 0, AREA);
-    rows::clear_run(gained, 0, AREA);
-    rows::clear_run(lost, 0, AREA);
-    rows::clear_run(head, 0, HEAD);
+    words::clear_run(rows, 0, AREA);
+    words::clear_run(gained, 0, AREA);
+    words::clear_run(lost, 0, AREA);
+    words::clear_run(head, 0, HEAD);
 }
 
 // Opens the areas for a network: refusals 1 to 7, or every named word set to 0.

@@ -1,4 +1,3 @@
 pub mod Lists
 pub mod Body
 pub mod ByKind
-pub mod Truth

@@ -1,15 +1,12 @@
-// Nodes and the records that bring them: rules 3 to 7 on each record, by its kind, and comparisons.
+// Nodes and the records that bring them: rules 3 to 7 on each record, by its kind.
 ghost use mathlib.Core.Path.{_≡_};
 ghost use mathlib.Core.Bool.{Bool, true, false};
 ghost use mathlib.Core.List.{List};
 ghost use Prim.Native.Nat.{ℕ, _+_, _*_, _≤_, _<_};
 ghost use lib.ListN.{length, take};
-ghost use Rattle.model.specs.Algebra.{holdsOf};
 ghost use Rattle.model.specs.Network.{columnsBelow, pairsBelow, pairsAt, projectShape, joinShape, kindNumbered, tableKind, selectConstantKind, selectColumnKind, projectKind, joinKind, setKind, watchKind, kindOf};
 ghost use Rattle.model.specs.Record.{fieldsAt, isBroken};
-ghost use Rattle.rows.specs.Rows.{orderOf};
 ghost use Rattle.nodes.specs.Nodes.{ReadsBody, ReadsRecord, selectFits, Narrow, operationOf, nodeOf, numberOf};
-use rows::Order;
 
 // The most fields of a row, and the most nodes of a network.
 pub const MAX_WIDTH: usize = 4;
@@ -370,48 +367,6 @@ pub fn kind_of(node: Node) -> usize
             SetOperation::Difference => 7,
             SetOperation::Intersection => 8,
         },
-    }
-}
-
-// ---- comparisons
-
-// What each code says of less, equal and greater, in that order.
-const COMPARISONS: [u8; 18] = [
-    // 0 equal
-    0,
-    1,
-    0,
-    // 1 unequal
-    1,
-    0,
-    1,
-    // 2 less
-    1,
-    0,
-    0,
-    // 3 at most
-    1,
-    1,
-    0,
-    // 4 greater
-    0,
-    0,
-    1,
-    // 5 at least
-    0,
-    1,
-    1,
-];
-
-// Whether the comparison of a code holds of two fields with that outcome.
-pub fn holds(code: usize, outcome: Order) -> bool
-    requires { ⌜ code < 6 ⌝ }
-    ensures { λ r. ⌜ r ≡ holdsOf code (orderOf outcome) ⌝ }
-{
-    match outcome {
-        Order::Less => COMPARISONS[3 * code] == 1,
-        Order::Equal => COMPARISONS[3 * code + 1] == 1,
-        Order::Greater => COMPARISONS[3 * code + 2] == 1,
     }
 }
 

@@ -13,7 +13,7 @@ use Rattle.algebra.specs.Places.{Place, relationIn, Fills}
 use Rattle.model.specs.Row.{Relation, sameRows, ascending, place}
 use Rattle.coherence.proofs.Agree.{sizes-differ, places-decide}
 use Rattle.algebra.proofs.Places.{place-count, place-wide, place-few, place-is}
-use Rattle.rows.specs.Rows.{sameFirst}
+use Rattle.words.specs.Runs.{sameFirst}
 use Rattle.rows.proofs.Words.{Wide}
 use Rattle.model.proofs.Sets.{Ascending, and-both, ascending-true}
 use Rattle.model.specs.Areas.{goodPlace, placeOf, layout, heldIn, unusedZero}

@@ -50,12 +50,12 @@ fn work_table(
     ensures { λ r. ⌜ Makes (foldRows (now (bytes .entry)) table width (offsets (now (bytes .entry))) (relationIn width (placeAt (now (rows .entry)) table) n)) (now (out .exit)) r ⌝ }
 {
     let mut words = [0u32; FOLDED];
-    rows::copy_run(rows, table * PLACE, &mut words, 0, n * STRIDE);
+    words::copy_run(rows, table * PLACE, &mut words, 0, n * STRIDE);
     let count = tables::fold(&mut words, n, bytes, table, width);
     if CAPACITY < count {
         return Made::Over;
     }
-    rows::copy_run(&words, 0, out, 0, PLACE);
+    words::copy_run(&words, 0, out, 0, PLACE);
     Made::Rows(count)
 }
 
@@ -119,7 +119,7 @@ fn differs(new: &[u32], n: usize, rows: &[u32], i: usize, m: usize) -> bool
     if n != m {
         return true;
     }
-    !rows::same_words(new, &rows[i * PLACE..i * PLACE + PLACE], PLACE)
+    !words::same_words(new, &rows[i * PLACE..i * PLACE + PLACE], PLACE)
 }
 
 // The rows of a place put as node i's new rows, with their count; whether they are others than the old ones, and then the rows in the working rows.
@@ -141,7 +141,7 @@ fn put_node(
         return;
     }
     changed[i] = true;
-    rows::copy_run(out, 0, work, i * PLACE, PLACE);
+    words::copy_run(out, 0, work, i * PLACE, PLACE);
 }
 
 // Node i's rows, of a level, worked in an empty place: how many, or that they are more than 64.

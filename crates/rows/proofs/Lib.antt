@@ -1,5 +1,4 @@
 pub mod Words
-pub mod Runs
 pub mod Search
 pub mod Form
 pub mod Edit

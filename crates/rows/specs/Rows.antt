@@ -103,10 +103,6 @@ goodRow w r l = allZero (drop w r) && belowFirst (take w r) (map (take w) l)
 unfoldable pub goodRows : ℕ → List Row → Bool
 goodRows w l = ascending (map (take w) l) && allOf (λ r. allZero (drop w r)) l
 
--- the first so many words are the same
-abbrev pub sameFirst : ℕ → List ℕ → List ℕ → Bool
-sameFirst count a b = sameRow (take count a) (take count b)
-
 -- ---- rows in words that were 0
 
 -- at most so many rows stand in so many words that were 0, with their count

@@ -6,8 +6,8 @@ ghost use Prim.Native.Nat.{ℕ, _+_, _*_, _-_, _<_, _≤_};
 ghost use lib.ListN.{length, take, drop, replicate};
 ghost use lib.Seq.{paste, slice};
 ghost use Rattle.model.specs.Row.{order, ascending};
-ghost use Rattle.model.specs.Areas.{fields, allZero};
-ghost use Rattle.rows.specs.Rows.{stride, rowAt, firstRows, orderOf, rowsFrom, locate, Inserts, Removes, goodRow, goodRows, sameFirst};
+ghost use Rattle.model.specs.Areas.{fields};
+ghost use Rattle.rows.specs.Rows.{stride, rowAt, firstRows, orderOf, rowsFrom, locate, Inserts, Removes, goodRow, goodRows};
 
 // How many words a row takes.
 pub const STRIDE: usize = 4;
@@ -59,66 +59,13 @@ pub fn compare_rows(a: &[u32], i: usize, b: &[u32], j: usize) -> Order
     compare_fields(a, i * STRIDE, b, j * STRIDE, STRIDE)
 }
 
-// The words of src from index from on, count of them, written to dst from index to on.
-pub fn copy_run(src: &[u32], from: usize, dst: &mut [u32], to: usize, count: usize)
-    requires { ⌜ (from + count ≤ length (now src)) × (to + count ≤ length (now dst)) ⌝ }
-    ensures { λ _. ⌜ now (dst .exit) ≡ paste (now (dst .entry)) to (drop from (now (src .entry))) count ⌝ }
-{
-    let mut k = 0;
-    while k < count {
-        dst[to + k] = src[from + k];
-        k += 1;
-    }
-}
-
-// The words from index from up to index to set to 0.
-pub fn clear_run(words: &mut [u32], from: usize, to: usize)
-    requires { ⌜ (from ≤ to) × (to ≤ length (now words)) ⌝ }
-    ensures { λ _. ⌜ now (words .exit) ≡ paste (now (words .entry)) from (replicate (to - from) 0) (to - from) ⌝ }
-{
-    let mut k = from;
-    while k < to {
-        words[k] = 0;
-        k += 1;
-    }
-}
-
-// Whether the words from index from up to index to are all 0: their bits are gathered, with no test at each word.
-pub fn all_zero(words: &[u32], from: usize, to: usize) -> bool
-    requires { ⌜ (from ≤ to) × (to ≤ length (now words)) ⌝ }
-    ensures { λ r. ⌜ r ≡ allZero (slice from to (now (words .entry))) ⌝ }
-{
-    let mut bits = 0u32;
-    let mut k = from;
-    while k < to {
-        bits |= words[k];
-        k += 1;
-    }
-    bits == 0
-}
-
-// Whether the first count words of a and of b are the same.
-pub fn same_words(a: &[u32], b: &[u32], count: usize) -> bool
-    requires { ⌜ (count ≤ length (now a)) × (count ≤ length (now b)) ⌝ }
-    ensures { λ r. ⌜ r ≡ sameFirst count (now (a .entry)) (now (b .entry)) ⌝ }
-{
-    let mut k = 0;
-    while k < count {
-        if a[k] != b[k] {
-            return false;
-        }
-        k += 1;
-    }
-    true
-}
-
 // Row j of some words, by value.
 pub fn read_row(words: &[u32], j: usize) -> [u32; STRIDE]
     requires { ⌜ j * stride + stride ≤ length (now words) ⌝ }
     ensures { λ r. ⌜ r ≡ rowAt stride (now (words .entry)) j ⌝ }
 {
     let mut row = [0u32; STRIDE];
-    copy_run(words, j * STRIDE, &mut row, 0, STRIDE);
+    words::copy_run(words, j * STRIDE, &mut row, 0, STRIDE);
     row
 }
 
@@ -127,7 +74,7 @@ pub fn write_row(words: &mut [u32], j: usize, row: [u32; STRIDE])
     requires { ⌜ j * stride + stride ≤ length (now words) ⌝ }
     ensures { λ _. ⌜ now (words .exit) ≡ paste (now (words .entry)) (j * stride) row stride ⌝ }
 {
-    copy_run(&row, 0, words, j * STRIDE, STRIDE);
+    words::copy_run(&row, 0, words, j * STRIDE, STRIDE);
 }
 
 // Where row at of src stands among the first n rows, which ascend, or where it belongs.
@@ -191,7 +138,7 @@ pub fn insert(words: &mut [u32], n: usize, src: &[u32], at: usize, capacity: usi
                 return Inserted::Full;
             }
             open_gap(words, p * STRIDE, n * STRIDE);
-            copy_run(src, at * STRIDE, words, p * STRIDE, STRIDE);
+            words::copy_run(src, at * STRIDE, words, p * STRIDE, STRIDE);
             Inserted::New
         }
     }
@@ -207,7 +154,7 @@ pub fn remove(words: &mut [u32], n: usize, src: &[u32], at: usize) -> bool
         Found::At(p) => {
             let end = n * STRIDE;
             close_gap(words, p * STRIDE, end);
-            clear_run(words, end - STRIDE, end);
+            words::clear_run(words, end - STRIDE, end);
             true
         }
     }
@@ -220,7 +167,7 @@ fn good_row(words: &[u32], n: usize, j: usize, width: usize) -> bool
 {
     let at = j * STRIDE;
     let next = at + STRIDE;
-    if !all_zero(words, at + width, next) {
+    if !words::all_zero(words, at + width, next) {
         return false;
     }
     if n <= j + 1 {

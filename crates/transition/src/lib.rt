@@ -42,7 +42,7 @@ fn write_difference(
 {
     let mut out = [0u32; PLACE];
     let count = algebra::difference_rows(left, n, right, m, &mut out);
-    rows::copy_run(&out, 0, area, i * PLACE, PLACE);
+    words::copy_run(&out, 0, area, i * PLACE, PLACE);
     count
 }
 
@@ -51,7 +51,7 @@ fn clear_place(area: &mut [u32], i: usize, count: usize)
     requires { ⌜ (i < 32) × (8192 ≤ length (now area)) × (count ≤ 64) ⌝ }
     ensures { λ _. ⌜ ((w : ℕ) → Place w (placeAt (now (area .entry)) i) count → now (area .exit) ≡ placed (now (area .entry)) i []) ⌝ }
 {
-    rows::clear_run(area, i * PLACE, i * PLACE + count * STRIDE);
+    words::clear_run(area, i * PLACE, i * PLACE + count * STRIDE);
 }
 
 // How many rows a node gained and lost.
@@ -77,7 +77,7 @@ fn write_change(
     let end = at + PLACE;
     let g = write_difference(&work[at..end], n, &rows[at..end], m, gained, i);
     let l = write_difference(&rows[at..end], m, &work[at..end], n, lost, i);
-    rows::copy_run(work, at, rows, at, PLACE);
+    words::copy_run(work, at, rows, at, PLACE);
     Sizes { gained: g, lost: l }
 }
 
@@ -257,12 +257,12 @@ fn write_head(
     ensures { λ _. ⌜ now (head .exit) ≡ over (headFrom number (now (counts .entry)) (now (stamps .entry)) (now (gains .entry)) (now (losses .entry)) k (now (entries .entry))) (now (head .entry)) ⌝ }
 {
     head[0] = number;
-    rows::copy_run(counts, 0, head, COUNTS, NODES);
-    rows::copy_run(stamps, 0, head, STAMPS, NODES);
-    rows::copy_run(gains, 0, head, GAINED, NODES);
-    rows::copy_run(losses, 0, head, LOST, NODES);
+    words::copy_run(counts, 0, head, COUNTS, NODES);
+    words::copy_run(stamps, 0, head, STAMPS, NODES);
+    words::copy_run(gains, 0, head, GAINED, NODES);
+    words::copy_run(losses, 0, head, LOST, NODES);
     head[WORKED] = k as u32;
-    rows::copy_run(entries, 0, head, WORKED + 1, NODES);
+    words::copy_run(entries, 0, head, WORKED + 1, NODES);
 }
 
 // The state after an accepted batch, written over the one before, once every node's new rows are worked out.

@@ -13,7 +13,7 @@ use Rattle.algebra.proofs.keep_rows.Tie as tie
 use Rattle.algebra.proofs.keep_rows.Reads as reads
 use Rattle.algebra.proofs.keep_rows.Lts as lts
 use Rattle.algebra.proofs.contains.Reads as contains-reads
-use Rattle.rows.proofs.copy_run.Reads as copy-run-reads
+use Rattle.words.proofs.copy_run.Reads as copy-run-reads
 
 abbrev Inv-loop : tie.InvT-loop
 Inv-loop left n right m wanted out₀ count₀ i₀ out count i = (i ≤ n) × Kept (λ x. Bool·beq (member x (firstRows right m)) wanted) left i out count

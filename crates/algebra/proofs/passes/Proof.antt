@@ -11,7 +11,7 @@ use Rattle.algebra.proofs.passes.Tie as tie
 use Rattle.algebra.proofs.passes.Reads as reads
 use Rattle.algebra.proofs.passes.Lts as lts
 use Rattle.algebra.proofs.compare_values.Reads as compare-values-reads
-use Rattle.nodes.proofs.holds.Reads as holds-reads
+use Rattle.comparisons.proofs.holds.Reads as holds-reads
 
 mul-at : tie.Need-mul-at
 mul-at c = search needs

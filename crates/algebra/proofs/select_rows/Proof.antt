@@ -13,7 +13,7 @@ use Rattle.algebra.proofs.select_rows.Tie as tie
 use Rattle.algebra.proofs.select_rows.Reads as reads
 use Rattle.algebra.proofs.select_rows.Lts as lts
 use Rattle.algebra.proofs.passes.Reads as passes-reads
-use Rattle.rows.proofs.copy_run.Reads as copy-run-reads
+use Rattle.words.proofs.copy_run.Reads as copy-run-reads
 
 abbrev Inv-loop : tie.InvT-loop
 Inv-loop input n column code operand out₀ count₀ i₀ out count i = (i ≤ n) × Kept (passesRow column code (operandOf operand)) input i out count

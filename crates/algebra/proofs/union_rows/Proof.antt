@@ -17,7 +17,7 @@ use Rattle.algebra.proofs.union_rows.Tie as tie
 use Rattle.algebra.proofs.union_rows.Reads as reads
 use Rattle.algebra.proofs.union_rows.Lts as lts
 use Rattle.algebra.proofs.put_row.Reads as put-row-reads
-use Rattle.rows.proofs.copy_run.Reads as copy-run-reads
+use Rattle.words.proofs.copy_run.Reads as copy-run-reads
 
 abbrev Inv-loop : tie.InvT-loop
 Inv-loop left n right m out₀ count₀ i₀ out count i = (i ≤ n) × (length out ≡ 256) × Stands (putFrom alone (firstRows right m) left n i) out count

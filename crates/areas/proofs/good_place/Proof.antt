@@ -11,7 +11,7 @@ use Rattle.areas.specs.Lent.{placeAt}
 use Rattle.areas.proofs.good_place.Tie as tie
 use Rattle.areas.proofs.good_place.Reads as reads
 use Rattle.areas.proofs.good_place.Lts as lts
-use Rattle.rows.proofs.all_zero.Reads as all-zero-reads
+use Rattle.words.proofs.all_zero.Reads as all-zero-reads
 use Rattle.rows.proofs.good_rows.Reads as good-rows-reads
 
 returns : tie.Need-returns

@@ -8,7 +8,7 @@ use Rattle.coherence.proofs.rows_agree.Tie as tie
 use Rattle.coherence.proofs.rows_agree.Reads as reads
 use Rattle.coherence.proofs.rows_agree.Lts as lts
 use Rattle.coherence.proofs.evaluate_held.Reads as evaluate-held-reads
-use Rattle.rows.proofs.same_words.Reads as same-words-reads
+use Rattle.words.proofs.same_words.Reads as same-words-reads
 
 slice-aggregate-evaluate-held : tie.Need-slice-aggregate-evaluate-held
 slice-aggregate-evaluate-held c = search needs

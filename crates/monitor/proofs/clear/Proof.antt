@@ -8,7 +8,7 @@ use Rattle.areas.proofs.Good.{long-parts}
 use Rattle.monitor.proofs.clear.Tie as tie
 use Rattle.monitor.proofs.clear.Reads as reads
 use Rattle.monitor.proofs.clear.Lts as lts
-use Rattle.rows.proofs.clear_run.Reads as clear-run-reads
+use Rattle.words.proofs.clear_run.Reads as clear-run-reads
 
 clear-run-requires : tie.Need-clear-run-requires
 clear-run-requires c κs = let a = c .before .before .before .before .before .args in let long = long-parts (a .rows .now) (a .gained .now) (a .lost .now) (a .head .now) (c .before .before .before .before .before .pre) in (omega arith, long .0)

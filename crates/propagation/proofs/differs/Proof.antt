@@ -9,7 +9,7 @@ use Rattle.areas.proofs.Pasted.{place-long}
 use Rattle.propagation.proofs.differs.Tie as tie
 use Rattle.propagation.proofs.differs.Reads as reads
 use Rattle.propagation.proofs.differs.Lts as lts
-use Rattle.rows.proofs.same_words.Reads as same-words-reads
+use Rattle.words.proofs.same_words.Reads as same-words-reads
 
 returns : tie.Need-returns
 returns c = let a = c .before .before .before .args in λ w p q. place-counts w (a .new .now) (a .n) (placeAt (a .rows .now) (a .i)) (a .m) p q (c .if1 .taken)

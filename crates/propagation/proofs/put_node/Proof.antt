@@ -7,7 +7,7 @@ use Rattle.propagation.proofs.put_node.Tie as tie
 use Rattle.propagation.proofs.put_node.Reads as reads
 use Rattle.propagation.proofs.put_node.Lts as lts
 use Rattle.propagation.proofs.differs.Reads as differs-reads
-use Rattle.rows.proofs.copy_run.Reads as copy-run-reads
+use Rattle.words.proofs.copy_run.Reads as copy-run-reads
 
 cast-counts : tie.Need-cast-counts
 cast-counts c = search needs

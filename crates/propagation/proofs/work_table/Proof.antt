@@ -9,7 +9,7 @@ use Rattle.propagation.proofs.Folding.{table-ready, after-over, after-f
 use Rattle.propagation.proofs.work_table.Tie as tie
 use Rattle.propagation.proofs.work_table.Reads as reads
 use Rattle.propagation.proofs.work_table.Lts as lts
-use Rattle.rows.proofs.copy_run.Reads as copy-run-reads
+use Rattle.words.proofs.copy_run.Reads as copy-run-reads
 use Rattle.tables.proofs.fold.Reads as fold-reads
 
 mul-copy-run : tie.Need-mul-copy-run

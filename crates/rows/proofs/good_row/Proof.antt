@@ -10,7 +10,7 @@ use Rattle.rows.proofs.good_row.Statement.{statement}
 use Rattle.rows.proofs.good_row.Tie as tie
 use Rattle.rows.proofs.good_row.Reads as reads
 use Rattle.rows.proofs.good_row.Lts as lts
-use Rattle.rows.proofs.all_zero.Reads as all-zero-reads
+use Rattle.words.proofs.all_zero.Reads as all-zero-reads
 use Rattle.rows.proofs.compare_fields.Reads as compare-fields-reads
 
 mul-at : tie.Need-mul-at

@@ -16,7 +16,7 @@ use Rattle.rows.proofs.insert.Statement.{statement}
 use Rattle.rows.proofs.insert.Tie as tie
 use Rattle.rows.proofs.insert.Reads as reads
 use Rattle.rows.proofs.insert.Lts as lts
-use Rattle.rows.proofs.copy_run.Reads as copy-run-reads
+use Rattle.words.proofs.copy_run.Reads as copy-run-reads
 use Rattle.rows.proofs.find.Reads as find-reads
 use Rattle.rows.proofs.open_gap.Reads as open-gap-reads
 

@@ -11,7 +11,7 @@ use Rattle.rows.proofs.read_row.Statement.{statement}
 use Rattle.rows.proofs.read_row.Tie as tie
 use Rattle.rows.proofs.read_row.Reads as reads
 use Rattle.rows.proofs.read_row.Lts as lts
-use Rattle.rows.proofs.copy_run.Reads as copy-run-reads
+use Rattle.words.proofs.copy_run.Reads as copy-run-reads
 
 mul-copy-run : tie.Need-mul-copy-run
 mul-copy-run c = search needs

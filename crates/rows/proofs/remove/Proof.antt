@@ -16,7 +16,7 @@ use Rattle.rows.proofs.remove.Statement.{statement}
 use Rattle.rows.proofs.remove.Tie as tie
 use Rattle.rows.proofs.remove.Reads as reads
 use Rattle.rows.proofs.remove.Lts as lts
-use Rattle.rows.proofs.clear_run.Reads as clear-run-reads
+use Rattle.words.proofs.clear_run.Reads as clear-run-reads
 use Rattle.rows.proofs.close_gap.Reads as close-gap-reads
 use Rattle.rows.proofs.find.Reads as find-reads
 

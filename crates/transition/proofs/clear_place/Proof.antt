@@ -5,7 +5,7 @@ use Rattle.transition.proofs.Filled.{placed-none}
 use Rattle.transition.proofs.clear_place.Tie as tie
 use Rattle.transition.proofs.clear_place.Reads as reads
 use Rattle.transition.proofs.clear_place.Lts as lts
-use Rattle.rows.proofs.clear_run.Reads as clear-run-reads
+use Rattle.words.proofs.clear_run.Reads as clear-run-reads
 
 mul-clear-run : tie.Need-mul-clear-run
 mul-clear-run c = search needs

@@ -7,7 +7,7 @@ use Rattle.transition.proofs.Filled.{placed-from}
 use Rattle.transition.proofs.write_change.Tie as tie
 use Rattle.transition.proofs.write_change.Reads as reads
 use Rattle.transition.proofs.write_change.Lts as lts
-use Rattle.rows.proofs.copy_run.Reads as copy-run-reads
+use Rattle.words.proofs.copy_run.Reads as copy-run-reads
 use Rattle.transition.proofs.write_difference.Reads as write-difference-reads
 
 mul-at : tie.Need-mul-at

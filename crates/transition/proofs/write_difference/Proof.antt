@@ -9,7 +9,7 @@ use Rattle.transition.proofs.write_difference.Tie as tie
 use Rattle.transition.proofs.write_difference.Reads as reads
 use Rattle.transition.proofs.write_difference.Lts as lts
 use Rattle.algebra.proofs.difference_rows.Reads as difference-rows-reads
-use Rattle.rows.proofs.copy_run.Reads as copy-run-reads
+use Rattle.words.proofs.copy_run.Reads as copy-run-reads
 
 slice-aggregate-difference-rows : tie.Need-slice-aggregate-difference-rows
 slice-aggregate-difference-rows c = search needs

@@ -6,7 +6,7 @@ use Rattle.transition.proofs.Listing.{head-written}
 use Rattle.transition.proofs.write_head.Tie as tie
 use Rattle.transition.proofs.write_head.Reads as reads
 use Rattle.transition.proofs.write_head.Lts as lts
-use Rattle.rows.proofs.copy_run.Reads as copy-run-reads
+use Rattle.words.proofs.copy_run.Reads as copy-run-reads
 
 slice-write-head : tie.Need-slice-write-head
 slice-write-head c = search needs

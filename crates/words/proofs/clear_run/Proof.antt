@@ -2,13 +2,13 @@ use mathlib.Core.Path.{_≡_, refl, _∙_}
 use Prim.Native.Nat.{_≤_, _-_}
 use lib.ListN.{length, length-set, replicate}
 use lib.Seq.{paste, paste-zero}
-use Rattle.rows.proofs.Runs.{clear-turn}
+use Rattle.words.proofs.Runs.{clear-turn}
 use native.Mathlib.Omega.{arith}
 use borrow.Author.Needs.{needs}
-use Rattle.rows.proofs.clear_run.Statement.{statement}
-use Rattle.rows.proofs.clear_run.Tie as tie
-use Rattle.rows.proofs.clear_run.Reads as reads
-use Rattle.rows.proofs.clear_run.Lts as lts
+use Rattle.words.proofs.clear_run.Statement.{statement}
+use Rattle.words.proofs.clear_run.Tie as tie
+use Rattle.words.proofs.clear_run.Reads as reads
+use Rattle.words.proofs.clear_run.Lts as lts
 
 abbrev Inv-loop : tie.InvT-loop
 Inv-loop words₀ from to k₀ words k = (from ≤ k) × (k ≤ to) × (length words ≡ length words₀) × (words ≡ paste words₀ from (replicate (to - from) 0) (k - from))

@@ -2,13 +2,13 @@ use mathlib.Core.Path.{_≡_, refl, sym, ap, _∙_}
 use Prim.Native.Nat.{_*_, _+_, Ordering·lt, Ordering·eq, Ordering·gt}
 use Rattle.model.specs.Algebra.{holdsOf}
 use Rattle.rows.specs.Rows.{orderOf}
-use Rattle.nodes.proofs.Truth.{truth}
+use Rattle.comparisons.proofs.Truth.{truth}
 use native.Mathlib.Omega.{arith}
 use borrow.Author.Needs.{needs}
-use Rattle.nodes.proofs.holds.Statement.{statement}
-use Rattle.nodes.proofs.holds.Tie as tie
-use Rattle.nodes.proofs.holds.Reads as reads
-use Rattle.nodes.proofs.holds.Lts as lts
+use Rattle.comparisons.proofs.holds.Statement.{statement}
+use Rattle.comparisons.proofs.holds.Tie as tie
+use Rattle.comparisons.proofs.holds.Reads as reads
+use Rattle.comparisons.proofs.holds.Lts as lts
 
 enum-told : tie.Need-enum-told
 enum-told c = search needs

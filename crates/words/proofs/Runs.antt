@@ -13,7 +13,7 @@ use borrow.Author.Tests.{eqb-false, eqb-true, ne-eqb}
 use Rattle.model.specs.Row.{order, sameRow, andThen}
 use Rattle.model.specs.Areas.{allZero}
 use Rattle.model.proofs.Order.{eq-compare, compare-says}
-use Rattle.rows.specs.Rows.{sameFirst}
+use Rattle.words.specs.Runs.{sameFirst}
 
 -- ---- copying
 

@@ -2,13 +2,13 @@ use mathlib.Core.Path.{_≡_, refl, _∙_}
 use Prim.Native.Nat.{_≤_, _-_}
 use lib.ListN.{length, length-set, drop}
 use lib.Seq.{paste, paste-zero}
-use Rattle.rows.proofs.Runs.{copy-turn}
+use Rattle.words.proofs.Runs.{copy-turn}
 use native.Mathlib.Omega.{arith}
 use borrow.Author.Needs.{needs}
-use Rattle.rows.proofs.copy_run.Statement.{statement}
-use Rattle.rows.proofs.copy_run.Tie as tie
-use Rattle.rows.proofs.copy_run.Reads as reads
-use Rattle.rows.proofs.copy_run.Lts as lts
+use Rattle.words.proofs.copy_run.Statement.{statement}
+use Rattle.words.proofs.copy_run.Tie as tie
+use Rattle.words.proofs.copy_run.Reads as reads
+use Rattle.words.proofs.copy_run.Lts as lts
 
 abbrev Inv-loop : tie.InvT-loop
 Inv-loop src from dst₀ to count k₀ dst k = (k ≤ count) × (length dst ≡ length dst₀) × (dst ≡ paste dst₀ to (drop from src) k)

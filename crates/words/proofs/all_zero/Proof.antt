@@ -1,11 +1,11 @@
-use Rattle.rows.proofs.all_zero.Statement.{statement}
+use Rattle.words.proofs.all_zero.Statement.{statement}
 use native.Mathlib.Omega.{arith}
 use mathlib.Core.Path.{refl}
 use Prim.Native.Nat.{_≤_, _-_}
-use Rattle.rows.proofs.Runs.{ZeroTo, zero-more, zero-all}
-use Rattle.rows.proofs.all_zero.Tie as tie
-use Rattle.rows.proofs.all_zero.Reads as reads
-use Rattle.rows.proofs.all_zero.Lts as lts
+use Rattle.words.proofs.Runs.{ZeroTo, zero-more, zero-all}
+use Rattle.words.proofs.all_zero.Tie as tie
+use Rattle.words.proofs.all_zero.Reads as reads
+use Rattle.words.proofs.all_zero.Lts as lts
 
 abbrev Inv-loop : tie.InvT-loop
 Inv-loop words from to bits₀ k₀ bits k = (from ≤ k) × (k ≤ to) × ZeroTo words from to bits k

@@ -1,12 +1,12 @@
 use mathlib.Core.Path.{_≡_, refl, sym, _∙_}
 use Prim.Native.Nat.{_≤_, _-_}
-use Rattle.rows.proofs.Runs.{SameTo, same-more, same-not, same-all}
+use Rattle.words.proofs.Runs.{SameTo, same-more, same-not, same-all}
 use native.Mathlib.Omega.{arith}
 use borrow.Author.Needs.{needs}
-use Rattle.rows.proofs.same_words.Statement.{statement}
-use Rattle.rows.proofs.same_words.Tie as tie
-use Rattle.rows.proofs.same_words.Reads as reads
-use Rattle.rows.proofs.same_words.Lts as lts
+use Rattle.words.proofs.same_words.Statement.{statement}
+use Rattle.words.proofs.same_words.Tie as tie
+use Rattle.words.proofs.same_words.Reads as reads
+use Rattle.words.proofs.same_words.Lts as lts
 
 abbrev Inv-loop : tie.InvT-loop
 Inv-loop a b count k₀ k = (k ≤ count) × SameTo a b count k

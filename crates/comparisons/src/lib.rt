@@ -1,0 +1,46 @@
+// Comparisons of two fields, by their codes.
+ghost use mathlib.Core.Path.{_≡_};
+ghost use Prim.Native.Nat.{ℕ, _<_};
+ghost use Rattle.model.specs.Algebra.{holdsOf};
+ghost use Rattle.rows.specs.Rows.{orderOf};
+use rows::Order;
+
+// What each code says of less, equal and greater, in that order.
+const COMPARISONS: [u8; 18] = [
+    // 0 equal
+    0,
+    1,
+    0,
+    // 1 unequal
+    1,
+    0,
+    1,
+    // 2 less
+    1,
+    0,
+    0,
+    // 3 at most
+    1,
+    1,
+    0,
+    // 4 greater
+    0,
+    0,
+    1,
+    // 5 at least
+    0,
+    1,
+    1,
+];
+
+// Whether the comparison of a code holds of two fields with that outcome.
+pub fn holds(code: usize, outcome: Order) -> bool
+    requires { ⌜ code < 6 ⌝ }
+    ensures { λ r. ⌜ r ≡ holdsOf code (orderOf outcome) ⌝ }
+{
+    match outcome {
+        Order::Less => COMPARISONS[3 * code] == 1,
+        Order::Equal => COMPARISONS[3 * code + 1] == 1,
+        Order::Greater => COMPARISONS[3 * code + 2] == 1,
+    }
+}
