@@ -10,7 +10,7 @@
 //! ```
 //!
 //! A join names the pairs and the columns that it gives: `join day = catches blocks on block = block give left.block right.owner`.
-//! Batches: `put catches 5 9`, `remove sprays 5`, and `end` after each batch.
+//! Batches: `put catches 5 9`, `remove sprays 5`, and `end` after each batch. Both are taken apart again by `disassemble` and `events`.
 pub mod draw;
 
 /// What is wrong with a line of text.
@@ -261,6 +261,31 @@ impl Network {
         }
         if last >= 4 && out[last - 4..] != [4, 0, 34, 0] {
             return Err(Problem { line: text.lines().count(), text: "the last batch has no 'end'".into() });
+        }
+        Ok(out)
+    }
+
+    /// The text of a file of batches, with the network's names. What is wrong is told with its offset.
+    pub fn events(&self, bytes: &[u8]) -> Result<String, String> {
+        let (mut out, mut at) = (String::new(), 0);
+        while at < bytes.len() {
+            let field = |k: usize| bytes[at + 2 * k] as usize + 256 * bytes[at + 2 * k + 1] as usize;
+            let left = bytes.len() - at;
+            if left < 4 || field(0) < 4 || field(0) > left {
+                return Err(format!("offset {at}: a record of a broken length"));
+            }
+            let (size, kind) = (field(0), field(1));
+            match kind {
+                34 if size == 4 => out += "end\n",
+                32 | 33 if size >= 6 => {
+                    let table = self.nodes.get(field(2)).filter(|n| n.table && size == 6 + 4 * n.columns.len());
+                    let n = table.ok_or(format!("offset {at}: an event that fits no table of the network"))?;
+                    let row: String = (0..n.columns.len()).map(|k| format!(" {}", field(3 + 2 * k) + 65536 * field(4 + 2 * k))).collect();
+                    out += &format!("{} {}{row}\n", if kind == 32 { "put" } else { "remove" }, n.name);
+                }
+                _ => return Err(format!("offset {at}: a record of kind {kind} and {size} bytes, neither an event nor the mark")),
+            }
+            at += size;
         }
         Ok(out)
     }

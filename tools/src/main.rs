@@ -2,10 +2,11 @@
 use bagwezin_tools::{draw, Network};
 
 const USAGE: &str = "usage:
-  bagwezin-tools network TEXT OUT.bin            a network from its text
-  bagwezin-tools batches NETWORK-TEXT TEXT OUT.bin   a file of batches from its text
-  bagwezin-tools text IN.bin                     the text of a network
-  bagwezin-tools draw NETWORK-TEXT OUT.svg       a picture of a network";
+  bagwezin-tools network TEXT OUT.bin                  a network from its text
+  bagwezin-tools batches NETWORK-TEXT TEXT OUT.bin     a file of batches from its text
+  bagwezin-tools text IN.bin                           the text of a network
+  bagwezin-tools events NETWORK-TEXT IN.bin            the text of a file of batches
+  bagwezin-tools draw NETWORK-TEXT OUT.svg [AREAS.bin] a picture of a network, with the rows and last changes in a station's areas";
 
 fn run(args: &[String]) -> Result<(), String> {
     let read = |p: &str| std::fs::read_to_string(p).map_err(|e| format!("{p}: {e}"));
@@ -19,7 +20,17 @@ fn run(args: &[String]) -> Result<(), String> {
             print!("{}", Network::disassemble(&bytes).ok_or(format!("{bin}: not an accepted network"))?);
             Ok(())
         }
+        ["events", text, bin] => {
+            let bytes = std::fs::read(bin).map_err(|e| format!("{bin}: {e}"))?;
+            print!("{}", assembled(text)?.events(&bytes).map_err(|e| format!("{bin}: {e}"))?);
+            Ok(())
+        }
         ["draw", text, out] => write(out, draw::svg(&assembled(text)?, None).as_bytes()),
+        ["draw", text, out, areas] => {
+            let (net, bytes) = (assembled(text)?, std::fs::read(areas).map_err(|e| format!("{areas}: {e}"))?);
+            let held = draw::held(&net, &bytes).map_err(|e| format!("{areas}: {e}"))?;
+            write(out, draw::svg(&net, Some(&held)).as_bytes())
+        }
         _ => Err(USAGE.into()),
     }
 }

@@ -49,11 +49,43 @@ fn bad_text_is_told_with_its_line() {
 }
 
 #[test]
+fn events_taken_apart_and_put_together_give_the_same_bytes() {
+    let net = Network::assemble(N).unwrap();
+    let text = "put catches 5 9\nremove catches 4294967295 65536\nend\nend\nput sprays 7\nend\n";
+    let bytes = net.batches(text).unwrap();
+    assert_eq!(net.events(&bytes).unwrap(), text);
+    assert_eq!(net.events(&bytes[..15]).unwrap_err(), "offset 14: a record of a broken length");
+    assert_eq!(net.events(&[8, 0, 32, 0, 1, 0, 0, 0]).unwrap_err(), "offset 0: an event that fits no table of the network");
+    assert_eq!(net.events(&[4, 0, 35, 0]).unwrap_err(), "offset 0: a record of kind 35 and 4 bytes, neither an event nor the mark");
+}
+
+#[test]
 fn the_picture_shows_every_node_edge_and_watch() {
     let net = Network::assemble(N).unwrap();
-    let picture = draw::svg(&net, Some(&[(2, 1, 0), (2, 1, 0), (1, 0, 0), (0, 0, 0), (1, 0, 0)]));
+    let picture = draw::svg(&net, None);
     assert_eq!(picture.matches("<path").count(), 4);
     assert_eq!(picture.matches("rx=\"6\"").count(), 5);
     assert_eq!(picture.matches("level ").count(), 4);
-    assert!(picture.contains("watched: gained and lost") && picture.contains("2 rows, +1 -0") && picture.contains("count &gt;= 8"));
+    assert!(picture.contains("watched: gained and lost") && picture.contains("count &gt;= 8") && !picture.contains(" rows, "));
+}
+
+#[test]
+fn the_picture_shows_rows_and_last_changes_of_areas() {
+    let net = Network::assemble(N).unwrap();
+    let mut words = vec![0u32; 3 * 8192 + 162];
+    let head = 3 * 8192;
+    (words[head + 1], words[head + 65], words[head + 97]) = (2, 1, 1);
+    words[..6].copy_from_slice(&[5, 9, 0, 0, 5, 12]);
+    words[8192..8194].copy_from_slice(&[5, 12]);
+    words[2 * 8192..2 * 8192 + 2].copy_from_slice(&[6, 1]);
+    let bytes: Vec<u8> = words.iter().flat_map(|w| w.to_le_bytes()).collect();
+    let held = draw::held(&net, &bytes).unwrap();
+    assert_eq!(held[0], draw::Held { rows: vec![vec![5, 9], vec![5, 12]], gained: vec![vec![5, 12]], lost: vec![vec![6, 1]] });
+    assert_eq!(held[4], draw::Held::default());
+    let picture = draw::svg(&net, Some(&held));
+    assert!(picture.contains("2 rows, +1 \u{2212}1") && picture.contains("+ 5 12<") && picture.contains("\u{2212} 6 1<") && picture.contains("\u{a0} 5 9<"));
+    assert!(draw::held(&net, &bytes[4..]).unwrap_err().starts_with("areas have 98952 bytes"));
+    words[head + 1] = 65;
+    let bytes: Vec<u8> = words.iter().flat_map(|w| w.to_le_bytes()).collect();
+    assert!(draw::held(&net, &bytes).unwrap_err().contains("above 64"));
 }

@@ -116,6 +116,23 @@ pub fn outcome(answer: u64) -> Result<u32, Refusal> {
     }
 }
 
+/// The batches of a file, each ended by a record of length 4 and kind 34; a broken length, or records without a mark, end the list.
+pub fn batches(file: &[u8]) -> Vec<&[u8]> {
+    let (mut out, mut start, mut at) = (Vec::new(), 0, 0);
+    while at + 4 <= file.len() {
+        let size = file[at] as usize + 256 * file[at + 1] as usize;
+        if size < 4 {
+            break;
+        }
+        if file[at..at + 4] == [4, 0, 34, 0] {
+            out.push(&file[start..at]);
+            start = at + 4;
+        }
+        at += size;
+    }
+    out
+}
+
 /// A network with its areas.
 #[derive(Clone)]
 pub struct Monitor {
@@ -190,6 +207,11 @@ impl Monitor {
     /// The rows that a node lost in the last batch, ascending.
     pub fn lost(&self, node: usize) -> impl Iterator<Item = &[u32]> {
         self.place(&self.lost, 97, node)
+    }
+
+    /// The areas' words: rows, gained, lost and head, one after the other.
+    pub fn words(&self) -> impl Iterator<Item = &u32> {
+        [&self.rows, &self.gained, &self.lost, &self.head].into_iter().flatten()
     }
 
     fn place<'a>(&'a self, area: &'a [u32], counts: usize, node: usize) -> impl Iterator<Item = &'a [u32]> {

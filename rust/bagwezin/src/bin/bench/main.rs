@@ -6,27 +6,13 @@ use std::hint::black_box;
 use std::time::Instant;
 
 use bagwezin::model::{Network, Station};
-use bagwezin::{outcome, raw, AREA, HEAD};
+use bagwezin::{batches, outcome, raw, AREA, HEAD};
 use workloads::Workload;
 
 mod workloads;
 
 /// How often a workload is run; medians are told.
 const REPEATS: usize = 11;
-
-/// The batches of a file, each ended by a record of length 4 and kind 34.
-fn batches(file: &[u8]) -> Vec<&[u8]> {
-    let (mut out, mut start, mut at) = (Vec::new(), 0, 0);
-    while at + 4 <= file.len() {
-        let size = file[at] as usize + 256 * file[at + 1] as usize;
-        if file[at..at + 4] == [4, 0, 34, 0] {
-            out.push(&file[start..at]);
-            start = at + 4;
-        }
-        at += size;
-    }
-    out
-}
 
 fn median(mut times: Vec<f64>) -> f64 {
     times.sort_by(f64::total_cmp);
