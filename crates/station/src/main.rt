@@ -4,7 +4,7 @@ ghost use Prim.Native.Nat.{ℕ, _≤_};
 ghost use lib.ListN.{length};
 ghost use Rattle.model.specs.Calls.{openCall};
 ghost use Rattle.areas.specs.Lent.{lent};
-ghost use Rattle.session.specs.Says.{Ready};
+ghost use Rattle.program.specs.Says.{Ready};
 use areas::AREA;
 use areas::HEAD;
 use libc::STDOUT_FILENO;
@@ -46,7 +46,7 @@ fn run(
     let mut start = 0;
     let mut more = true;
     while more {
-        let said = session::next_lines(net, file, start, rows, gained, lost, head, out);
+        let said = program::next_lines(net, file, start, rows, gained, lost, head, out);
         let size = said.size;
         io::write_all(STDOUT_FILENO, &out[..size]);
         start = said.next;
@@ -79,14 +79,14 @@ fn print_files(
 fn main() {
     let mut net = [0u8; ABOVE];
     let mut file = [0u8; ABOVE];
-    let mut out = [0u8; session::ROOM];
+    let mut out = [0u8; program::ROOM];
     let mut rows = [0u32; AREA];
     let mut gained = [0u32; AREA];
     let mut lost = [0u32; AREA];
     let mut head = [0u32; HEAD];
     let n = read_file(b"network.bin", &mut net);
     let m = read_file(b"batch.bin", &mut file);
-    if !session::has_input(n, m) {
+    if !program::has_input(n, m) {
         io::write_all(STDOUT_FILENO, b"no input\n");
         return;
     }

@@ -1,13 +1,15 @@
 -- Lines of changed rows, and of a batch. Assumes nothing.
 use Prim.Native.Nat.{ℕ, _<_, _+_, _≤_, _*_}
-use mathlib.Core.Bool.{Bool, cond}
+use mathlib.Core.Bool.{Bool, cond, false, true}
 use mathlib.Core.List.{List, _∷_, _++_, flatMap, [], append-assoc, append-nil}
 use mathlib.Core.Path.{_≡_, ap₂, _∙_, ap, sym, refl}
 use native.Mathlib.Nat.{zero-add}
 use native.Mathlib.Numerals.{add-one}
 use native.Mathlib.Omega.{arith}
 use lib.ListN.{getD, set, take, length, length-append}
+use lib.Dec.{leb}
 use lib.Seq.{sets, getD-take}
+use borrow.Author.Tests.{leb-false, leb-true}
 use Rattle.model.specs.Row.{countFrom, numbersBelow}
 use Rattle.model.specs.Delta.{Change}
 use Rattle.model.specs.Areas.{padded, fields, heldIn, layout, stateIn}
@@ -25,7 +27,7 @@ use Rattle.reports.proofs.Bytes.{held-more}
 use Rattle.transition.proofs.Listing.{count-more}
 use Rattle.monitor.specs.Promises.{changeIn}
 use Rattle.monitor.proofs.Reported.{change-at}
-use Rattle.station_text.specs.Lines.{Put, watchLines, linesIn}
+use Rattle.station_text.specs.Lines.{Put, PutIfRoom, watchLines, linesIn}
 
 -- one field more of a row
 pub numbers-more : (node k : ℕ) (words : List ℕ) (from : ℕ) (numbers : List ℕ) (x : ℕ) → k < 4 → numbers ≡ padded 5 (node ∷ fields k words from) → x ≡ getD words (from + k) 0 → set numbers (k + 1) x ≡ padded 5 (node ∷ fields (k + 1) words from)
@@ -119,3 +121,15 @@ put-more text more m n most at h out before after to r p q =
 -- the same text, and a greater bound
 pub put-all : (text all : List ℕ) (m most at : ℕ) (out after : List ℕ) (r : ℕ) → Put text m at out after r → text ≡ all → m ≤ most → Put all most at out after r
 put-all text all m most at out after r p e h = record { bytes = p .bytes ∙ ap (sets out at) e; next = omega (arith, p .next, ap length e); short = omega (arith, p .short, h) }
+
+-- ---- where there may be no room
+
+pub room-whole : (text : List ℕ) (most : ℕ) (before after : List ℕ) (r : ℕ) → PutIfRoom text most before after r → most ≤ length before → Put text most 0 before after r
+room-whole text most before after r p h = p .whole h
+
+pub room-short : (text : List ℕ) (most : ℕ) (before after : List ℕ) (r : ℕ) → PutIfRoom text most before after r → r ≤ most
+room-short text most before after r p = go (leb most (length before)) refl
+  where
+    go : (t : Bool) → leb most (length before) ≡ t → r ≤ most
+    go true e = let q : Put text most 0 before after r = p .whole (leb-true most (length before) e) in omega (arith, q .short)
+    go false e = omega (arith, p .nothing (leb-false most (length before) e) .1)

@@ -2,7 +2,7 @@
 use mathlib.Core.Path.{_≡_}
 use mathlib.Core.Bool.{cond}
 use mathlib.Core.List.{List, _++_, []}
-use Prim.Native.Nat.{ℕ, _+_, _≤_}
+use Prim.Native.Nat.{ℕ, _+_, _≤_, _<_}
 use lib.ListN.{length}
 use lib.Seq.{sets}
 use Rattle.model.specs.Record.{Bytes}
@@ -19,6 +19,11 @@ pub record Put (text : Bytes) (most at : ℕ) (before after : Bytes) (r : ℕ) :
   pub bytes : after ≡ sets before at text
   pub next : r ≡ at + length text
   pub short : r ≤ at + most
+
+-- a text is written from the first byte on if there is room for the longest such text, and else nothing is
+pub record PutIfRoom (text : Bytes) (most : ℕ) (before after : Bytes) (r : ℕ) : Type 0 where
+  pub whole : most ≤ length before → Put text most 0 before after r
+  pub nothing : length before < most → (after ≡ before) × (r ≡ 0)
 
 -- a node's lines, as its watch's sign allows: "gained first"
 abbrev pub watchLines : ℕ → ℕ → Change → Bytes

@@ -13,7 +13,7 @@ ghost use Rattle.network.specs.Reading.{Built, networkOf, nodesOf};
 ghost use Rattle.areas.specs.Lent.{lent};
 ghost use Rattle.monitor.specs.Promises.{Changes};
 ghost use Rattle.station_text.specs.Pieces.{Next};
-ghost use Rattle.station_text.specs.Lines.{Put, linesIn, watchLines};
+ghost use Rattle.station_text.specs.Lines.{Put, PutIfRoom, linesIn, watchLines};
 use areas::GAINED;
 use areas::LOST;
 use areas::PLACE;
@@ -24,6 +24,9 @@ use rows::STRIDE;
 const PLUS: u8 = 43;
 
 const MINUS: u8 = 45;
+
+// The most bytes of a refusal's line.
+const LINE: usize = 50;
 
 // The mark's length and kind.
 const MARK_SIZE: usize = 4;
@@ -222,10 +225,12 @@ pub fn put_batch(
     put_nodes(out, at, network, gained, lost, head)
 }
 
-// The line of a refusal from the first byte on: its length.
+// The line of a refusal from the first byte on: its length. Where there is no room for the longest one nothing is written, and the answer is 0.
 pub fn put_refused(out: &mut [u8], number: usize, place: usize) -> usize
-    requires { ⌜ 50 ≤ length (now out) ⌝ }
-    ensures { λ r. ⌜ Put (refusedLine number place) 50 0 (now (out .entry)) (now (out .exit)) r ⌝ }
+    ensures { λ r. ⌜ PutIfRoom (refusedLine number place) 50 (now (out .entry)) (now (out .exit)) r ⌝ }
 {
+    if out.len() < LINE {
+        return 0;
+    }
     lines::put_line_at(out, 0, b"refused", &[number, place])
 }

@@ -17,9 +17,9 @@ use Rattle.model.specs.Text.{pieces, refusedLine, runFiles, runPieces}
 use Rattle.model.proofs.Parts.{sets-first}
 use Rattle.station_text.specs.Pieces.{piecesOn}
 use Rattle.station_text.proofs.Cut.{pieces-all}
-use Rattle.session.specs.declared.Said.{Said}
-use Rattle.session.specs.Says.{Ready, Says, firstLines, stateOf}
-use Rattle.session.proofs.Session.{opened-ready, opened-state}
+use Rattle.program.specs.declared.Said.{Said}
+use Rattle.program.specs.Says.{Ready, Says, firstLines, stateOf}
+use Rattle.program.proofs.Printed.{opened-ready, opened-state}
 use Rattle.demand3.proofs.Theorem.{open-accepts}
 
 -- ---- texts

@@ -6,7 +6,7 @@ ghost use lib.ListN.{length, take, drop};
 ghost use Rattle.model.specs.Text.{runFiles, runPieces, pieces, bytesBetween};
 ghost use Rattle.model.specs.Network.{readNetwork};
 ghost use Rattle.areas.specs.Lent.{lent};
-ghost use Rattle.session.specs.Says.{Ready, stateOf};
+ghost use Rattle.program.specs.Says.{Ready, stateOf};
 ghost use Rattle.vectors.specs.Packed.{Inside, outputOf};
 use areas::AREA;
 use areas::HEAD;
@@ -122,7 +122,7 @@ fn run_prints(
     let mut at = 0;
     let mut more = true;
     while more {
-        let said = session::next_lines(net, file, start, rows, gained, lost, head, out);
+        let said = program::next_lines(net, file, start, rows, gained, lost, head, out);
         let size = said.size;
         if !stands_at(text, at, &out[..size]) {
             return false;
@@ -173,7 +173,7 @@ fn comes_out(
     let file = v.file;
     let text = v.text;
     let next = v.next;
-    if session::has_input(v.network, v.batches) {
+    if program::has_input(v.network, v.batches) {
         return prints(
             &packed[from..file],
             &packed[file..text],
@@ -247,7 +247,7 @@ fn run_file(
 }
 
 fn main() {
-    let mut out = [0u8; session::ROOM];
+    let mut out = [0u8; program::ROOM];
     let mut rows = [0u32; AREA];
     let mut gained = [0u32; AREA];
     let mut lost = [0u32; AREA];

@@ -7,7 +7,7 @@ use Rattle.station.proofs.main.Tie as tie
 use Rattle.station.proofs.main.Reads as reads
 use Rattle.station.proofs.main.Lts as lts
 use Rattle.io.proofs.write_all.Reads as write-all-reads
-use Rattle.session.proofs.has_input.Reads as has-input-reads
+use Rattle.program.proofs.has_input.Reads as has-input-reads
 use Rattle.station.proofs.print_files.Reads as print-files-reads
 use Rattle.station.proofs.read_file.Reads as read-file-reads
 

@@ -4,10 +4,11 @@ use native.Mathlib.Omega.{arith}
 use mathlib.Core.Path.{ap, sym, _∙_, _≡_}
 use lib.Seq.{length-take-le}
 use Rattle.areas.specs.Lent.{lent}
+use Rattle.station_text.proofs.Changes.{room-short}
 use Rattle.model.specs.Calls.{Result, openCall}
 use Rattle.model.specs.Areas.{Areas}
-use Rattle.session.specs.Says.{Ready}
-use Rattle.session.proofs.Session.{opened-ready}
+use Rattle.program.specs.Says.{Ready}
+use Rattle.program.proofs.Printed.{opened-ready}
 use Rattle.station.proofs.print_files.Tie as tie
 use Rattle.station.proofs.print_files.Reads as reads
 use Rattle.station.proofs.print_files.Lts as lts
@@ -26,10 +27,10 @@ put-refused-requires : tie.Need-put-refused-requires
 put-refused-requires c κs = search needs
 
 slice-reshare-prefix-write-all : tie.Need-slice-reshare-prefix-write-all
-slice-reshare-prefix-write-all c = search needs
+slice-reshare-prefix-write-all c = omega (arith, room-short _ 50 _ _ _ (c .before .before .put-refused .ensures), c .before .before .before .before .before .before .before .before .before .before .before .before .before .before .before .before .before .before .before .before .before .before .before .before .before .before .pre)
 
 slice-aggregate-write-all : tie.Need-slice-aggregate-write-all
-slice-aggregate-write-all c = sym (length-take-le (c .before .before .before .put-refused .result) (c .before .before .before .put-refused .last .0) (omega (arith, c .before .before .before .put-refused .ensures .short, c .before .before .before .before .before .before .before .before .before .before .before .before .before .before .before .before .before .before .before .before .before .before .before .before .before .before .before .pre)))
+slice-aggregate-write-all c = sym (length-take-le (c .before .before .before .put-refused .result) (c .before .before .before .put-refused .last .0) (omega (arith, room-short _ 50 _ _ _ (c .before .before .before .put-refused .ensures), c .before .before .before .before .before .before .before .before .before .before .before .before .before .before .before .before .before .before .before .before .before .before .before .before .before .before .before .pre)))
 
 write-all-requires : tie.Need-write-all-requires
 write-all-requires c κs = search needs

@@ -6,14 +6,14 @@ use lib.Seq.{length-take-le}
 use Prim.Native.Nat.{suc, _-_}
 use lib.ListN.{length}
 use Rattle.areas.specs.Lent.{lent}
-use Rattle.session.specs.Says.{Ready}
-use Rattle.session.proofs.Session.{onward-less}
+use Rattle.program.specs.Says.{Ready}
+use Rattle.program.proofs.Printed.{onward-less}
 use borrow.Author.Needs.{needs}
 use Rattle.station.proofs.run.Tie as tie
 use Rattle.station.proofs.run.Reads as reads
 use Rattle.station.proofs.run.Lts as lts
 use Rattle.io.proofs.write_all.Reads as write-all-reads
-use Rattle.session.proofs.next_lines.Reads as next-lines-reads
+use Rattle.program.proofs.next_lines.Reads as next-lines-reads
 
 abbrev Inv-loop : tie.InvT-loop
 Inv-loop net file rows₀ gained₀ lost₀ head₀ out₀ start₀ more₀ rows gained lost head out start more = Ready net (lent rows gained lost head) × (length rows ≡ length rows₀) × (length gained ≡ length gained₀) × (length lost ≡ length lost₀) × (length head ≡ length head₀) × (length out ≡ length out₀)

@@ -13,7 +13,7 @@ use Rattle.vectors.proofs.comes_out.Tie as tie
 use Rattle.vectors.proofs.comes_out.Reads as reads
 use Rattle.vectors.proofs.comes_out.Lts as lts
 use Rattle.lines.proofs.put_line_at.Reads as put-line-at-reads
-use Rattle.session.proofs.has_input.Reads as has-input-reads
+use Rattle.program.proofs.has_input.Reads as has-input-reads
 use Rattle.vectors.proofs.is_text.Reads as is-text-reads
 use Rattle.vectors.proofs.prints.Reads as prints-reads
 

@@ -5,6 +5,7 @@ use mathlib.Core.Path.{sym, _∙_, ap}
 use lib.Seq.{length-take-le}
 use lib.ListN.{length, take}
 use Rattle.model.specs.Text.{refusedLine}
+use Rattle.station_text.proofs.Changes.{room-short, room-whole}
 use Rattle.areas.specs.Lent.{lent}
 use Rattle.batch.specs.Applying.{resultWith}
 use Rattle.vectors.proofs.Texts.{files-open, files-refused, open-ready, written}
@@ -44,10 +45,10 @@ put-refused-requires : tie.Need-put-refused-requires
 put-refused-requires c κs = search needs
 
 slice-reshare-prefix-is-text : tie.Need-slice-reshare-prefix-is-text
-slice-reshare-prefix-is-text c = search needs
+slice-reshare-prefix-is-text c = omega (arith, room-short _ 50 _ _ _ (c .before .before .put-refused .ensures), c .before .before .before .before .before .before .before .before .before .before .before .before .before .before .before .before .before .before .before .before .before .before .before .before .before .before .before .pre .4)
 
 slice-aggregate-is-text : tie.Need-slice-aggregate-is-text
-slice-aggregate-is-text c = sym (length-take-le (c .before .before .before .put-refused .result) (c .before .before .before .put-refused .last .0) (omega (arith, c .before .before .before .put-refused .ensures .short, c .before .before .before .before .before .before .before .before .before .before .before .before .before .before .before .before .before .before .before .before .before .before .before .before .before .before .before .before .pre .4)))
+slice-aggregate-is-text c = sym (length-take-le (c .before .before .before .put-refused .result) (c .before .before .before .put-refused .last .0) (omega (arith, room-short _ 50 _ _ _ (c .before .before .before .put-refused .ensures), c .before .before .before .before .before .before .before .before .before .before .before .before .before .before .before .before .before .before .before .before .before .before .before .before .before .before .before .before .pre .4)))
 
 is-text-requires : tie.Need-is-text-requires
 is-text-requires c κs = search needs
@@ -68,7 +69,7 @@ same-length-10 : tie.Need-same-length-10
 same-length-10 c = search needs
 
 returns-2 : tie.Need-returns-2
-returns-2 c = let a = (c .before .before .before .before .before .before .before .before .before .before .before .before .before .before .before .before .before .before .before .before .before .before .before .before .before .before .before .before .before .args) in λ y. files-refused (a .net .now) (a .file .now) (lent (a .rows .now) (a .gained .now) (a .lost .now) (a .head .now)) (resultWith (c .before .before .before .before .before .before .before .before .before .before .before .before .before .before .before .before .«open» .result) (lent (c .before .before .before .before .before .before .before .before .before .before .before .before .before .before .before .before .«open» .last .1 .0) (c .before .before .before .before .before .before .before .before .before .before .before .before .before .before .before .before .«open» .last .1 .1 .0) (c .before .before .before .before .before .before .before .before .before .before .before .before .before .before .before .before .«open» .last .1 .1 .1 .0) (c .before .before .before .before .before .before .before .before .before .before .before .before .before .before .before .before .«open» .last .1 .1 .1 .1 .0))) (c .before .before .before .before .before .before .before .before .before .before .before .before .before .before .before .before .«open» .ensures) (a .text .now) (c .before .before .before .before .before .before .before .before .before .before .before .before .before .before .before .before .before .before .before .before .before .before .before .before .before .before .before .before .before .pre .0, c .before .before .before .before .before .before .before .before .before .before .before .before .before .before .before .before .before .before .before .before .before .before .before .before .before .before .before .before .before .pre .1, c .before .before .before .before .before .before .before .before .before .before .before .before .before .before .before .before .before .before .before .before .before .before .before .before .before .before .before .before .before .pre .2, c .before .before .before .before .before .before .before .before .before .before .before .before .before .before .before .before .before .before .before .before .before .before .before .before .before .before .before .before .before .pre .3) (c .before .before .before .before .before .before .if1 .left) (sym (ap (take (c .before .before .before .before .put-refused .result)) (c .before .before .before .before .put-refused .ensures .bytes) ∙ written (a .out .now) (refusedLine (c .before .before .before .before .before .before .before .before .before .before .before .before .before .before .before .before .«open» .result .number) (c .before .before .before .before .before .before .before .before .before .before .before .before .before .before .before .before .«open» .result .place)) (c .before .before .before .before .put-refused .result) (omega (arith, c .before .before .before .before .put-refused .ensures .next)) (omega (arith, c .before .before .before .before .put-refused .ensures .short, c .before .before .before .before .before .before .before .before .before .before .before .before .before .before .before .before .before .before .before .before .before .before .before .before .before .before .before .before .before .pre .4))) ∙ c .is-text .ensures y)
+returns-2 c = let a = (c .before .before .before .before .before .before .before .before .before .before .before .before .before .before .before .before .before .before .before .before .before .before .before .before .before .before .before .before .before .args) in let q = room-whole (refusedLine (c .before .before .before .before .before .before .before .before .before .before .before .before .before .before .before .before .«open» .result .number) (c .before .before .before .before .before .before .before .before .before .before .before .before .before .before .before .before .«open» .result .place)) 50 (a .out .now) (c .before .before .before .before .put-refused .last .0) (c .before .before .before .before .put-refused .result) (c .before .before .before .before .put-refused .ensures) (omega (arith, c .before .before .before .before .before .before .before .before .before .before .before .before .before .before .before .before .before .before .before .before .before .before .before .before .before .before .before .before .before .pre .4)) in λ y. files-refused (a .net .now) (a .file .now) (lent (a .rows .now) (a .gained .now) (a .lost .now) (a .head .now)) (resultWith (c .before .before .before .before .before .before .before .before .before .before .before .before .before .before .before .before .«open» .result) (lent (c .before .before .before .before .before .before .before .before .before .before .before .before .before .before .before .before .«open» .last .1 .0) (c .before .before .before .before .before .before .before .before .before .before .before .before .before .before .before .before .«open» .last .1 .1 .0) (c .before .before .before .before .before .before .before .before .before .before .before .before .before .before .before .before .«open» .last .1 .1 .1 .0) (c .before .before .before .before .before .before .before .before .before .before .before .before .before .before .before .before .«open» .last .1 .1 .1 .1 .0))) (c .before .before .before .before .before .before .before .before .before .before .before .before .before .before .before .before .«open» .ensures) (a .text .now) (c .before .before .before .before .before .before .before .before .before .before .before .before .before .before .before .before .before .before .before .before .before .before .before .before .before .before .before .before .before .pre .0, c .before .before .before .before .before .before .before .before .before .before .before .before .before .before .before .before .before .before .before .before .before .before .before .before .before .before .before .before .before .pre .1, c .before .before .before .before .before .before .before .before .before .before .before .before .before .before .before .before .before .before .before .before .before .before .before .before .before .before .before .before .before .pre .2, c .before .before .before .before .before .before .before .before .before .before .before .before .before .before .before .before .before .before .before .before .before .before .before .before .before .before .before .before .before .pre .3) (c .before .before .before .before .before .before .if1 .left) (sym (ap (take (c .before .before .before .before .put-refused .result)) (q .bytes) ∙ written (a .out .now) (refusedLine (c .before .before .before .before .before .before .before .before .before .before .before .before .before .before .before .before .«open» .result .number) (c .before .before .before .before .before .before .before .before .before .before .before .before .before .before .before .before .«open» .result .place)) (c .before .before .before .before .put-refused .result) (omega (arith, q .next)) (omega (arith, room-short _ 50 _ _ _ (c .before .before .before .before .put-refused .ensures), c .before .before .before .before .before .before .before .before .before .before .before .before .before .before .before .before .before .before .before .before .before .before .before .before .before .before .before .before .before .pre .4))) ∙ c .is-text .ensures y)
 
 pub prints-spec : {M : Type 1} → statement M
 prints-spec =

@@ -7,12 +7,12 @@ use lib.ListN.{length, take}
 use lib.Seq.{length-take-le}
 use borrow.Author.Tests.{eqb-true, not-false}
 use Rattle.areas.specs.Lent.{lent}
-use Rattle.session.proofs.Session.{onward-less}
+use Rattle.program.proofs.Printed.{onward-less}
 use Rattle.vectors.proofs.Texts.{Printing, print-done, print-more, print-start}
 use Rattle.vectors.proofs.run_prints.Tie as tie
 use Rattle.vectors.proofs.run_prints.Reads as reads
 use Rattle.vectors.proofs.run_prints.Lts as lts
-use Rattle.session.proofs.next_lines.Reads as next-lines-reads
+use Rattle.program.proofs.next_lines.Reads as next-lines-reads
 use Rattle.vectors.proofs.stands_at.Reads as stands-at-reads
 
 abbrev Inv-loop : tie.InvT-loop

@@ -23,14 +23,14 @@ use Rattle.areas.specs.Lent.{lent}
 use Rattle.areas.proofs.Good.{long-parts}
 use Rattle.monitor.specs.Promises.{Changes}
 use Rattle.monitor.proofs.Checks.{changes-good}
-use Rattle.station_text.specs.Lines.{Put}
+use Rattle.station_text.specs.Lines.{Put, PutIfRoom}
 use Rattle.station_text.specs.Pieces.{piecesOn}
 use Rattle.demand3.proofs.Holds.{Proper, holding-coherent, holding-long, holding-state}
 use Rattle.demand3.proofs.Steps.{Sound, step-sound}
 use Rattle.demand3.proofs.Coherence.{state-proper}
 use Rattle.demand3.proofs.Theorem.{Held, open-accepts, opened-coherent, opened-held, settled-on}
-use Rattle.session.specs.declared.Said.{Said}
-use Rattle.session.specs.Says.{Ready, Says, Stepped, areasAfter, areasOn, firstLines, stateOf}
+use Rattle.program.specs.declared.Said.{Said}
+use Rattle.program.specs.Says.{Ready, Says, Stepped, areasAfter, areasOn, firstLines, stateOf}
 
 -- ---- a batch
 
@@ -85,14 +85,14 @@ module _ (net : Bytes) (a : Areas) (k : Ready net a) (b : Bytes) (r : Result) (m
         ready = ready-again;
       }
 
-  pub refused-lines : (r .verdict .number ≡ 0 → ⊥) → (before out : Bytes) (size : ℕ) → Put (refusedLine (r .verdict .number) (r .verdict .place)) 50 0 before out size → 438304 ≤ length before → Stepped net b a (r .areas) before out size
+  pub refused-lines : (r .verdict .number ≡ 0 → ⊥) → (before out : Bytes) (size : ℕ) → PutIfRoom (refusedLine (r .verdict .number) (r .verdict .place)) 50 before out size → 438304 ≤ length before → Stepped net b a (r .areas) before out size
   unfolding stepLines
   refused-lines n before out size p h =
       let no : isAccepted (st .verdict) ≡ false = ap isAccepted (sym verdict-is) ∙ ne-eqb (r .verdict .number) 0 n in
       let text : refusedLine (r .verdict .number) (r .verdict .place) ≡ stepLines (readNetwork net .network) (step (readNetwork net .network .nodes) (stateOf net a) b) =
       ap (λ (v : Verdict). refusedLine (v .number) (v .place)) verdict-is
       ∙ sym (ap (λ (t : Bool). cond t (batchLines (readNetwork net .network) (st .state)) (refusedLine (st .verdict .number) (st .verdict .place))) no) in
-      stepped before out size 50 (subst (λ (x : Bytes). Put x 50 0 before out size) text p) (omega arith)
+      stepped before out size 50 (subst (λ (x : Bytes). Put x 50 0 before out size) text (p .whole (omega (arith, h)))) (omega arith)
 
 -- ---- an accepted batch, its network read again
 
@@ -167,9 +167,11 @@ module _ (net file : Bytes) (start : ℕ) (a : Areas) (k : Ready net a) (before 
         onward = λ y. absurd (true≢false (sym y));
       }
 
-  pub says-broken : (at : ℕ) (out : Bytes) (size : ℕ) → piecesOn file start ≡ broken at ∷ [] → Put (refusedLine 10 at) 50 0 before out size → 438304 ≤ length before → Says net file start a a before out (record { size = size; next = 0; more = false })
+  pub says-broken : (at : ℕ) (out : Bytes) (size : ℕ) → piecesOn file start ≡ broken at ∷ [] → PutIfRoom (refusedLine 10 at) 50 before out size → 438304 ≤ length before → Says net file start a a before out (record { size = size; next = 0; more = false })
   unfolding runPieces
-  says-broken at out size e p h = says-last (broken at ∷ []) out size e refl refl (p .bytes) (omega (arith, p .next)) (omega (arith, p .short, h))
+  says-broken at out size e p h =
+      let q : Put (refusedLine 10 at) 50 0 before out size = p .whole (omega (arith, h)) in
+      says-last (broken at ∷ []) out size e refl refl (q .bytes) (omega (arith, q .next)) (omega (arith, q .short, h))
 
   pub says-unfinished : (out : Bytes) (size : ℕ) → piecesOn file start ≡ unfinished ∷ [] → out ≡ sets before 0 (line unfinishedWord []) → size ≡ 0 + length (line unfinishedWord []) → size ≤ 20 → 438304 ≤ length before → Says net file start a a before out (record { size = size; next = 0; more = false })
   unfolding runPieces

@@ -1,15 +1,15 @@
 use borrow.Author.Needs.{needs}
-use Rattle.session.proofs.next_lines.Statement.{statement}
+use Rattle.program.proofs.next_lines.Statement.{statement}
 use native.Mathlib.Omega.{arith}
 use mathlib.Core.Path.{refl}
 use Rattle.areas.specs.Lent.{lent}
-use Rattle.session.proofs.Session.{says-batch, says-broken, says-end, says-unfinished}
+use Rattle.program.proofs.Printed.{says-batch, says-broken, says-end, says-unfinished}
 use Prim.Native.Nat.{_+_}
-use Rattle.session.proofs.next_lines.Tie as tie
-use Rattle.session.proofs.next_lines.Reads as reads
-use Rattle.session.proofs.next_lines.Lts as lts
+use Rattle.program.proofs.next_lines.Tie as tie
+use Rattle.program.proofs.next_lines.Reads as reads
+use Rattle.program.proofs.next_lines.Lts as lts
 use Rattle.lines.proofs.put_line_at.Reads as put-line-at-reads
-use Rattle.session.proofs.batch_lines.Reads as batch-lines-reads
+use Rattle.program.proofs.batch_lines.Reads as batch-lines-reads
 use Rattle.station_text.proofs.next_piece.Reads as next-piece-reads
 use Rattle.station_text.proofs.put_refused.Reads as put-refused-reads
 

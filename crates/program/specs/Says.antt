@@ -12,7 +12,7 @@ use Rattle.model.specs.Areas.{Areas, layout, longEnough, coherent, stateIn}
 use Rattle.model.specs.Calls.{resultOf}
 use Rattle.model.specs.Text.{Piece, batch, broken, unfinished, unfinishedWord, line, refusedLine, stepLines, runPieces}
 use Rattle.station_text.specs.Pieces.{piecesOn}
-use Rattle.session.specs.declared.Said.{Said}
+use Rattle.program.specs.declared.Said.{Said}
 
 -- a network that opening accepts, and coherent areas
 pub record Ready (net : Bytes) (a : Areas) : Type 0 where

@@ -6,7 +6,7 @@ ghost use lib.Dec.{leb};
 ghost use lib.ListN.{length};
 ghost use Rattle.model.specs.Text.{maxFile};
 ghost use Rattle.areas.specs.Lent.{lent};
-ghost use Rattle.session.specs.Says.{Ready, Says, Stepped};
+ghost use Rattle.program.specs.Says.{Ready, Says, Stepped};
 use station_text::Piece;
 
 // The most bytes of a file.

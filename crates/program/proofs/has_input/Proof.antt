@@ -1,11 +1,11 @@
-use Rattle.session.proofs.has_input.Statement.{statement}
+use Rattle.program.proofs.has_input.Statement.{statement}
 use mathlib.Core.Bool.{Bool, _&&_}
 use mathlib.Core.Path.{ap, sym}
 use lib.Dec.{leb}
 use borrow.Author.Tests.{le-leb, lt-leb}
-use Rattle.session.proofs.has_input.Tie as tie
-use Rattle.session.proofs.has_input.Reads as reads
-use Rattle.session.proofs.has_input.Lts as lts
+use Rattle.program.proofs.has_input.Tie as tie
+use Rattle.program.proofs.has_input.Reads as reads
+use Rattle.program.proofs.has_input.Lts as lts
 
 returns : tie.Need-returns
 returns c = let a = c .before .args in sym (ap (λ (t : Bool). t && leb (a .batches) 65536) (lt-leb (a .network) 65536 (c .if1 .taken)))

@@ -1,12 +1,12 @@
 use borrow.Author.Needs.{needs}
-use Rattle.session.proofs.batch_lines.Statement.{statement}
+use Rattle.program.proofs.batch_lines.Statement.{statement}
 use Rattle.areas.specs.Lent.{lent}
 use Rattle.batch.specs.Applying.{resultWith}
 use Rattle.network.specs.Reading.{verdictOf}
-use Rattle.session.proofs.Session.{accepted-lines, changes-are, ready-again, refused-lines}
-use Rattle.session.proofs.batch_lines.Tie as tie
-use Rattle.session.proofs.batch_lines.Reads as reads
-use Rattle.session.proofs.batch_lines.Lts as lts
+use Rattle.program.proofs.Printed.{accepted-lines, changes-are, ready-again, refused-lines}
+use Rattle.program.proofs.batch_lines.Tie as tie
+use Rattle.program.proofs.batch_lines.Reads as reads
+use Rattle.program.proofs.batch_lines.Lts as lts
 use Rattle.monitor.proofs.apply.Reads as apply-reads
 use Rattle.network.proofs.read_network.Reads as read-network-reads
 use Rattle.station_text.proofs.put_batch.Reads as put-batch-reads
