@@ -1,4 +1,4 @@
--- Any coherent areas hold a proper state, so a batch leaves them coherent. Assumes nothing.
+-- Any coherent areas hold a proper state. Assumes nothing.
 use mathlib.Core.Bool.{Bool, cond, false, true}
 use mathlib.Core.List.{List, map}
 use mathlib.Core.Path.{ap, refl, sym, _∙_, _≡_}
@@ -8,38 +8,32 @@ use native.Mathlib.Omega.{arith}
 use lib.ListN.{List·getD-eq-default, getD, length}
 use lib.Dec.{eqb, leb, ltb}
 use borrow.Author.Tests.{leb-true, lt-ltb, ltb-false, ltb-true}
-use Rattle.model.specs.Network.{Node, readNetwork, widths}
+use Rattle.model.specs.Network.{Node, widths}
 use Rattle.rows.proofs.Place.{all-below}
-use Rattle.model.specs.Calls.{Applied, Keeps, Result, applyPromise, resultOf, settled}
 use Rattle.model.specs.Areas.{Areas, batchNumber, changesIn, coherent, gainedCount, goodArea, goodForm, goodStamps, goodWorked, holding, layout, longEnough, lostCount, relationsIn, rowCount, rowsIn, sameRelations, stampAt, stateIn, tablesOf, workedAt, workedCount}
-use Rattle.model.specs.Record.{Bytes, isAccepted}
 use Rattle.states.proofs.Written.{Fitting}
-use Rattle.demand3.proofs.Holds.{Proper, holding-coherent}
+use Rattle.demand3.proofs.Holds.{Proper}
 use Rattle.model.specs.Row.{allOf, numbersBelow}
-use Rattle.model.proofs.Fits.{Small, length-widths, read-fits, read-small}
-use Rattle.model.specs.Station.{Step, step}
+use Rattle.model.proofs.Fits.{Small, length-widths}
 use Rattle.model.proofs.Sets.{and-first, and-second}
 use Rattle.model.specs.Evaluation.{evaluate}
 use Rattle.evaluation.proofs.Fresh.{same-eq}
-use Rattle.demand3.proofs.Theorem.{settled-on}
-use Rattle.demand3.proofs.Steps.{step-sound}
-use Rattle.states.proofs.Worked.{worked-few, worked-low}
 use Rattle.states.proofs.Fitted.{area-fits, only-length, only-twice, map-gained, map-lost, form-parts}
 use Rattle.model.proofs.Parts.{length-counted, counted-at}
 
 module _ (nodes : List Node) (small : Small nodes) (a : Areas) (c : coherent layout nodes a ≡ true) where
-  form : goodForm layout nodes a ≡ true
+  pub form : goodForm layout nodes a ≡ true
   unfolding coherent
   form = and-first (goodForm layout nodes a) (sameRelations (rowsIn layout nodes a) (evaluate nodes (tablesOf nodes (rowsIn layout nodes a)))) c
 
-  fresh : rowsIn layout nodes a ≡ evaluate nodes (tablesOf nodes (rowsIn layout nodes a))
+  pub fresh : rowsIn layout nodes a ≡ evaluate nodes (tablesOf nodes (rowsIn layout nodes a))
   unfolding coherent
   fresh = same-eq (rowsIn layout nodes a) (evaluate nodes (tablesOf nodes (rowsIn layout nodes a))) (and-second (goodForm layout nodes a) (sameRelations (rowsIn layout nodes a) (evaluate nodes (tablesOf nodes (rowsIn layout nodes a)))) c)
 
-  few : length (widths nodes) ≤ 32
+  pub few : length (widths nodes) ≤ 32
   few = omega (arith, small .few, length-widths nodes)
 
-  parts : (goodArea layout (widths nodes) (rowCount (a .head)) (a .rows) ≡ true) × (goodArea layout (widths nodes) (gainedCount (a .head)) (a .gained) ≡ true) × (goodArea layout (widths nodes) (lostCount (a .head)) (a .lost) ≡ true) × (goodStamps (length nodes) (a .head) ≡ true) × (goodWorked (length nodes) (a .head) ≡ true)
+  pub parts : (goodArea layout (widths nodes) (rowCount (a .head)) (a .rows) ≡ true) × (goodArea layout (widths nodes) (gainedCount (a .head)) (a .gained) ≡ true) × (goodArea layout (widths nodes) (lostCount (a .head)) (a .lost) ≡ true) × (goodStamps (length nodes) (a .head) ≡ true) × (goodWorked (length nodes) (a .head) ≡ true)
   parts = form-parts nodes a form
 
   worked : goodWorked (length nodes) (a .head) ≡ true
@@ -98,32 +92,3 @@ module _ (nodes : List Node) (small : Small nodes) (a : Areas) (c : coherent lay
       go : (i : ℕ) (t : Bool) → ltb i (length nodes) ≡ t → getD (map (stampAt (a .head)) (numbersBelow (length nodes))) i 0 ≤ batchNumber (a .head)
       go i true e = let b : i < length nodes = ltb-true i (length nodes) e in rw (counted-at 0 (stampAt (a .head)) 0 (length nodes) i b, zero-add i) (stamp-low i b)
       go i false e = rw (List·getD-eq-default (map (stampAt (a .head)) (numbersBelow (length nodes))) 0 {n = i} (rw (length-counted (stampAt (a .head)) 0 (length nodes)) (ltb-false i (length nodes) e))) zero-le
-
--- "coherent areas are coherent again"
-pub coherent-again : (net : Bytes) → readNetwork net .verdict .number ≡ 0 → (a : Areas) (batch : Bytes) (r : Result) → longEnough layout a ≡ true → coherent layout (readNetwork net .network .nodes) a ≡ true → Applied net batch a r → coherent layout (readNetwork net .network .nodes) (r .areas) ≡ true
-unfolding resultOf
-coherent-again net accepts a batch r long c m =
-    go (isAccepted (step (readNetwork net .network .nodes) (stateIn layout (readNetwork net .network .nodes) a) batch .verdict)) refl (keeps (settled-on net accepts a batch long c) m)
-  where
-    ns : List Node
-    ns = readNetwork net .network .nodes
-
-    st : Step
-    st = step (readNetwork net .network .nodes) (stateIn layout (readNetwork net .network .nodes) a) batch
-
-    keeps : applyPromise net batch a ≡ settled (resultOf (readNetwork net .network .nodes) a (step (readNetwork net .network .nodes) (stateIn layout (readNetwork net .network .nodes) a) batch)) → Keeps (applyPromise net batch a) a r → r ≡ resultOf (readNetwork net .network .nodes) a (step (readNetwork net .network .nodes) (stateIn layout (readNetwork net .network .nodes) a) batch)
-    keeps e k = rw e at k
-
-    proper : Proper (readNetwork net .network .nodes) (stateIn layout (readNetwork net .network .nodes) a)
-    proper = state-proper (readNetwork net .network .nodes) (read-small net) a c
-
-    next : Proper (readNetwork net .network .nodes) (step (readNetwork net .network .nodes) (stateIn layout (readNetwork net .network .nodes) a) batch .state)
-    next = step-sound (readNetwork net .network .nodes) (read-fits net) (stateIn layout (readNetwork net .network .nodes) a) proper batch .proper
-
-    go : (t : Bool) → isAccepted (step (readNetwork net .network .nodes) (stateIn layout (readNetwork net .network .nodes) a) batch .verdict) ≡ t → r ≡ resultOf (readNetwork net .network .nodes) a (step (readNetwork net .network .nodes) (stateIn layout (readNetwork net .network .nodes) a) batch) → coherent layout (readNetwork net .network .nodes) (r .areas) ≡ true
-    go true e k =
-        let areas : r .areas ≡ holding layout (readNetwork net .network .nodes) (step (readNetwork net .network .nodes) (stateIn layout (readNetwork net .network .nodes) a) batch .state) a = ap (λ (x : Result). x .areas) k ∙ ap (λ (u : Bool). cond u (holding layout (readNetwork net .network .nodes) (step (readNetwork net .network .nodes) (stateIn layout (readNetwork net .network .nodes) a) batch .state) a) a) e in
-        ap (coherent layout (readNetwork net .network .nodes)) areas ∙ holding-coherent (readNetwork net .network .nodes) (step (readNetwork net .network .nodes) (stateIn layout (readNetwork net .network .nodes) a) batch .state) next a (read-fits net)
-    go false e k =
-        let areas : r .areas ≡ a = ap (λ (x : Result). x .areas) k ∙ ap (λ (u : Bool). cond u (holding layout (readNetwork net .network .nodes) (step (readNetwork net .network .nodes) (stateIn layout (readNetwork net .network .nodes) a) batch .state) a) a) e in
-        ap (coherent layout (readNetwork net .network .nodes)) areas ∙ c

@@ -53,8 +53,23 @@ map-getD f from (x ∷ l) h =
     (map-getD f (suc from) l (λ k g. let e : suc from + k ≡ from + suc k = omega arith in ap f e ∙ h (suc k) (suc-le-suc g)))
 
 -- a list padded to 32 numbers, each number or 0
-padded-at : (l : List ℕ) (i : ℕ) → i < length l → getD (padded 32 l) i 0 ≡ getD l i 0
+pub padded-at : (l : List ℕ) (i : ℕ) → i < length l → getD (padded 32 l) i 0 ≡ getD l i 0
 padded-at l i h = List·getD-append l (replicate (32 - length l) 0) 0 i h
+
+-- evaluation leaves the tables as they are
+pub tables-back : (nodes : List Node) (tables : List Relation) → length tables ≡ length nodes → tablesOf nodes tables ≡ tables → AllFit nodes → tablesOf nodes (evaluate nodes tables) ≡ tables
+tables-back nodes tables tables-size tables-only fit =
+    let long : length (evaluate nodes tables) ≡ length nodes = length-evaluate nodes tables in
+    let size : length (tablesOf nodes (evaluate nodes tables)) ≡ length nodes = only-length nodes (evaluate nodes tables) long in
+    ext-getD [] (tablesOf nodes (evaluate nodes tables)) (tablesOf nodes tables) (size ∙ sym (only-length nodes tables tables-size))
+    (λ i b.
+    let k : i < length nodes = rw size at b in
+    tables-at nodes (evaluate nodes tables) i long k ∙ go i k (isTable (nodeAt nodes i)) refl ∙ sym (tables-at nodes tables i tables-size k))
+    ∙ tables-only
+  where
+    go : (i : ℕ) → i < length nodes → (t : Bool) → isTable (nodeAt nodes i) ≡ t → cond (isTable (nodeAt nodes i)) (rowsAt (evaluate nodes tables) i) [] ≡ cond (isTable (nodeAt nodes i)) (rowsAt tables i) []
+    go i k true e = ap (λ (r : Relation). cond (isTable (nodeAt nodes i)) r []) (fresh-table nodes fit tables i k e)
+    go i k false e = rw e
 
 module _ (nodes : List Node) (s : State) (p : Proper nodes s) (before : Areas) where
   abbrev rels : List Relation
@@ -122,7 +137,7 @@ module _ (nodes : List Node) (s : State) (p : Proper nodes s) (before : Areas) w
   abbrev rest : List ℕ
   rest = drop (length (headOf (evaluate nodes (s .tables)) s)) (before .head)
 
-  number-is : batchNumber (holding layout nodes s before .head) ≡ s .number
+  pub number-is : batchNumber (holding layout nodes s before .head) ≡ s .number
   unfolding holding headOf
   number-is = word-first (s .number ∷ []) c1 c2 c3 c4 (length (s .worked) ∷ []) c5 rest refl k1 k2 k3 k4 refl k5
 
@@ -130,7 +145,7 @@ module _ (nodes : List Node) (s : State) (p : Proper nodes s) (before : Areas) w
   unfolding holding headOf
   count-word i b = word-p (s .number ∷ []) c1 c2 c3 c4 (length (s .worked) ∷ []) c5 rest refl k1 k2 k3 k4 refl k5 i b
 
-  stamp-word : (i : ℕ) → i < 32 → stampAt (holding layout nodes s before .head) i ≡ getD c2 i 0
+  pub stamp-word : (i : ℕ) → i < 32 → stampAt (holding layout nodes s before .head) i ≡ getD c2 i 0
   unfolding holding headOf
   stamp-word i b = word-q (s .number ∷ []) c1 c2 c3 c4 (length (s .worked) ∷ []) c5 rest refl k1 k2 k3 k4 refl k5 i b
 
@@ -142,35 +157,35 @@ module _ (nodes : List Node) (s : State) (p : Proper nodes s) (before : Areas) w
   unfolding holding headOf
   lost-word i b = word-s (s .number ∷ []) c1 c2 c3 c4 (length (s .worked) ∷ []) c5 rest refl k1 k2 k3 k4 refl k5 i b
 
-  worked-is : workedCount (holding layout nodes s before .head) ≡ length (s .worked)
+  pub worked-is : workedCount (holding layout nodes s before .head) ≡ length (s .worked)
   unfolding holding headOf
   worked-is = word-b (s .number ∷ []) c1 c2 c3 c4 (length (s .worked) ∷ []) c5 rest refl k1 k2 k3 k4 refl k5
 
-  worked-word : (k : ℕ) → k < 32 → workedAt (holding layout nodes s before .head) k ≡ getD c5 k 0
+  pub worked-word : (k : ℕ) → k < 32 → workedAt (holding layout nodes s before .head) k ≡ getD c5 k 0
   unfolding holding headOf
   worked-word k b = word-t (s .number ∷ []) c1 c2 c3 c4 (length (s .worked) ∷ []) c5 rest refl k1 k2 k3 k4 refl k5 k b
 
   -- ---- counts
 
-  rows-count : (i : ℕ) → i < length (widths nodes) → rowCount (holding layout nodes s before .head) i ≡ length (getD (evaluate nodes (s .tables)) i [])
+  pub rows-count : (i : ℕ) → i < length (widths nodes) → rowCount (holding layout nodes s before .head) i ≡ length (getD (evaluate nodes (s .tables)) i [])
   rows-count i b = count-word i (omega (arith, ws-size, few)) ∙ padded-at (map length (evaluate nodes (s .tables))) i (omega (arith, n1, ws-size)) ∙ lengths-at (evaluate nodes (s .tables)) i
 
-  rows-none : (i : ℕ) → length (widths nodes) ≤ i → i < 32 → rowCount (holding layout nodes s before .head) i ≡ 0
+  pub rows-none : (i : ℕ) → length (widths nodes) ≤ i → i < 32 → rowCount (holding layout nodes s before .head) i ≡ 0
   rows-none i b k = count-word i k ∙ padded-zero 32 (map length (evaluate nodes (s .tables))) i (omega (arith, n1, ws-size)) k
 
   change-count : (g : Change → Relation) (i : ℕ) → length (map (λ c. length (g c)) (s .changes)) ≡ length nodes → i < length (widths nodes) → getD (padded 32 (map (λ c. length (g c)) (s .changes))) i 0 ≡ length (getD (map g (s .changes)) i [])
   change-count g i n b = padded-at (map (λ c. length (g c)) (s .changes)) i (omega (arith, n, ws-size)) ∙ ap (λ (l : List ℕ). getD l i 0) (map-twice g (s .changes)) ∙ lengths-at (map g (s .changes)) i
 
-  gained-count : (i : ℕ) → i < length (widths nodes) → gainedCount (holding layout nodes s before .head) i ≡ length (getD (map (λ c. c .gained) (s .changes)) i [])
+  pub gained-count : (i : ℕ) → i < length (widths nodes) → gainedCount (holding layout nodes s before .head) i ≡ length (getD (map (λ c. c .gained) (s .changes)) i [])
   gained-count i b = gained-word i (omega (arith, ws-size, few)) ∙ change-count (λ c. c .gained) i n3 b
 
-  gained-none : (i : ℕ) → length (widths nodes) ≤ i → i < 32 → gainedCount (holding layout nodes s before .head) i ≡ 0
+  pub gained-none : (i : ℕ) → length (widths nodes) ≤ i → i < 32 → gainedCount (holding layout nodes s before .head) i ≡ 0
   gained-none i b k = gained-word i k ∙ padded-zero 32 (map (λ c. length (c .gained)) (s .changes)) i (omega (arith, n3, ws-size)) k
 
-  lost-count : (i : ℕ) → i < length (widths nodes) → lostCount (holding layout nodes s before .head) i ≡ length (getD (map (λ c. c .lost) (s .changes)) i [])
+  pub lost-count : (i : ℕ) → i < length (widths nodes) → lostCount (holding layout nodes s before .head) i ≡ length (getD (map (λ c. c .lost) (s .changes)) i [])
   lost-count i b = lost-word i (omega (arith, ws-size, few)) ∙ change-count (λ c. c .lost) i n4 b
 
-  lost-none : (i : ℕ) → length (widths nodes) ≤ i → i < 32 → lostCount (holding layout nodes s before .head) i ≡ 0
+  pub lost-none : (i : ℕ) → length (widths nodes) ≤ i → i < 32 → lostCount (holding layout nodes s before .head) i ≡ 0
   lost-none i b k = lost-word i k ∙ padded-zero 32 (map (λ c. length (c .lost)) (s .changes)) i (omega (arith, n4, ws-size)) k
 
   -- ---- good form
@@ -244,18 +259,7 @@ module _ (nodes : List Node) (s : State) (p : Proper nodes s) (before : Areas) w
 
   -- evaluation leaves the tables as they are
   fresh-tables : AllFit nodes → tablesOf nodes (evaluate nodes (s .tables)) ≡ s .tables
-  fresh-tables fit =
-      let long : length (evaluate nodes (s .tables)) ≡ length nodes = length-evaluate nodes (s .tables) in
-      let size : length (tablesOf nodes (evaluate nodes (s .tables))) ≡ length nodes = only-length nodes (evaluate nodes (s .tables)) long in
-      ext-getD [] (tablesOf nodes (evaluate nodes (s .tables))) (tablesOf nodes (s .tables)) (size ∙ sym (only-length nodes (s .tables) (p .tables-size)))
-      (λ i b.
-      let k : i < length nodes = rw size at b in
-      tables-at nodes (evaluate nodes (s .tables)) i long k ∙ go i k (isTable (nodeAt nodes i)) refl ∙ sym (tables-at nodes (s .tables) i (p .tables-size) k))
-      ∙ p .tables-only
-    where
-      go : (i : ℕ) → i < length nodes → (t : Bool) → isTable (nodeAt nodes i) ≡ t → cond (isTable (nodeAt nodes i)) (rowsAt (evaluate nodes (s .tables)) i) [] ≡ cond (isTable (nodeAt nodes i)) (rowsAt (s .tables) i) []
-      go i k true e = ap (λ (r : Relation). cond (isTable (nodeAt nodes i)) r []) (fresh-table nodes fit (s .tables) i k e)
-      go i k false e = rw e
+  fresh-tables fit = tables-back nodes (s .tables) (p .tables-size) (p .tables-only) fit
 
   pub holding-state : AllFit nodes → stateIn layout nodes (holding layout nodes s before) ≡ s
   unfolding stateIn
@@ -290,7 +294,7 @@ over-over first second before n e f =
     ap (λ (l : List ℕ). second ++ l) (drop-at first (drop (length first) before) (length second) (e ∙ sym f) ∙ ap (λ (k : ℕ). drop k before) (e ∙ sym f))
 
 module _ (nodes : List Node) (s : State) (p : Proper nodes s) where
-  head-words : length (headOf (evaluate nodes (s .tables)) s) ≡ 162
+  pub head-words : length (headOf (evaluate nodes (s .tables)) s) ≡ 162
   head-words =
       let few : length nodes ≤ 32 = omega (arith, p .rows .few, length-widths nodes) in
       let changes : length (s .changes) ≡ length nodes = sym (length-map (s .changes) (λ c. c .gained)) ∙ p .gained .size ∙ length-widths nodes in

@@ -1,6 +1,8 @@
 pub mod Holds
 pub mod Steps
 pub mod Opening
-pub mod Theorem
-pub mod Consequences
 pub mod Coherence
+pub mod Determined
+pub mod Advances
+pub mod Theorem
+pub mod Refusals

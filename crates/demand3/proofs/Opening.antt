@@ -10,7 +10,7 @@ use lib.ListN.{getD, length, length-replicate, replicate, replicate-append-repli
 use Rattle.model.specs.Network.{Node, AllFit, widths, nodeAt, isTable, Operand, SetOperation, column, constant, difference, intersection, join, project, select, setOperation, table, union}
 use Rattle.model.specs.Areas.{Areas, areaOf, cleared, headOf, holding, layout, over, padded, placeOf, tablesOf}
 use Rattle.model.specs.Delta.{Change, noChange}
-use Rattle.states.proofs.Written.{Fitting, place-none}
+use Rattle.states.proofs.Written.{Fitting, flat-none}
 use Rattle.demand3.proofs.Holds.{Proper}
 use Rattle.model.specs.Row.{Relation}
 use Rattle.model.proofs.Fits.{Small, length-widths}
@@ -123,13 +123,6 @@ module _ (nodes : List Node) (fit : AllFit nodes) (small : Small nodes) where
       }
 
   -- ---- its words are all 0
-
-  flat-none : (n : ℕ) → flatMap (placeOf layout) (replicate n []) ≡ replicate (256 * n) 0
-  unfolding flatMap
-  flat-none zero = refl
-  flat-none (suc n) =
-      let e : 256 + 256 * n ≡ 256 * suc n = omega arith in
-      ap₂ {A = List ℕ} {B = List ℕ} {C = List ℕ} (λ a b. a ++ b) (sym place-none) (flat-none n) ∙ replicate-append-replicate {A = ℕ} 256 (256 * n) 0 ∙ ap (λ (k : ℕ). replicate {A = ℕ} k 0) e
 
   area-none : areaOf layout (replicate (length nodes) []) ≡ replicate 8192 0
   unfolding areaOf

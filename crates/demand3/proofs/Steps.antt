@@ -25,6 +25,13 @@ use Rattle.model.proofs.Fits.{length-widths}
 use Rattle.states.proofs.Worked.{worked-few, worked-low}
 use Rattle.states.proofs.Changes.{changes-size, gained-fits, lost-fits, stamps-length, stamps-below}
 
+-- what holds of a step: a proper state, the next one if it is accepted, kept by a refusal, and never reason 8
+pub record Sound (nodes : List Node) (s : State) (st : Step) : Type 0 where
+  pub proper : Proper nodes (st .state)
+  pub kept : isAccepted (st .verdict) ≡ false → st .state ≡ s
+  pub advanced : isAccepted (st .verdict) ≡ true → (copy : List Relation) × (st .state ≡ advance nodes s copy)
+  pub high : st .verdict .number ≡ 8 → ⊥
+
 module _ (nodes : List Node) (fit : AllFit nodes) where
   -- the tables of a proper state
   pub proper-tables : (s : State) → Proper nodes s → Tables nodes (s .tables)
@@ -76,21 +83,15 @@ module _ (nodes : List Node) (fit : AllFit nodes) where
       }
 
   module _ (s : State) (p : Proper nodes s) (b : Bytes) where
-    -- what holds of a step: a proper state, kept by a refusal, and never reason 8
-    pub record Sound (st : Step) : Type 0 where
-      pub proper : Proper nodes (st .state)
-      pub kept : isAccepted (st .verdict) ≡ false → st .state ≡ s
-      pub high : st .verdict .number ≡ 8 → ⊥
+    refused-sound : (n at : ℕ) → eqb n 0 ≡ false → (n ≡ 8 → ⊥) → Sound nodes s (refusedStep (refused n at) s)
+    refused-sound n at z h = record { proper = p; kept = λ e. refl; advanced = λ e. absurd (true≢false (sym e ∙ z)); high = h }
 
-    refused-sound : (n at : ℕ) → (n ≡ 8 → ⊥) → Sound (refusedStep (refused n at) s)
-    refused-sound n at h = record { proper = p; kept = λ e. refl; high = h }
-
-    limit-sound : (copy : List Relation) → Tables nodes copy → (over : List ℕ) → overfull 0 (evaluate nodes copy) ≡ over → Sound (limit nodes s copy over)
+    limit-sound : (copy : List Relation) → Tables nodes copy → (over : List ℕ) → overfull 0 (evaluate nodes copy) ≡ over → Sound nodes s (limit nodes s copy over)
     unfolding limit
-    limit-sound copy t [] e = record { proper = advance-proper s copy p t e; kept = λ f. absurd (true≢false f); high = λ z. absurd (omega arith) }
-    limit-sound copy t (i ∷ over) e = refused-sound 14 i (λ z. absurd (omega arith))
+    limit-sound copy t [] e = record { proper = advance-proper s copy p t e; kept = λ f. absurd (true≢false f); advanced = λ f. (copy, refl); high = λ z. absurd (omega arith) }
+    limit-sound copy t (i ∷ over) e = refused-sound 14 i refl (λ z. absurd (omega arith))
 
-    pub step-sound : Sound (step nodes s b)
+    pub step-sound : Sound nodes s (step nodes s b)
     unfolding step applyEvents
     step-sound = go (eqb (s .number) lastNumber) (isAccepted (readBatch nodes b .verdict)) refl
       where
@@ -100,7 +101,7 @@ module _ (nodes : List Node) (fit : AllFit nodes) where
         tables : Tables nodes (actAll (readBatch nodes b .events) (s .tables))
         tables = actAll-tables nodes (readBatch nodes b .events) (s .tables) (batch-good nodes b) (proper-tables s p)
 
-        go : (t u : Bool) → isAccepted (readBatch nodes b .verdict) ≡ u → Sound (cond t (refusedStep (refused 9 0) s) (cond u (limit nodes s (actAll (readBatch nodes b .events) (s .tables)) (overfull 0 (evaluate nodes (actAll (readBatch nodes b .events) (s .tables))))) (refusedStep (readBatch nodes b .verdict) s)))
-        go true u e = refused-sound 9 0 (λ z. absurd (omega arith))
+        go : (t u : Bool) → isAccepted (readBatch nodes b .verdict) ≡ u → Sound nodes s (cond t (refusedStep (refused 9 0) s) (cond u (limit nodes s (actAll (readBatch nodes b .events) (s .tables)) (overfull 0 (evaluate nodes (actAll (readBatch nodes b .events) (s .tables))))) (refusedStep (readBatch nodes b .verdict) s)))
+        go true u e = refused-sound 9 0 refl (λ z. absurd (omega arith))
         go false true e = limit-sound (actAll (readBatch nodes b .events) (s .tables)) tables (overfull 0 (evaluate nodes (actAll (readBatch nodes b .events) (s .tables)))) refl
-        go false false e = record { proper = p; kept = λ f. refl; high = batch-high nodes b }
+        go false false e = record { proper = p; kept = λ f. refl; advanced = λ f. absurd (true≢false (sym f ∙ e)); high = batch-high nodes b }

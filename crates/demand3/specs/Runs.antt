@@ -1,36 +1,29 @@
--- A list of batches, each call meeting its contract: what demand 3 speaks of.
-use mathlib.Core.Path.{_≡_}
-use mathlib.Core.Bool.{Bool, true, not}
-use mathlib.Core.List.{List, [], _∷_, map}
-use Prim.Native.Nat.{ℕ}
+-- A list of calls on the same areas, each meeting its contract: what demand 3 speaks of.
+use mathlib.Core.Bool.{Bool, not}
+use mathlib.Core.List.{List, [], _∷_}
 use lib.Dec.{eqb}
 use Rattle.model.specs.Row.{allOf}
 use Rattle.model.specs.Record.{Bytes}
-use Rattle.model.specs.Network.{Node}
-use Rattle.model.specs.Station.{opened, verdicts, stateAfter}
-use Rattle.model.specs.Areas.{Areas, layout, coherent, holding, HoldsState}
+use Rattle.model.specs.Station.{Call, apply}
+use Rattle.model.specs.Areas.{Areas}
 use Rattle.model.specs.Calls.{Result, Applied}
 
--- each batch's call meets its contract on the areas that the one before left; one result for each batch
-abbrev pub Runs : Bytes → Areas → List Bytes → List Result → Type 0
+-- a call meets its contract
+abbrev pub Meets : Bytes → Call → Areas → Result → Type 0
+Meets net (apply batch) a r = Applied net batch a r
+
+-- each call meets its contract on the areas that the one before left; one result for each call
+abbrev pub Runs : Bytes → Areas → List Call → List Result → Type 0
 Runs net a [] [] = Unit {0}
 Runs net a [] (r ∷ results) = ⊥
-Runs net a (b ∷ batches) [] = ⊥
-Runs net a (b ∷ batches) (r ∷ results) = Applied net b a r × Runs net (r .areas) batches results
+Runs net a (c ∷ calls) [] = ⊥
+Runs net a (c ∷ calls) (r ∷ results) = Meets net c a r × Runs net (r .areas) calls results
 
 -- the areas after the last call
 abbrev pub endOf : Areas → List Result → Areas
 endOf a [] = a
 endOf a (r ∷ results) = endOf (r .areas) results
 
--- "reason 8 never holds"
+-- no call is refused by 8
 abbrev pub neverEight : List Result → Bool
 neverEight results = allOf (λ r. not (eqb (r .verdict .number) 8)) results
-
--- demand 3, for a list of batches on areas that were opened
-pub record Demand3 (nodes : List Node) (a : Areas) (batches : List Bytes) (results : List Result) : Type 0 where
-  pub verdicts-are : map (λ r. r .verdict) results ≡ verdicts nodes (opened nodes) batches
-  pub never-eight : neverEight results ≡ true
-  pub words-are : endOf a results ≡ holding layout nodes (stateAfter nodes (opened nodes) batches) a
-  pub holds : HoldsState layout nodes (endOf a results) (stateAfter nodes (opened nodes) batches)
-  pub coherent-still : coherent layout nodes (endOf a results) ≡ true

@@ -9,7 +9,7 @@ use Rattle.model.specs.Record.{Bytes, bytes16, bytes32, Verdict, accepte
 use Rattle.model.specs.Network.{Node, Network, readNetwork, levels}
 use Rattle.model.specs.Evaluation.{evaluate}
 use Rattle.model.specs.Delta.{changeAt}
-use Rattle.model.specs.Station.{State, opened, verdicts, stateAfter}
+use Rattle.model.specs.Station.{State, opened, apply, verdicts, stateAfter}
 use Rattle.model.specs.Areas.{Areas, Layout, areaWords, headWords, goodForm, coherent, rowsIn, stateIn, headOf, holding, sameRelations}
 
 -- ---- bytes of records
@@ -114,11 +114,11 @@ case network batches question expected = record { network = network; batches = b
 answerOf : Question → List Node → List Bytes → List Row
 unfolding levels verdicts stateAfter opened evaluate
 answerOf askLevels nodes batches = levels nodes ∷ []
-answerOf askVerdicts nodes batches = map (λ v. v .number ∷ v .place ∷ []) (verdicts nodes (opened nodes) batches)
-answerOf askWorked nodes batches = stateAfter nodes (opened nodes) batches .worked ∷ []
-answerOf (askRows i) nodes batches = getD (evaluate nodes (stateAfter nodes (opened nodes) batches .tables)) i []
-answerOf (askGained i) nodes batches = changeAt (stateAfter nodes (opened nodes) batches .changes) i .gained
-answerOf (askLost i) nodes batches = changeAt (stateAfter nodes (opened nodes) batches .changes) i .lost
+answerOf askVerdicts nodes batches = map (λ v. v .number ∷ v .place ∷ []) (verdicts nodes (opened nodes) (map apply batches))
+answerOf askWorked nodes batches = stateAfter nodes (opened nodes) (map apply batches) .worked ∷ []
+answerOf (askRows i) nodes batches = getD (evaluate nodes (stateAfter nodes (opened nodes) (map apply batches) .tables)) i []
+answerOf (askGained i) nodes batches = changeAt (stateAfter nodes (opened nodes) (map apply batches) .changes) i .gained
+answerOf (askLost i) nodes batches = changeAt (stateAfter nodes (opened nodes) (map apply batches) .changes) i .lost
 
 isRight : Case → Bool
 unfolding answerOf readNetwork
@@ -194,7 +194,7 @@ nodesN = readNetwork networkN .network .nodes
 -- N after its first two batches
 stateN : State
 unfolding nodesN opened stateAfter batch1 batch2
-stateN = stateAfter nodesN (opened nodesN) (batch1 ∷ batch2 ∷ [])
+stateN = stateAfter nodesN (opened nodesN) (apply batch1 ∷ apply batch2 ∷ [])
 
 areasN : Areas
 unfolding holding small nodesN stateN blank

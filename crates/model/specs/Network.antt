@@ -313,3 +313,7 @@ readRecords bs net (at ∷ rest) =
 unfoldable pub readNetwork : Bytes → Reading
 unfolding readRecords offsets
 readNetwork bs = cond (isEmpty bs) (refusedReading 2 0) (readRecords bs noNetwork (offsets bs))
+
+-- the nodes that a network's bytes bring
+abbrev pub nodesIn : Bytes → List Node
+nodesIn bs = readNetwork bs .network .nodes

@@ -94,16 +94,25 @@ step nodes s batch =
     let result : Step = applyEvents nodes s (reading .events) in
     cond (eqb (s .number) lastNumber) (refusedStep (refused 9 0) s) (cond (isAccepted (reading .verdict)) result (refusedStep (reading .verdict) s))
 
--- ---- a list of batches, refused ones included
+-- ---- a list of calls, refused ones included
 
--- the verdicts, one for each batch
-unfoldable pub verdicts : List Node → State → List Bytes → List Verdict
+-- a call of the list: a batch's bytes are applied
+pub data Call : Type 0 where
+  apply : Bytes → Call
+
+-- what the plain station says of a call, and its state afterwards
+unfoldable pub stepOf : List Node → State → Call → Step
 unfolding step
+stepOf nodes s (apply batch) = step nodes s batch
+
+-- the verdicts, one for each call
+unfoldable pub verdicts : List Node → State → List Call → List Verdict
+unfolding stepOf
 verdicts nodes s [] = []
-verdicts nodes s (b ∷ batches) = step nodes s b .verdict ∷ verdicts nodes (step nodes s b .state) batches
+verdicts nodes s (c ∷ calls) = stepOf nodes s c .verdict ∷ verdicts nodes (stepOf nodes s c .state) calls
 
 -- the state after the list
-unfoldable pub stateAfter : List Node → State → List Bytes → State
-unfolding step
+unfoldable pub stateAfter : List Node → State → List Call → State
+unfolding stepOf
 stateAfter nodes s [] = s
-stateAfter nodes s (b ∷ batches) = stateAfter nodes (step nodes s b .state) batches
+stateAfter nodes s (c ∷ calls) = stateAfter nodes (stepOf nodes s c .state) calls

@@ -52,7 +52,7 @@ module _ (net : Bytes) (a : Areas) (k : Ready net a) (b : Bytes) (r : Result) (m
   unfolding resultOf
   verdict-is = ap (λ (x : Result). x .verdict) result-is
 
-  sound : Sound (readNetwork net .network .nodes) (read-fits net) (stateOf net a) (state-proper (readNetwork net .network .nodes) (read-small net) a (k .whole)) b (step (readNetwork net .network .nodes) (stateOf net a) b)
+  sound : Sound (readNetwork net .network .nodes) (stateOf net a) (step (readNetwork net .network .nodes) (stateOf net a) b)
   sound = step-sound ns (read-fits net) (stateOf net a) (state-proper ns (read-small net) a (k .whole)) b
 
   areas-are : (t : Bool) → isAccepted (step (readNetwork net .network .nodes) (stateOf net a) b .verdict) ≡ t → r .areas ≡ cond t (holding layout (readNetwork net .network .nodes) (step (readNetwork net .network .nodes) (stateOf net a) b .state) a) a

@@ -5,7 +5,7 @@ ghost use Prim.Native.Nat.{ℕ, _+_, _≤_, _<_};
 ghost use Rattle.model.specs.Text.{pieces};
 ghost use Rattle.areas.specs.Lent.{lent};
 ghost use Rattle.batch.specs.Applying.{resultWith};
-ghost use Rattle.replay.specs.Replayed.{Reaches, Replayed, batchesOf};
+ghost use Rattle.replay.specs.Replayed.{Reaches, Replayed, callsOf};
 use network::Verdict;
 use station_text::Piece;
 
@@ -18,7 +18,7 @@ fn replay_batches(
     lost: &mut [u32],
     head: &mut [u32],
 )
-    ensures { λ _. ⌜ Reaches (now (net .entry)) (lent (now (rows .entry)) (now (gained .entry)) (now (lost .entry)) (now (head .entry))) (batchesOf (pieces (now (file .entry)))) (lent (now (rows .exit)) (now (gained .exit)) (now (lost .exit)) (now (head .exit))) ⌝ }
+    ensures { λ _. ⌜ Reaches (now (net .entry)) (lent (now (rows .entry)) (now (gained .entry)) (now (lost .entry)) (now (head .entry))) (callsOf (pieces (now (file .entry)))) (lent (now (rows .exit)) (now (gained .exit)) (now (lost .exit)) (now (head .exit))) ⌝ }
 {
     let mut start = 0;
     while start < file.len() {

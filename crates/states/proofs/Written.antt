@@ -70,6 +70,14 @@ pub place-none : replicate 256 0 ≡ placeOf layout []
 unfolding placeOf flatMap
 place-none = refl
 
+-- the places of nodes without rows
+pub flat-none : (n : ℕ) → flatMap (placeOf layout) (replicate n []) ≡ replicate (256 * n) 0
+unfolding flatMap
+flat-none zero = refl
+flat-none (suc n) =
+    let e : 256 + 256 * n ≡ 256 * suc n = omega arith in
+    ap₂ {A = List ℕ} {B = List ℕ} {C = List ℕ} (λ a b. a ++ b) (sym place-none) (flat-none n) ∙ replicate-append-replicate {A = ℕ} 256 (256 * n) 0 ∙ ap (λ (k : ℕ). replicate {A = ℕ} k 0) e
+
 module _ (ws : List ℕ) (rels : List Relation) (f : Fitting ws rels) where
   pub sized : Sized rels
   unfolding Sized

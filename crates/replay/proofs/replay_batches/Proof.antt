@@ -7,7 +7,7 @@ use Rattle.replay.proofs.replay_batches.Statement.{statement}
 use Rattle.replay.proofs.Replaying.{Replaying, replay-start, replay-more, replay-done, replay-end}
 use Rattle.areas.specs.Lent.{lent}
 use Rattle.batch.specs.Applying.{resultWith}
-use Rattle.replay.specs.Replayed.{batchesOf}
+use Rattle.replay.specs.Replayed.{callsOf}
 use Rattle.replay.proofs.replay_batches.Tie as tie
 use Rattle.replay.proofs.replay_batches.Reads as reads
 use Rattle.replay.proofs.replay_batches.Lts as lts
@@ -66,7 +66,7 @@ same-length-4 : tie.Need-same-length-4 Inv-loop μ-loop
 same-length-4 c = c .before .before .before .before .loop .inv .4
 
 returns : tie.Need-returns Inv-loop μ-loop
-returns c = let a = (c .before .before .before .before .before .before .before .before .before .before .before .args) in let n = rw (c .enum-told .given .1) at (c .before .before .next-piece .ensures) in replay-done (a .net .now) (a .file .now) (lent (a .rows .now) (a .gained .now) (a .lost .now) (a .head .now)) (lent (c .before .before .before .before .loop .rows) (c .before .before .before .before .loop .gained) (c .before .before .before .before .loop .lost) (c .before .before .before .before .loop .head)) (c .before .before .before .before .loop .start) (c .before .before .before .before .loop .inv .0) (ap batchesOf n)
+returns c = let a = (c .before .before .before .before .before .before .before .before .before .before .before .args) in let n = rw (c .enum-told .given .1) at (c .before .before .next-piece .ensures) in replay-done (a .net .now) (a .file .now) (lent (a .rows .now) (a .gained .now) (a .lost .now) (a .head .now)) (lent (c .before .before .before .before .loop .rows) (c .before .before .before .before .loop .gained) (c .before .before .before .before .loop .lost) (c .before .before .before .before .loop .head)) (c .before .before .before .before .loop .start) (c .before .before .before .before .loop .inv .0) (ap callsOf n)
 
 enum-told-2 : tie.Need-enum-told-2 Inv-loop μ-loop
 enum-told-2 c = search needs
@@ -84,7 +84,7 @@ same-length-8 : tie.Need-same-length-8 Inv-loop μ-loop
 same-length-8 c = c .before .before .before .before .loop .inv .4
 
 returns-2 : tie.Need-returns-2 Inv-loop μ-loop
-returns-2 c = let a = (c .before .before .before .before .before .before .before .before .before .before .before .args) in let n = rw (c .enum-told2 .given .1) at (c .before .before .next-piece .ensures) in replay-done (a .net .now) (a .file .now) (lent (a .rows .now) (a .gained .now) (a .lost .now) (a .head .now)) (lent (c .before .before .before .before .loop .rows) (c .before .before .before .before .loop .gained) (c .before .before .before .before .loop .lost) (c .before .before .before .before .loop .head)) (c .before .before .before .before .loop .start) (c .before .before .before .before .loop .inv .0) (ap batchesOf n)
+returns-2 c = let a = (c .before .before .before .before .before .before .before .before .before .before .before .args) in let n = rw (c .enum-told2 .given .1) at (c .before .before .next-piece .ensures) in replay-done (a .net .now) (a .file .now) (lent (a .rows .now) (a .gained .now) (a .lost .now) (a .head .now)) (lent (c .before .before .before .before .loop .rows) (c .before .before .before .before .loop .gained) (c .before .before .before .before .loop .lost) (c .before .before .before .before .loop .head)) (c .before .before .before .before .loop .start) (c .before .before .before .before .loop .inv .0) (ap callsOf n)
 
 enum-told-3 : tie.Need-enum-told-3 Inv-loop μ-loop
 enum-told-3 c = search needs
@@ -102,7 +102,7 @@ same-length-12 : tie.Need-same-length-12 Inv-loop μ-loop
 same-length-12 c = c .before .before .before .before .loop .inv .4
 
 returns-3 : tie.Need-returns-3 Inv-loop μ-loop
-returns-3 c = let a = (c .before .before .before .before .before .before .before .before .before .before .before .args) in let n = rw (c .enum-told3 .given .1) at (c .before .before .next-piece .ensures) in replay-done (a .net .now) (a .file .now) (lent (a .rows .now) (a .gained .now) (a .lost .now) (a .head .now)) (lent (c .before .before .before .before .loop .rows) (c .before .before .before .before .loop .gained) (c .before .before .before .before .loop .lost) (c .before .before .before .before .loop .head)) (c .before .before .before .before .loop .start) (c .before .before .before .before .loop .inv .0) (ap batchesOf n)
+returns-3 c = let a = (c .before .before .before .before .before .before .before .before .before .before .before .args) in let n = rw (c .enum-told3 .given .1) at (c .before .before .next-piece .ensures) in replay-done (a .net .now) (a .file .now) (lent (a .rows .now) (a .gained .now) (a .lost .now) (a .head .now)) (lent (c .before .before .before .before .loop .rows) (c .before .before .before .before .loop .gained) (c .before .before .before .before .loop .lost) (c .before .before .before .before .loop .head)) (c .before .before .before .before .loop .start) (c .before .before .before .before .loop .inv .0) (ap callsOf n)
 
 same-length-13 : tie.Need-same-length-13 Inv-loop μ-loop
 same-length-13 c = c .before .loop .inv .1
