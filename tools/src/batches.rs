@@ -119,7 +119,8 @@ fn event(net: &Network, line: &mut Line) -> Checked<Vec<u8>> {
     }
     if count != node.columns.len() {
         return line.fail(format!(
-            "{count} numbers, and a row of '{}' has {} ({})",
+            "{}, and a row of '{}' has {} ({})",
+            grammar::counted(count, "number", "numbers"),
             node.name,
             node.columns.len(),
             node.columns.join(", ")

@@ -4,7 +4,7 @@ use std::path::Path;
 
 use crate::batches::{self, Assembled, FILE};
 use crate::draw::{self, Held};
-use crate::grammar::Problem;
+use crate::grammar::{counted, Problem};
 use crate::station::{run, Station};
 use crate::{grammar, why, Network};
 
@@ -266,10 +266,6 @@ fn events(given: &Arguments) -> Result<Done, Failure> {
     Done::text(text.map_err(|e| input(format!("{path}: {e}")))?)
 }
 
-fn count(n: usize, what: &str, many: &str) -> String {
-    format!("{n} {}", if n == 1 { what } else { many })
-}
-
 fn check(given: &Arguments) -> Result<Done, Failure> {
     let words = given.words();
     let Some((first, files)) = words.split_first() else {
@@ -281,8 +277,8 @@ fn check(given: &Arguments) -> Result<Done, Failure> {
     let mut done = Done {
         text: format!(
             "{first}: accepted: {}, {}, levels 0 to {top}\n",
-            count(net.nodes.len(), "node", "nodes"),
-            count(watches, "watch", "watches")
+            counted(net.nodes.len(), "node", "nodes"),
+            counted(watches, "watch", "watches")
         ),
         fine: true,
     };
@@ -303,7 +299,7 @@ fn check_file(net: &Network, path: &str) -> Result<(String, bool), Failure> {
     let (told, fine) = run(net, path, &file).map_err(|e| input(e.to_string()))?;
     let number = told.lines().filter(|l| l.starts_with("batch ")).count();
     if fine {
-        let batches = count(number, "batch", "batches");
+        let batches = counted(number, "batch", "batches");
         return Ok((format!("{path}: accepted: {batches}"), true));
     }
     let mut turn = 0;

@@ -102,6 +102,11 @@ pub fn reserved() -> impl Iterator<Item = &'static str> {
         .chain(INNER.iter().copied())
 }
 
+/// A number of things: `1 row`, `2 rows`.
+pub fn counted(count: usize, one: &str, many: &str) -> String {
+    format!("{count} {}", if count == 1 { one } else { many })
+}
+
 fn is_sign(c: char) -> bool {
     "=!<>".contains(c)
 }

@@ -1,7 +1,7 @@
 //! Networks, to and from bytes.
 use bagwezin::{Monitor, Refusal};
 
-use crate::grammar::{COMPARISONS, SIGNS};
+use crate::grammar::{counted, COMPARISONS, SIGNS};
 use crate::refused;
 
 pub type Row = Vec<u32>;
@@ -385,12 +385,7 @@ fn two(bytes: &[u8], at: usize) -> Option<usize> {
 pub fn length(bytes: &[u8]) -> Result<usize, String> {
     match two(bytes, 0) {
         _ if bytes.len() < 4 => {
-            let left = bytes.len();
-            let remain = if left == 1 {
-                "1 byte remains".into()
-            } else {
-                format!("{left} bytes remain")
-            };
+            let remain = counted(bytes.len(), "byte remains", "bytes remain");
             Err(format!("{remain}, a record has at least 4"))
         }
         Some(n) if n < 4 => Err(format!("it says that it has {n} bytes, below 4")),

@@ -4,6 +4,7 @@ use std::collections::{BTreeMap, BTreeSet};
 use bagwezin::{Monitor, Refusal};
 
 use crate::batches::{pieces, Assembled, Rest, FILE};
+use crate::grammar::counted;
 use crate::{refused, Network, Row};
 
 /// A network, its monitor, and every node's rows so far.
@@ -138,9 +139,9 @@ fn rest(net: &Network, file: &[u8], rest: &Rest) -> Option<String> {
         Rest::Nothing => None,
         Rest::Unfinished(range) => {
             let count = crate::network::offsets(&file[range.clone()]).count();
-            let records = if count == 1 { "record" } else { "records" };
+            let records = counted(count, "record", "records");
             Some(format!(
-                "unfinished: {count} {records} after the last mark, not applied"
+                "unfinished: {records} after the last mark, not applied"
             ))
         }
         Rest::Broken(range, place) => {

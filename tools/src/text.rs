@@ -188,9 +188,9 @@ impl Network {
         let (l, r) = (&self.nodes[left], &self.nodes[right]);
         if l.columns.len() != r.columns.len() {
             return line.fail(format!(
-                "the rows of '{}' have {} fields, those of '{}' have {}: they must be of one width",
+                "the rows of '{}' have {}, those of '{}' have {}: they must be of one width",
                 l.name,
-                l.columns.len(),
+                grammar::counted(l.columns.len(), "field", "fields"),
                 r.name,
                 r.columns.len()
             ));

@@ -1,6 +1,7 @@
 //! Why a row is at a node, through the network down to the tables' rows; or why it is not.
 use std::collections::BTreeSet;
 
+use crate::grammar::counted;
 use crate::network::{Op, Set};
 use crate::station::Station;
 use crate::{grammar, Network, Row};
@@ -13,17 +14,8 @@ pub fn row(net: &Network, node: usize, words: &[&str]) -> Result<Row, String> {
     let n = &net.nodes[node];
     let shape = || {
         let named: Vec<String> = n.columns.iter().map(|c| format!("{c}=NUMBER")).collect();
-        format!(
-            "a row of '{}' is {} {}, or {}",
-            n.name,
-            n.columns.len(),
-            if n.columns.len() == 1 {
-                "number"
-            } else {
-                "numbers"
-            },
-            named.join(" ")
-        )
+        let numbers = counted(n.columns.len(), "number", "numbers");
+        format!("a row of '{}' is {numbers}, or {}", n.name, named.join(" "))
     };
     let mut fields = vec![None; n.columns.len()];
     for (k, word) in words.iter().enumerate() {
@@ -163,7 +155,7 @@ impl Teller<'_> {
             Op::Project { input, columns } => {
                 let fields = agreed(columns.iter().copied().zip(row.iter().copied()));
                 let from = self.matching(input, &fields.unwrap_or_default());
-                let count = counted(from.len(), "row");
+                let count = counted(from.len(), "row", "rows");
                 self.line(
                     depth,
                     &format!("{named}: from {count} of {}", self.name(input)),
@@ -180,7 +172,7 @@ impl Teller<'_> {
                     on if on.is_empty() => String::new(),
                     on => format!(" with {on}"),
                 };
-                let count = counted(pairs.len(), "pair");
+                let count = counted(pairs.len(), "pair", "pairs");
                 self.line(depth, &format!("{named}: from {count} of {l} and {r}{on}"));
                 for (a, b) in pairs.iter().take(self.most) {
                     self.tell(depth + 1, "", left, a);
@@ -278,7 +270,7 @@ impl Teller<'_> {
                     0 => String::new(),
                     n => format!(
                         ": {} of {} {} {}",
-                        counted(n, "row"),
+                        counted(n, "row", "rows"),
                         self.name(input),
                         if n == 1 { "fails" } else { "fail" },
                         self.net().test(node)
@@ -371,7 +363,8 @@ impl Teller<'_> {
             self.absence(depth + 1, "", right, &r);
         }
         if !some.is_empty() && !others.is_empty() {
-            let (a, b) = (counted(some.len(), "row"), counted(others.len(), "row"));
+            let rows = |list: &[Row]| counted(list.len(), "row", "rows");
+            let (a, b) = (rows(&some), rows(&others));
             let test = self.net().pairs_of(left, right, pairs);
             let text = format!("{a} of {x} and {b} of {y} would fit, and no two agree on {test}");
             self.line(depth + 1, &text);
@@ -419,8 +412,4 @@ fn carried(mut fields: Known, wide: usize, pairs: &[(usize, usize)]) -> Known {
         }
     }
     fields
-}
-
-fn counted(count: usize, what: &str) -> String {
-    format!("{count} {what}{}", if count == 1 { "" } else { "s" })
 }

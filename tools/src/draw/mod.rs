@@ -6,6 +6,7 @@ mod svg;
 pub use dot::{dot, graphviz};
 pub use svg::svg;
 
+use crate::grammar::counted;
 use crate::network::{Network, Op};
 use crate::station::Station;
 use crate::Row;
@@ -198,7 +199,7 @@ fn lines(net: &Network, i: usize, held: Option<&Held>) -> Vec<Line> {
 /// How many rows a node has, and how many the last batch changed.
 fn counts(held: &Held) -> String {
     let (rows, gained, lost) = (held.rows.len(), held.gained.len(), held.lost.len());
-    let mut out = format!("{rows} {}", if rows == 1 { "row" } else { "rows" });
+    let mut out = counted(rows, "row", "rows");
     if gained > 0 {
         out += &format!(", {gained} gained");
     }
