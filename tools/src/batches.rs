@@ -72,9 +72,9 @@ pub fn assemble(net: &Network, text: &str) -> Checked<Assembled> {
                 out.ends.push(number);
                 events = 0;
             }
-            "unfinished" if events == 0 => return line.fail(
-                "'unfinished' stands for the missing 'end' of events, and there are none above it",
-            ),
+            "unfinished" if events == 0 => {
+                return line.fail("'unfinished' stands for the missing 'end' of events, and there are none above it")
+            }
             "unfinished" => closed = true,
             _ => {
                 events += 1;
@@ -91,10 +91,7 @@ pub fn assemble(net: &Network, text: &str) -> Checked<Assembled> {
     }
     if events > 0 && !closed {
         let text = "the last batch has no 'end' (a rest that the station shall not apply ends in 'unfinished')";
-        return Err(Problem {
-            line: last,
-            text: text.into(),
-        });
+        return Err(Problem { line: last, text: text.into() });
     }
     Ok(out)
 }
@@ -105,10 +102,7 @@ fn event(net: &Network, line: &mut Line) -> Checked<Vec<u8>> {
     let table = line.node(net)?;
     let node = &net.nodes[table];
     if !net.is_table(table) {
-        return line.fail(format!(
-            "'{}' is no table: events name tables alone",
-            node.name
-        ));
+        return line.fail(format!("'{}' is no table: events name tables alone", node.name));
     }
     let mut fields = vec![table];
     let mut count = 0;
@@ -170,11 +164,7 @@ fn records_text(net: &Network, batch: &[u8]) -> Result<String, String> {
 fn event_text(net: &Network, record: &[u8]) -> String {
     let two = |at: usize| u16::from_le_bytes([record[at], record[at + 1]]) as u32;
     let table = &net.nodes[two(4) as usize];
-    let word = if two(2) as usize == PUT {
-        "put"
-    } else {
-        "remove"
-    };
+    let word = if two(2) as usize == PUT { "put" } else { "remove" };
     let fields = (0..table.columns.len()).map(|k| two(6 + 4 * k) + (two(8 + 4 * k) << 16));
     let row: String = fields.map(|v| format!(" {v}")).collect();
     format!("{word} {}{row}\n", table.name)

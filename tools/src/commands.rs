@@ -76,15 +76,15 @@ const COMMANDS: [Command; 8] = [
     },
 ];
 
-const NOTES: &str = "NETWORK and BATCHES are text or bytes: a file is bytes if its name ends in .bin or if it has a zero byte.
+const NOTES: &str =
+    "NETWORK and BATCHES are text or bytes: a file is bytes if its name ends in .bin or if it has a zero byte.
 A node is a name, or @ and its number. ROW is the row's numbers, or COLUMN=NUMBER for each column, as `run` prints it.
 --dot hands the picture to Graphviz if that is installed; with an OUT that ends in .dot the graph itself is written.
 Exit status: 0 done, 1 bad input or a refusal, 2 a wrong command line. The grammar of the texts: docs/TEXT.md.
 ";
 
 /// Why a command was not done.
-#[derive(Debug)]
-pub enum Failure {
+enum Failure {
     /// A wrong command line.
     Usage(String),
     /// Bad input.
@@ -139,9 +139,7 @@ impl Arguments {
                     let number = number.map_err(|e| Failure::Usage(format!("--after: {e}")))?;
                     out.after = Some(number);
                 }
-                w if w.starts_with("--") => {
-                    return Err(Failure::Usage(format!("there is no option {w}")))
-                }
+                w if w.starts_with("--") => return Err(Failure::Usage(format!("there is no option {w}"))),
                 _ => out.words.push(word.clone()),
             }
         }
@@ -186,9 +184,7 @@ fn is_bytes(path: &str, bytes: &[u8]) -> bool {
 
 fn as_text(path: &str, bytes: Vec<u8>) -> Result<String, Failure> {
     if bytes.contains(&0) {
-        let text = format!(
-            "{path}: this is no text but bytes: the commands text and events make text of them"
-        );
+        let text = format!("{path}: this is no text but bytes: the commands text and events make text of them");
         return Err(input(text));
     }
     String::from_utf8(bytes).map_err(|e| {
@@ -220,10 +216,7 @@ fn network_of(path: &str) -> Result<Network, Failure> {
 fn batches_of(net: &Network, path: &str) -> Result<Assembled, Failure> {
     let bytes = bytes_of(path)?;
     if is_bytes(path, &bytes) {
-        return Ok(Assembled {
-            bytes,
-            ends: Vec::new(),
-        });
+        return Ok(Assembled { bytes, ends: Vec::new() });
     }
     located(path, batches::assemble(net, &as_text(path, bytes)?))
 }
@@ -379,10 +372,7 @@ fn draw_network(given: &Arguments) -> Result<Done, Failure> {
 /// The form of a command, what it does, and its example.
 fn help_of(c: &Command) -> String {
     let (name, arguments) = (c.name, c.arguments);
-    format!(
-        "  {name} {arguments}\n      {}\n      bagwezin-tools {}\n",
-        c.says, c.example
-    )
+    format!("  {name} {arguments}\n      {}\n      bagwezin-tools {}\n", c.says, c.example)
 }
 
 fn help() -> String {
@@ -410,11 +400,7 @@ fn done(args: &[String]) -> Result<Done, Failure> {
         return Done::text(format!("usage: bagwezin-tools\n{}", help_of(command)));
     }
     let usage = |text: String| {
-        let text = if text.is_empty() {
-            "wrong arguments".into()
-        } else {
-            text
-        };
+        let text = if text.is_empty() { "wrong arguments".into() } else { text };
         Failure::Usage(format!("{first}: {text}\nusage:\n{}", help_of(command)))
     };
     let answer = Arguments::new(&args[1..]).and_then(|given| {
@@ -443,9 +429,7 @@ pub fn main(args: &[String]) -> i32 {
         }
         Ok(done) => {
             let mut out = std::io::stdout().lock();
-            let written = out
-                .write_all(done.text.as_bytes())
-                .and_then(|()| out.flush());
+            let written = out.write_all(done.text.as_bytes()).and_then(|()| out.flush());
             match written {
                 Err(e) if e.kind() != ErrorKind::BrokenPipe => {
                     eprintln!("standard output: {e}");

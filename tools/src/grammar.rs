@@ -9,51 +9,23 @@ pub struct Form {
 }
 
 const fn form(word: &'static str, line: &'static str, example: &'static str) -> Form {
-    Form {
-        word,
-        line,
-        example,
-    }
+    Form { word, line, example }
 }
 
 /// The lines of a network, in the order of their kinds.
 pub const RECORDS: [Form; 8] = [
-    form(
-        "table",
-        "table NAME COLUMN ...",
-        "table catches block trap week count",
-    ),
-    form(
-        "select",
-        "select NAME = NODE where COLUMN COMPARISON VALUE",
-        "select heavy = catches where count >= 8",
-    ),
-    form(
-        "project",
-        "project NAME = NODE give COLUMN ...",
-        "project reached = codling give block week",
-    ),
+    form("table", "table NAME COLUMN ...", "table catches block trap week count"),
+    form("select", "select NAME = NODE where COLUMN COMPARISON VALUE", "select heavy = catches where count >= 8"),
+    form("project", "project NAME = NODE give COLUMN ...", "project reached = codling give block week"),
     form(
         "join",
         "join NAME = LEFT RIGHT [on COLUMN = COLUMN [and COLUMN = COLUMN]] give SIDE.COLUMN ...",
         "join lured = heavy lures on trap = trap give left.block left.week right.species",
     ),
-    form(
-        "union",
-        "union NAME = LEFT RIGHT",
-        "union known = sprayed exempt",
-    ),
-    form(
-        "minus",
-        "minus NAME = LEFT RIGHT",
-        "minus unsprayed = reached sprays",
-    ),
-    form(
-        "intersect",
-        "intersect NAME = LEFT RIGHT",
-        "intersect again = reached sprays",
-    ),
-    form("watch", "watch NODE gained|lost|both", "watch advice both"),
+    form("union", "union NAME = LEFT RIGHT", "union known = sprayed exempt"),
+    form("minus", "minus NAME = LEFT RIGHT", "minus unsprayed = reached sprays"),
+    form("intersect", "intersect NAME = LEFT RIGHT", "intersect again = reached sprays"),
+    form("watch", "watch NODE SIGN", "watch advice both"),
 ];
 
 /// The lines of a file of batches.
@@ -65,9 +37,7 @@ pub const EVENTS: [Form; 4] = [
 ];
 
 /// Words that stand inside lines.
-const INNER: [&str; 10] = [
-    "where", "on", "and", "give", "as", "left", "right", "gained", "lost", "both",
-];
+const INNER: [&str; 10] = ["where", "on", "and", "give", "as", "left", "right", "gained", "lost", "both"];
 
 /// Comparisons by their codes.
 pub const COMPARISONS: [&str; 6] = ["=", "!=", "<", "<=", ">", ">="];
@@ -95,11 +65,7 @@ pub type Checked<T> = Result<T, Problem>;
 
 /// The words that cannot be names.
 pub fn reserved() -> impl Iterator<Item = &'static str> {
-    RECORDS
-        .iter()
-        .chain(&EVENTS)
-        .map(|f| f.word)
-        .chain(INNER.iter().copied())
+    RECORDS.iter().chain(&EVENTS).map(|f| f.word).chain(INNER.iter().copied())
 }
 
 /// A number of things: `1 row`, `2 rows`.
@@ -118,9 +84,7 @@ pub fn words(line: &str) -> Vec<&str> {
     for piece in kept.split_whitespace() {
         let mut rest = piece;
         while let Some(first) = rest.chars().next() {
-            let end = rest
-                .find(|c| is_sign(c) != is_sign(first))
-                .unwrap_or(rest.len());
+            let end = rest.find(|c| is_sign(c) != is_sign(first)).unwrap_or(rest.len());
             out.push(&rest[..end]);
             rest = &rest[end..];
         }
@@ -131,10 +95,7 @@ pub fn words(line: &str) -> Vec<&str> {
 /// The lines of a text that are not empty, with their numbers and words.
 pub fn lines(text: &str) -> impl Iterator<Item = (usize, Vec<&str>)> {
     let text = text.strip_prefix('\u{feff}').unwrap_or(text);
-    (1..)
-        .zip(text.lines())
-        .map(|(n, line)| (n, words(line)))
-        .filter(|(_, w)| !w.is_empty())
+    (1..).zip(text.lines()).map(|(n, line)| (n, words(line))).filter(|(_, w)| !w.is_empty())
 }
 
 /// Whether a word can be a name, or what is wrong with it.
@@ -143,14 +104,10 @@ pub fn name(word: &str) -> Result<String, String> {
     let starts = letters.next().is_some_and(char::is_alphabetic);
     let goes_on = letters.all(|c| c.is_alphabetic() || c.is_ascii_digit() || c == '_' || c == '-');
     if !starts || !goes_on {
-        return Err(format!(
-            "'{word}' is no name: a name is a letter, then letters, digits, _ and -"
-        ));
+        return Err(format!("'{word}' is no name: a name is a letter, then letters, digits, _ and -"));
     }
     if reserved().any(|r| r == word) {
-        return Err(format!(
-            "'{word}' is a word of the grammar and cannot be a name: choose another"
-        ));
+        return Err(format!("'{word}' is a word of the grammar and cannot be a name: choose another"));
     }
     Ok(word.into())
 }
@@ -164,8 +121,7 @@ pub fn number(word: &str) -> Result<u32, String> {
     if !digits(word) {
         return Err(format!("'{word}' is no number from 0 to {LARGEST}"));
     }
-    word.parse()
-        .map_err(|_| format!("{word} is above {LARGEST}, the largest number of a field"))
+    word.parse().map_err(|_| format!("{word} is above {LARGEST}, the largest number of a field"))
 }
 
 /// A position: digits after a mark that no name begins with.
@@ -197,22 +153,16 @@ pub fn column(net: &Network, node: usize, word: &str) -> Result<usize, String> {
         None => n.columns.iter().position(|c| c == word),
     };
     found.ok_or_else(|| {
-        let hint = if digits(word) {
-            format!("; a position is written .{word}")
-        } else {
-            String::new()
-        };
-        format!(
-            "'{}' has no column '{word}' (it has {}{hint})",
-            n.name,
-            n.columns.join(", ")
-        )
+        let hint = if digits(word) { format!("; a position is written .{word}") } else { String::new() };
+        format!("'{}' has no column '{word}' (it has {}{hint})", n.name, n.columns.join(", "))
     })
 }
 
 /// The words of one line, read one after the other.
 pub struct Line<'a> {
     pub number: usize,
+    /// Which of the forms it has.
+    pub which: usize,
     form: &'static Form,
     words: Vec<&'a str>,
     at: usize,
@@ -222,21 +172,13 @@ impl<'a> Line<'a> {
     /// A line whose first word has one of the forms.
     pub fn new(number: usize, words: Vec<&'a str>, forms: &'static [Form]) -> Checked<Line<'a>> {
         let first = words[0];
-        match forms.iter().find(|f| f.word == first) {
-            Some(form) => Ok(Line {
-                number,
-                form,
-                words,
-                at: 1,
-            }),
+        match forms.iter().position(|f| f.word == first) {
+            Some(which) => Ok(Line { number, which, form: &forms[which], words, at: 1 }),
             None => {
                 let known: Vec<&str> = forms.iter().map(|f| f.line).collect();
                 Err(Problem {
                     line: number,
-                    text: format!(
-                        "no line begins with '{first}'; the lines are\n    {}",
-                        known.join("\n    ")
-                    ),
+                    text: format!("no line begins with '{first}'; the lines are\n    {}", known.join("\n    ")),
                 })
             }
         }
@@ -248,10 +190,7 @@ impl<'a> Line<'a> {
 
     /// A problem of this line.
     pub fn fail<T>(&self, text: impl Into<String>) -> Checked<T> {
-        Err(Problem {
-            line: self.number,
-            text: text.into(),
-        })
+        Err(Problem { line: self.number, text: text.into() })
     }
 
     /// The same, and how the line should look.

@@ -1,5 +1,5 @@
 //! Networks, to and from bytes.
-use bagwezin::{Monitor, Refusal};
+use bagwezin::{outcome, raw, Refusal, ANSWER};
 
 use crate::grammar::{counted, COMPARISONS, SIGNS};
 use crate::refused;
@@ -25,11 +25,7 @@ pub enum Set {
     Intersect,
 }
 
-pub const SETS: [(Set, &str); 3] = [
-    (Set::Union, "union"),
-    (Set::Minus, "minus"),
-    (Set::Intersect, "intersect"),
-];
+pub const SETS: [(Set, &str); 3] = [(Set::Union, "union"), (Set::Minus, "minus"), (Set::Intersect, "intersect")];
 
 impl Set {
     pub fn word(self) -> &'static str {
@@ -41,27 +37,10 @@ impl Set {
 #[derive(Clone, Debug, PartialEq, Eq)]
 pub enum Op {
     Table(usize),
-    Select {
-        input: usize,
-        column: usize,
-        comparison: usize,
-        operand: Operand,
-    },
-    Project {
-        input: usize,
-        columns: Vec<usize>,
-    },
-    Join {
-        left: usize,
-        right: usize,
-        pairs: Vec<(usize, usize)>,
-        columns: Vec<usize>,
-    },
-    Set {
-        set: Set,
-        left: usize,
-        right: usize,
-    },
+    Select { input: usize, column: usize, comparison: usize, operand: Operand },
+    Project { input: usize, columns: Vec<usize> },
+    Join { left: usize, right: usize, pairs: Vec<(usize, usize)>, columns: Vec<usize> },
+    Set { set: Set, left: usize, right: usize },
 }
 
 impl Op {
@@ -77,12 +56,7 @@ impl Op {
     fn fields(&self) -> (usize, Vec<usize>) {
         match self {
             Op::Table(width) => (1, vec![*width]),
-            Op::Select {
-                input,
-                column,
-                comparison,
-                operand,
-            } => {
+            Op::Select { input, column, comparison, operand } => {
                 let start = vec![*input, *column, *comparison];
                 match *operand {
                     Operand::Constant(v) => (2, [start, halves(v).to_vec()].concat()),
@@ -90,12 +64,7 @@ impl Op {
                 }
             }
             Op::Project { input, columns } => (4, [&[*input, columns.len()][..], columns].concat()),
-            Op::Join {
-                left,
-                right,
-                pairs,
-                columns,
-            } => {
+            Op::Join { left, right, pairs, columns } => {
                 let mut out = vec![*left, *right, pairs.len()];
                 out.extend(pairs.iter().flat_map(|&(l, r)| [l, r]));
                 out.push(columns.len());
@@ -142,9 +111,9 @@ pub struct Network {
     pub records: Vec<Record>,
 }
 
-/// The library's verdict on a network's bytes: `open` reads them by `bagwezin_read` first.
+/// The library's verdict on a network's bytes, by `bagwezin_read`.
 pub fn judged(bytes: &[u8]) -> Result<(), Refusal> {
-    Monitor::open(bytes).map(|_| ())
+    outcome(raw::read(bytes, &mut [0; ANSWER])).map(|_| ())
 }
 
 impl Network {
@@ -156,10 +125,7 @@ impl Network {
         let mut net = Network::default();
         for at in offsets(bytes) {
             if let Err(text) = net.take(&bytes[at..]) {
-                let refusal = Refusal {
-                    number: 0,
-                    place: at as u32,
-                };
+                let refusal = Refusal { number: 0, place: at as u32 };
                 let text = format!("at byte {at}: the library accepts this record, these tools do not know it: {text}");
                 return Err((refusal, text));
             }
@@ -199,12 +165,7 @@ impl Network {
         let above = op.inputs().into_iter().map(|i| self.nodes[i].level + 1);
         let level = above.max().unwrap_or(0);
         self.records.push(Record::Node(self.nodes.len()));
-        self.nodes.push(Node {
-            name,
-            columns,
-            op,
-            level,
-        });
+        self.nodes.push(Node { name, columns, op, level });
     }
 
     /// The node and the column that a join's column counts.
@@ -227,12 +188,7 @@ impl Network {
             Op::Table(_) => vec![],
             Op::Select { input, .. } => whole(*input),
             Op::Project { input, columns } => columns.iter().map(|&k| of(*input, k)).collect(),
-            Op::Join {
-                left,
-                right,
-                columns,
-                ..
-            } => {
+            Op::Join { left, right, columns, .. } => {
                 let sides = columns.iter().map(|&k| self.side(*left, *right, k));
                 sides.map(|(node, k)| of(node, k)).collect()
             }
@@ -262,10 +218,7 @@ impl Network {
         match self.nodes.len() {
             n if node < n => Ok(self.nodes[node].columns.len()),
             0 => Err(format!("its {what} is node {node}, and there is none yet")),
-            n => Err(format!(
-                "its {what} is node {node}, and the nodes before it are 0 to {}",
-                n - 1
-            )),
+            n => Err(format!("its {what} is node {node}, and the nodes before it are 0 to {}", n - 1)),
         }
     }
 
@@ -273,9 +226,7 @@ impl Network {
     pub fn watch(&self, node: usize, sign: usize) -> Result<Record, String> {
         self.earlier("node", node)?;
         if !(1..=SIGNS.len()).contains(&sign) {
-            return Err(format!(
-                "its sign is {sign}, not 1 (gained), 2 (lost) or 3 (both)"
-            ));
+            return Err(format!("its sign is {sign}, not 1 (gained), 2 (lost) or 3 (both)"));
         }
         match self.sign(node) {
             Some(_) => Err(format!("node {node} has a watch already")),
@@ -295,10 +246,7 @@ impl Network {
                 for &c in &columns {
                     within("column", c, wide)?;
                 }
-                Ok(Op::Project {
-                    input: f[0],
-                    columns,
-                })
+                Ok(Op::Project { input: f[0], columns })
             }
             5 => self.join(f),
             _ => {
@@ -306,11 +254,7 @@ impl Network {
                 if l != r {
                     return Err(format!("its left has rows of {l} fields, its right of {r}"));
                 }
-                Ok(Op::Set {
-                    set: SETS[kind - 6].0,
-                    left: f[0],
-                    right: f[1],
-                })
+                Ok(Op::Set { set: SETS[kind - 6].0, left: f[0], right: f[1] })
             }
         }
     }
@@ -327,12 +271,7 @@ impl Network {
             within("second column", f[3], wide)?;
             Operand::Column(f[3])
         };
-        Ok(Op::Select {
-            input: f[0],
-            column: f[1],
-            comparison: f[2],
-            operand,
-        })
+        Ok(Op::Select { input: f[0], column: f[1], comparison: f[2], operand })
     }
 
     fn join(&self, f: &[usize]) -> Result<Op, String> {
@@ -347,12 +286,7 @@ impl Network {
         for &c in &columns {
             within("column", c, l + r)?;
         }
-        Ok(Op::Join {
-            left: f[0],
-            right: f[1],
-            pairs,
-            columns,
-        })
+        Ok(Op::Join { left: f[0], right: f[1], pairs, columns })
     }
 }
 
@@ -360,10 +294,7 @@ fn within(what: &str, column: usize, wide: usize) -> Result<(), String> {
     if column < wide {
         return Ok(());
     }
-    Err(format!(
-        "its {what} is {column}, and the columns are 0 to {}",
-        wide - 1
-    ))
+    Err(format!("its {what} is {column}, and the columns are 0 to {}", wide - 1))
 }
 
 /// Names made unique: the second `x` becomes `x_2`.
@@ -391,9 +322,7 @@ pub fn length(bytes: &[u8]) -> Result<usize, String> {
         Some(n) if n < 4 => Err(format!("it says that it has {n} bytes, below 4")),
         Some(n) if n > bytes.len() => {
             let left = bytes.len();
-            Err(format!(
-                "it says that it has {n} bytes, and {left} are left"
-            ))
+            Err(format!("it says that it has {n} bytes, and {left} are left"))
         }
         n => Ok(n.unwrap_or(4)),
     }
@@ -418,9 +347,7 @@ pub fn fits(bytes: &[u8]) -> Result<Vec<usize>, String> {
     let count = |what: &str, k: usize, low: usize, high: usize| match field(k) {
         Some(n) if (low..=high).contains(&n) => Ok(n),
         Some(n) => Err(format!("its number of {what} is {n}, not {low} to {high}")),
-        None => Err(format!(
-            "with {size} bytes it ends before its number of {what}"
-        )),
+        None => Err(format!("with {size} bytes it ends before its number of {what}")),
     };
     let right = match kind {
         1 => 6,
@@ -434,9 +361,7 @@ pub fn fits(bytes: &[u8]) -> Result<Vec<usize>, String> {
         _ => 8,
     };
     if size != right {
-        return Err(format!(
-            "it has {size} bytes, and this {word} takes {right}"
-        ));
+        return Err(format!("it has {size} bytes, and this {word} takes {right}"));
     }
     Ok((0..size / 2).filter_map(field).collect())
 }

@@ -14,9 +14,7 @@ pub fn network(bytes: &[u8], refusal: Refusal) -> String {
         }
     }
     let record = bytes.get(at..).unwrap_or(&[]);
-    let kind = record
-        .get(2..4)
-        .map(|k| u16::from_le_bytes([k[0], k[1]]) as usize);
+    let kind = record.get(2..4).map(|k| u16::from_le_bytes([k[0], k[1]]) as usize);
     let fault = match refusal.number {
         3 => length(record).err(),
         4 => kind.map(|k| format!("its kind is {k}")),
@@ -24,9 +22,7 @@ pub fn network(bytes: &[u8], refusal: Refusal) -> String {
         7 => net.take(record).err(),
         _ => None,
     };
-    let word = kind
-        .and_then(kind_word)
-        .filter(|_| (6..=7).contains(&refusal.number));
+    let word = kind.and_then(kind_word).filter(|_| (6..=7).contains(&refusal.number));
     match (word, fault) {
         (Some(word), Some(fault)) => format!("{refusal} ({word}: {fault})"),
         (None, Some(fault)) => format!("{refusal} ({fault})"),

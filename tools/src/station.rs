@@ -85,10 +85,9 @@ impl<'a> Station<'a> {
             let _ = self.apply(&file[range]);
         }
         match after {
-            Some(k) if k != self.number => Err(format!(
-                "there is no batch {k}: the last one that is accepted is batch {}",
-                self.number
-            )),
+            Some(k) if k != self.number => {
+                Err(format!("there is no batch {k}: the last one that is accepted is batch {}", self.number))
+            }
             _ => Ok(()),
         }
     }
@@ -108,8 +107,7 @@ pub fn run(net: &Network, path: &str, file: &Assembled) -> Result<(String, bool)
     let bytes = &file.bytes;
     if bytes.len() > FILE {
         let size = bytes.len();
-        let text =
-            format!("no input: {path} has {size} bytes, and the station reads at most {FILE}\n");
+        let text = format!("no input: {path} has {size} bytes, and the station reads at most {FILE}\n");
         return Ok((text, false));
     }
     let mut station = Station::open(net)?;
@@ -140,15 +138,10 @@ fn rest(net: &Network, file: &[u8], rest: &Rest) -> Option<String> {
         Rest::Unfinished(range) => {
             let count = crate::network::offsets(&file[range.clone()]).count();
             let records = counted(count, "record", "records");
-            Some(format!(
-                "unfinished: {records} after the last mark, not applied"
-            ))
+            Some(format!("unfinished: {records} after the last mark, not applied"))
         }
         Rest::Broken(range, place) => {
-            let refusal = Refusal {
-                number: 10,
-                place: *place,
-            };
+            let refusal = Refusal { number: 10, place: *place };
             let text = refused::batch(net, &file[range.clone()], refusal);
             Some(format!("{text}; the station ends here"))
         }

@@ -1,7 +1,22 @@
 //! Networks to and from text.
 use crate::grammar::{lines, Checked, Line, Problem, COMPARISONS, RECORDS, SIGNS};
-use crate::network::{judged, Op, Operand, Record, FIELDS, NODES, SETS};
+use crate::network::{judged, Op, Operand, Record, Set, FIELDS, NODES};
 use crate::{grammar, refused, Network};
+
+/// A line's record added to a network.
+type Reader = fn(&mut Network, &mut Line) -> Checked<()>;
+
+/// The readers of the forms, in the order of `RECORDS`.
+const READERS: [Reader; RECORDS.len()] = [
+    Network::read_table,
+    Network::read_select,
+    Network::read_project,
+    Network::read_join,
+    |net, line| net.read_set(line, Set::Union),
+    |net, line| net.read_set(line, Set::Minus),
+    |net, line| net.read_set(line, Set::Intersect),
+    Network::read_watch,
+];
 
 impl Network {
     /// A network from its text, judged by the library.
@@ -10,14 +25,7 @@ impl Network {
         let mut numbers = Vec::new();
         for (number, words) in lines(text) {
             let mut line = Line::new(number, words, &RECORDS)?;
-            match line.word() {
-                "table" => net.read_table(&mut line)?,
-                "select" => net.read_select(&mut line)?,
-                "project" => net.read_project(&mut line)?,
-                "join" => net.read_join(&mut line)?,
-                "watch" => net.read_watch(&mut line)?,
-                set => net.read_set(&mut line, set)?,
-            }
+            READERS[line.which](&mut net, &mut line)?;
             numbers.push(number);
         }
         if net.nodes.is_empty() {
@@ -45,7 +53,7 @@ impl Network {
         Err(Problem { line, text })
     }
 
-    /// The name of a line's node, which no node above may have, and the `=` after it.
+    /// The name of a line's node, which no node above may have.
     fn read_name(&self, line: &mut Line) -> Checked<String> {
         let name = line.name("a name")?;
         if self.nodes.iter().any(|n| n.name == name) {
@@ -75,25 +83,14 @@ impl Network {
         line.expect("where")?;
         let column = line.column(self, input)?;
         let comparison = line.one_of("comparison", &COMPARISONS)?;
-        let operand = match line.peek() {
-            Some(w) if w.starts_with(|c: char| c.is_ascii_digit() || c == '-' || c == '+') => {
-                let word = line.next("a value")?;
-                Operand::Constant(line.tell(grammar::number(word))?)
-            }
-            Some(_) => Operand::Column(line.column(self, input)?),
-            None => {
-                line.next("a value")?;
-                Operand::Constant(0)
-            }
+        let word = line.next("a value")?;
+        let operand = match word.starts_with(|c: char| c.is_ascii_digit() || c == '-' || c == '+') {
+            true => Operand::Constant(line.tell(grammar::number(word))?),
+            false => Operand::Column(line.tell(grammar::column(self, input, word))?),
         };
         line.done()?;
         let columns = self.nodes[input].columns.clone();
-        let op = Op::Select {
-            input,
-            column,
-            comparison,
-            operand,
-        };
+        let op = Op::Select { input, column, comparison, operand };
         self.add(name, columns, op);
         Ok(())
     }
@@ -128,23 +125,13 @@ impl Network {
             let given = read_as(line, &self.nodes[node].columns[c])?;
             add_column(line, &mut names, given)?;
         }
-        let op = Op::Join {
-            left,
-            right,
-            pairs,
-            columns,
-        };
+        let op = Op::Join { left, right, pairs, columns };
         self.add(name, names, op);
         Ok(())
     }
 
     /// `[on COLUMN = COLUMN [and COLUMN = COLUMN]]`
-    fn read_pairs(
-        &self,
-        line: &mut Line,
-        left: usize,
-        right: usize,
-    ) -> Checked<Vec<(usize, usize)>> {
+    fn read_pairs(&self, line: &mut Line, left: usize, right: usize) -> Checked<Vec<(usize, usize)>> {
         let mut pairs = Vec::new();
         let mut more = line.accept("on");
         while more {
@@ -172,15 +159,11 @@ impl Network {
             }
         };
         let digits = column.starts_with(|c: char| c.is_ascii_digit());
-        let column = if digits {
-            format!(".{column}")
-        } else {
-            column.into()
-        };
+        let column = if digits { format!(".{column}") } else { column.into() };
         Ok(before + line.tell(grammar::column(self, node, &column))?)
     }
 
-    fn read_set(&mut self, line: &mut Line, word: &str) -> Checked<()> {
+    fn read_set(&mut self, line: &mut Line, set: Set) -> Checked<()> {
         let name = self.read_name(line)?;
         line.expect("=")?;
         let (left, right) = (line.node(self)?, line.node(self)?);
@@ -196,14 +179,7 @@ impl Network {
             ));
         }
         let columns = l.columns.clone();
-        for (set, _) in SETS.iter().filter(|s| s.1 == word) {
-            let op = Op::Set {
-                set: *set,
-                left,
-                right,
-            };
-            self.add(name.clone(), columns.clone(), op);
-        }
+        self.add(name, columns, Op::Set { set, left, right });
         Ok(())
     }
 
@@ -227,29 +203,17 @@ impl Network {
     fn line(&self, record: Record) -> String {
         let name = |i: usize| &self.nodes[i].name;
         let i = match record {
-            Record::Watch { node, sign } => {
-                return format!("watch {} {}", name(node), SIGNS[sign - 1])
-            }
+            Record::Watch { node, sign } => return format!("watch {} {}", name(node), SIGNS[sign - 1]),
             Record::Node(i) => i,
         };
         match &self.nodes[i].op {
             Op::Table(_) => format!("table {} {}", name(i), self.nodes[i].columns.join(" ")),
-            Op::Select { input, .. } => format!(
-                "select {} = {} where {}",
-                name(i),
-                name(*input),
-                self.test(i)
-            ),
+            Op::Select { input, .. } => format!("select {} = {} where {}", name(i), name(*input), self.test(i)),
             Op::Project { input, .. } => {
                 let given = self.given(i, |_| "");
                 format!("project {} = {} give {given}", name(i), name(*input))
             }
-            Op::Join {
-                left,
-                right,
-                columns,
-                ..
-            } => {
+            Op::Join { left, right, columns, .. } => {
                 let wide = self.nodes[*left].columns.len();
                 let side = |k: usize| match columns[k] < wide {
                     true => "left.",
@@ -260,20 +224,9 @@ impl Network {
                     pairs if pairs.is_empty() => pairs,
                     pairs => format!(" on {pairs}"),
                 };
-                format!(
-                    "join {} = {} {}{on} give {given}",
-                    name(i),
-                    name(*left),
-                    name(*right)
-                )
+                format!("join {} = {} {}{on} give {given}", name(i), name(*left), name(*right))
             }
-            Op::Set { set, left, right } => format!(
-                "{} {} = {} {}",
-                set.word(),
-                name(i),
-                name(*left),
-                name(*right)
-            ),
+            Op::Set { set, left, right } => format!("{} {} = {} {}", set.word(), name(i), name(*left), name(*right)),
         }
     }
 
@@ -293,13 +246,7 @@ impl Network {
 
     /// The test of a select, without its input; else nothing.
     pub fn test(&self, i: usize) -> String {
-        let Op::Select {
-            input,
-            column,
-            comparison,
-            operand,
-        } = &self.nodes[i].op
-        else {
+        let Op::Select { input, column, comparison, operand } = &self.nodes[i].op else {
             return String::new();
         };
         let columns = &self.nodes[*input].columns;
@@ -313,9 +260,7 @@ impl Network {
     /// The pairs of a join; else nothing.
     pub fn pairs(&self, i: usize) -> String {
         match &self.nodes[i].op {
-            Op::Join {
-                left, right, pairs, ..
-            } => self.pairs_of(*left, *right, pairs),
+            Op::Join { left, right, pairs, .. } => self.pairs_of(*left, *right, pairs),
             _ => String::new(),
         }
     }

@@ -28,10 +28,7 @@ pub fn row(net: &Network, node: usize, words: &[&str]) -> Result<Row, String> {
             _ => return Err(shape()),
         }
     }
-    fields
-        .into_iter()
-        .collect::<Option<Row>>()
-        .ok_or_else(shape)
+    fields.into_iter().collect::<Option<Row>>().ok_or_else(shape)
 }
 
 /// The answer for a row of a node.
@@ -47,11 +44,7 @@ pub fn why(station: &Station, node: usize, row: &[u32], all: bool) -> String {
         0 => "before any batch".to_string(),
         k => format!("after batch {k}"),
     };
-    let is = if teller.there(node, row) {
-        "is"
-    } else {
-        "is not"
-    };
+    let is = if teller.there(node, row) { "is" } else { "is not" };
     let named = station.net.row_named(node, row);
     teller.out = format!("{when}, {named} {is} there\n");
     teller.tell(1, "", node, row);
@@ -156,10 +149,7 @@ impl Teller<'_> {
                 let fields = agreed(columns.iter().copied().zip(row.iter().copied()));
                 let from = self.matching(input, &fields.unwrap_or_default());
                 let count = counted(from.len(), "row", "rows");
-                self.line(
-                    depth,
-                    &format!("{named}: from {count} of {}", self.name(input)),
-                );
+                self.line(depth, &format!("{named}: from {count} of {}", self.name(input)));
                 for r in from.iter().take(self.most) {
                     self.tell(depth + 1, "", input, r);
                 }
@@ -184,18 +174,9 @@ impl Teller<'_> {
         }
     }
 
-    fn set_origins(
-        &mut self,
-        depth: usize,
-        named: &str,
-        row: &[u32],
-        (set, left, right): (Set, usize, usize),
-    ) {
+    fn set_origins(&mut self, depth: usize, named: &str, row: &[u32], (set, left, right): (Set, usize, usize)) {
         let (l, r) = (self.name(left).to_string(), self.name(right).to_string());
-        let sides: Vec<usize> = [left, right]
-            .into_iter()
-            .filter(|&s| self.there(s, row))
-            .collect();
+        let sides: Vec<usize> = [left, right].into_iter().filter(|&s| self.there(s, row)).collect();
         let reason = match (set, &sides[..]) {
             (Set::Minus, _) => format!("in {l} and not in {r}"),
             (_, [one]) => format!("in {}", self.name(*one)),
@@ -222,13 +203,7 @@ impl Teller<'_> {
 
     /// The pairs of rows that a join makes a row from.
     fn pairs(&self, node: usize, row: &[u32]) -> Vec<(Row, Row)> {
-        let Op::Join {
-            left,
-            right,
-            pairs,
-            columns,
-        } = &self.net().nodes[node].op
-        else {
+        let Op::Join { left, right, pairs, columns } = &self.net().nodes[node].op else {
             return Vec::new();
         };
         let mut out = Vec::new();
@@ -293,18 +268,11 @@ impl Teller<'_> {
                     }
                 }
             }
-            Op::Join {
-                left,
-                right,
-                pairs,
-                columns,
-            } => {
+            Op::Join { left, right, pairs, columns } => {
                 let fields = known.iter().map(|&(k, v)| (columns[k], v)).collect();
                 self.no_pair(depth, &missing, fields, (left, right, &pairs));
             }
-            Op::Set { set, left, right } => {
-                self.set_absence(depth, &missing, known, (set, left, right))
-            }
+            Op::Set { set, left, right } => self.set_absence(depth, &missing, known, (set, left, right)),
         }
     }
 
@@ -321,10 +289,8 @@ impl Teller<'_> {
 
     fn no_entry(&mut self, depth: usize, missing: &str, table: usize, known: &[(usize, u32)]) {
         let gone = self.station.moved[table].iter();
-        let gone: Vec<(Row, u32)> = gone
-            .filter(|(row, _)| fits(row, known))
-            .map(|(row, batch)| (row.clone(), *batch))
-            .collect();
+        let gone: Vec<(Row, u32)> =
+            gone.filter(|(row, _)| fits(row, known)).map(|(row, batch)| (row.clone(), *batch)).collect();
         if gone.is_empty() {
             return self.line(depth, &format!("{missing}: no batch has put it"));
         }
@@ -352,10 +318,7 @@ impl Teller<'_> {
         let r: Known = r.into_iter().map(|(k, v)| (k - wide, v)).collect();
         let (some, others) = (self.matching(left, &l), self.matching(right, &r));
         let (x, y) = (self.name(left).to_string(), self.name(right).to_string());
-        self.line(
-            depth,
-            &format!("{missing}: no pair of {x} and {y} makes it"),
-        );
+        self.line(depth, &format!("{missing}: no pair of {x} and {y} makes it"));
         if some.is_empty() {
             self.absence(depth + 1, "", left, &l);
         }

@@ -40,9 +40,7 @@ const NETWORK: &str = "examples/orchard/network.txt";
 const NETWORK_BIN: &str = "examples/orchard/network.bin";
 const BATCHES: &str = "examples/orchard/batches.txt";
 const BATCHES_BIN: &str = "examples/orchard/batch.bin";
-const NAMES: [&str; 8] = [
-    "network", "text", "batches", "events", "check", "run", "why", "draw",
-];
+const NAMES: [&str; 8] = ["network", "text", "batches", "events", "check", "run", "why", "draw"];
 
 #[test]
 fn help_is_on_standard_output() {
@@ -56,11 +54,7 @@ fn help_is_on_standard_output() {
     for name in NAMES {
         let t = tool(&[name, "--help"]);
         assert_eq!((t.status, t.err.as_str()), (0, ""));
-        assert!(
-            t.out.contains(&format!("bagwezin-tools {name} ")),
-            "{}",
-            t.out
-        );
+        assert!(t.out.contains(&format!("bagwezin-tools {name} ")), "{}", t.out);
     }
 }
 
@@ -68,9 +62,7 @@ fn help_is_on_standard_output() {
 #[test]
 fn the_examples_of_the_help_run() {
     let help = tool(&["--help"]).out;
-    let lines = help
-        .lines()
-        .filter_map(|l| l.trim().strip_prefix("bagwezin-tools "));
+    let lines = help.lines().filter_map(|l| l.trim().strip_prefix("bagwezin-tools "));
     let mut ran = 0;
     for line in lines {
         let words: Vec<String> = line
@@ -91,30 +83,15 @@ fn the_examples_of_the_help_run() {
 fn wrong_command_lines_exit_2() {
     let list: [(&[&str], &str); 10] = [
         (&[], "usage: bagwezin-tools COMMAND"),
-        (
-            &["draws"],
-            "there is no command 'draws': there are network, text,",
-        ),
+        (&["draws"], "there is no command 'draws': there are network, text,"),
         (&["text"], "text: wrong arguments\nusage:\n  text NETWORK\n"),
         (&["text", NETWORK_BIN, "x"], "text: wrong arguments"),
         (&["network", NETWORK], "network: wrong arguments"),
         (&["run", NETWORK], "run: wrong arguments"),
-        (
-            &["run", NETWORK, BATCHES, "--all"],
-            "run: it takes no --all",
-        ),
-        (
-            &["why", NETWORK, BATCHES, "advice", "--after"],
-            "why: --after needs a value after it",
-        ),
-        (
-            &["why", NETWORK, BATCHES, "advice", "--after", "x"],
-            "why: --after: 'x' is no number",
-        ),
-        (
-            &["draw", NETWORK, "--picture"],
-            "draw: there is no option --picture",
-        ),
+        (&["run", NETWORK, BATCHES, "--all"], "run: it takes no --all"),
+        (&["why", NETWORK, BATCHES, "advice", "--after"], "why: --after needs a value after it"),
+        (&["why", NETWORK, BATCHES, "advice", "--after", "x"], "why: --after: 'x' is no number"),
+        (&["draw", NETWORK, "--picture"], "draw: there is no option --picture"),
     ];
     for (args, start) in list {
         let t = tool(args);
@@ -152,15 +129,13 @@ fn bad_input_exits_1_with_file_and_line() {
 fn text_prints_nothing_for_a_refused_network() {
     let mut refused = 0;
     for (name, network, _, _) in common::vectors() {
-        let wanted = bagwezin_tools::network::judged(&network);
-        if network.len() < 2000 && wanted.is_err() {
+        let Err(refusal) = bagwezin_tools::network::judged(&network) else {
+            continue;
+        };
+        if network.len() < 2000 {
             let t = tool(&["text", &made(&format!("refused-{name}.bin"), &network)]);
             assert_eq!((t.status, t.out.as_str()), (1, ""), "{name}");
-            assert!(
-                t.err.contains(&format!(": {}", wanted.unwrap_err())),
-                "{}",
-                t.err
-            );
+            assert!(t.err.contains(&format!(": {refusal}")), "{}", t.err);
             refused += 1;
         }
     }
@@ -191,11 +166,7 @@ fn a_full_disk_is_told() {
         let output = command(args).stdout(full).stderr(Stdio::piped()).output();
         let t = told(output.unwrap());
         assert_eq!(t.status, 1, "{args:?}");
-        assert!(
-            t.err.starts_with("standard output: No space left"),
-            "{}",
-            t.err
-        );
+        assert!(t.err.starts_with("standard output: No space left"), "{}", t.err);
     }
 }
 
@@ -220,13 +191,13 @@ fn more_bytes_than_the_station_reads_are_warned_of() {
     let t = tool(&["batches", NETWORK, &text, &out]);
     let size = 80 * (60 * 14 + 4);
     assert_eq!(t.status, 0);
-    assert_eq!(t.err, format!("{text}: warning: this makes {size} bytes; the station program reads no file above 65536: split it\n"));
+    assert_eq!(
+        t.err,
+        format!("{text}: warning: this makes {size} bytes; the station program reads no file above 65536: split it\n")
+    );
     assert_eq!(std::fs::metadata(&out).unwrap().len(), size);
     let t = tool(&["run", NETWORK, &out]);
-    assert_eq!(
-        t.out,
-        format!("no input: {out} has {size} bytes, and the station reads at most 65536\n")
-    );
+    assert_eq!(t.out, format!("no input: {out} has {size} bytes, and the station reads at most 65536\n"));
     assert_eq!(t.status, 1);
 }
 
@@ -234,22 +205,29 @@ fn more_bytes_than_the_station_reads_are_warned_of() {
 fn check_and_run_tell_refusals_in_words() {
     let rows: String = (0..33).map(|k| format!("put lures {k} 1\n")).collect();
     let more: String = (33..66).map(|k| format!("put lures {k} 1\n")).collect();
-    let text = made(
-        "over-64.txt",
-        format!("{rows}end\n{more}end\nput lures 1 2\nend\nput lures 1 3\nunfinished\n"),
-    );
-    let refusal = format!(
-        "refused 14 at node 1 (lures): after the batch a node has more than 64 rows [{text}:68]"
-    );
+    let text = made("over-64.txt", format!("{rows}end\n{more}end\nput lures 1 2\nend\nput lures 1 3\nunfinished\n"));
+    let refusal = format!("refused 14 at node 1 (lures): after the batch a node has more than 64 rows [{text}:68]");
     let rest = "unfinished: 1 record after the last mark, not applied";
     let t = tool(&["run", NETWORK, &text]);
-    assert_eq!(
-        (t.status, t.out),
-        (1, format!("batch 1\n{refusal}\nbatch 2\n{rest}\n"))
-    );
+    assert_eq!((t.status, t.out), (1, format!("batch 1\n{refusal}\nbatch 2\n{rest}\n")));
     let t = tool(&["check", NETWORK, BATCHES, &text, BATCHES_BIN]);
     let told = format!(
         "{NETWORK}: accepted: 10 nodes, 2 watches, levels 0 to 6\n{BATCHES}: accepted: 6 batches\n{text}: not all accepted\n  batch 2 of the file: {refusal}\n  {rest}\n{BATCHES_BIN}: accepted: 6 batches\n"
     );
     assert_eq!((t.status, t.out), (1, told));
+}
+
+#[test]
+fn the_picture_is_drawn_without_graphviz_too() {
+    let (built_in, fallen_back) = (made("built-in.svg", ""), made("fallen-back.svg", ""));
+    assert_eq!(tool(&["draw", NETWORK, &built_in]).status, 0);
+    let mut without = command(&["draw", NETWORK, &fallen_back, "--dot"]);
+    let t = told(without.env("PATH", "").output().unwrap());
+    assert_eq!((t.status, t.out.as_str()), (0, ""));
+    assert_eq!(t.err, "Graphviz (dot) is not installed: the built-in layout serves\n");
+    let bytes = |p: &str| std::fs::read(p).unwrap();
+    assert!(bytes(&built_in) == bytes(&fallen_back));
+    let graph = made("graph.dot", "");
+    assert_eq!(tool(&["draw", "--dot", NETWORK, &graph]).status, 0);
+    assert!(bytes(&graph).starts_with(b"digraph network {"));
 }

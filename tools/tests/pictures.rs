@@ -18,9 +18,7 @@ fn drawn(folder: &str) -> String {
 /// The number that follows a mark in a text.
 fn number(text: &str, mark: &str) -> f64 {
     let rest = &text[text.find(mark).unwrap() + mark.len()..];
-    let end = rest
-        .find(|c: char| !c.is_ascii_digit() && c != '.')
-        .unwrap();
+    let end = rest.find(|c: char| !c.is_ascii_digit() && c != '.').unwrap();
     rest[..end].parse().unwrap()
 }
 
@@ -28,10 +26,7 @@ fn number(text: &str, mark: &str) -> f64 {
 fn the_stored_pictures_are_made_anew() {
     for folder in ["orchard", "pictures/32-nodes", "pictures/self-join"] {
         let stored = text(&format!("{folder}/network.svg"));
-        assert!(
-            drawn(folder) == stored,
-            "examples/{folder}/network.svg is not what draw makes"
-        );
+        assert!(drawn(folder) == stored, "examples/{folder}/network.svg is not what draw makes");
         assert!(number(&stored, "width=\"") <= 900.0);
     }
     let net = Network::assemble(&text("orchard/network.txt")).unwrap();
@@ -51,11 +46,7 @@ fn every_node_edge_and_watch_is_drawn() {
     assert_eq!(picture.matches("class=\"edge\"").count(), 4);
     assert_eq!(picture.matches("class=\"arrow\"").count(), 4);
     assert_eq!(picture.matches(">level ").count(), 4);
-    let texts = [
-        ">watched: gained and lost<",
-        "count\u{a0}&gt;=\u{a0}8",
-        ">block, count<",
-    ];
+    let texts = [">watched: gained and lost<", "count\u{a0}&gt;=\u{a0}8", ">block, count<"];
     assert!(texts.iter().all(|t| picture.contains(t)));
     let twice = drawn("pictures/self-join");
     assert_eq!(twice.matches("<title>twice to pairs</title>").count(), 2);
@@ -68,29 +59,15 @@ fn frames(picture: &str) -> Vec<Frame> {
     lines
         .map(|l| {
             let (x, y) = (number(l, " x=\""), number(l, " y=\""));
-            (
-                x,
-                y,
-                x + number(l, " width=\""),
-                y + number(l, " height=\""),
-            )
+            (x, y, x + number(l, " width=\""), y + number(l, " height=\""))
         })
         .collect()
 }
 
 /// The points of an edge's line, with some on each of its curves.
 fn points(line: &str) -> Vec<(f64, f64)> {
-    let d = line
-        .split("d=\"")
-        .nth(1)
-        .unwrap()
-        .split('"')
-        .next()
-        .unwrap();
-    let spaced = d
-        .replace('M', " M ")
-        .replace('C', " C ")
-        .replace('V', " V ");
+    let d = line.split("d=\"").nth(1).unwrap().split('"').next().unwrap();
+    let spaced = d.replace('M', " M ").replace('C', " C ").replace('V', " V ");
     let words: Vec<&str> = spaced.split_whitespace().collect();
     let at = |k: usize| words[k].parse::<f64>().unwrap();
     let (mut out, mut k) = (Vec::<(f64, f64)>::new(), 0);
@@ -103,18 +80,11 @@ fn points(line: &str) -> Vec<(f64, f64)> {
             }
             "V" => {
                 let steps = 1..=20;
-                out.extend(
-                    steps.map(|s| (from.0, from.1 + (at(k + 1) - from.1) * f64::from(s) / 20.0)),
-                );
+                out.extend(steps.map(|s| (from.0, from.1 + (at(k + 1) - from.1) * f64::from(s) / 20.0)));
                 k += 2;
             }
             _ => {
-                let p = [
-                    from,
-                    (at(k + 1), at(k + 2)),
-                    (at(k + 3), at(k + 4)),
-                    (at(k + 5), at(k + 6)),
-                ];
+                let p = [from, (at(k + 1), at(k + 2)), (at(k + 3), at(k + 4)), (at(k + 5), at(k + 6))];
                 out.extend((1..=40).map(|s| curve(p, f64::from(s) / 40.0)));
                 k += 7;
             }
@@ -142,12 +112,8 @@ fn sound(picture: &str, what: &str) {
     }
     for line in picture.lines().filter(|l| l.contains("class=\"edge\"")) {
         for (x, y) in points(line) {
-            let behind =
-                |b: &Frame| x > b.0 + 1.0 && x < b.2 - 1.0 && y > b.1 + 1.0 && y < b.3 - 1.0;
-            assert!(
-                !boxes.iter().any(behind),
-                "{what}: an edge runs behind a box"
-            );
+            let behind = |b: &Frame| x > b.0 + 1.0 && x < b.2 - 1.0 && y > b.1 + 1.0 && y < b.3 - 1.0;
+            assert!(!boxes.iter().any(behind), "{what}: an edge runs behind a box");
         }
     }
 }
@@ -182,19 +148,12 @@ fn rows_and_last_changes_of_areas() {
     assert_eq!(held[0], Held { rows, gained, lost });
     assert_eq!(held[4], Held::default());
     let picture = draw::svg(&net, Some(&held));
-    let texts = [
-        ">2 rows, 1 gained, 1 lost<",
-        ">+ 5 12<",
-        ">\u{2212} 6 1<",
-        ">\u{a0} 5 9<",
-    ];
+    let texts = [">2 rows, 1 gained, 1 lost<", ">+ 5 12<", ">\u{2212} 6 1<", ">\u{a0} 5 9<"];
     assert!(texts.iter().all(|t| picture.contains(t)));
     let short = draw::held(&net, &bytes(&words)[4..]).unwrap_err();
     assert!(short.starts_with("areas have 98952 bytes"));
     words[head + 1] = 65;
-    assert!(draw::held(&net, &bytes(&words))
-        .unwrap_err()
-        .contains("above 64"));
+    assert!(draw::held(&net, &bytes(&words)).unwrap_err().contains("above 64"));
 }
 
 #[test]

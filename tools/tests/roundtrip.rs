@@ -72,9 +72,7 @@ fn verdicts(net: &Network, file: &[u8]) -> Vec<String> {
     let cut = batches::pieces(file);
     let judged = |range: &Range<usize>| batches::judged(net, &file[range.clone()]);
     let refused = cut.batches.iter().filter_map(|range| judged(range).err());
-    let mut out: Vec<String> = refused
-        .map(|e| format!("refused {} {}", e.number, e.place))
-        .collect();
+    let mut out: Vec<String> = refused.map(|e| format!("refused {} {}", e.number, e.place)).collect();
     if let Rest::Broken(_, place) = cut.rest {
         out.push(format!("refused 10 {place}"));
     }
@@ -89,10 +87,7 @@ fn the_outside_vectors() {
         let net = match around(&network) {
             Ok(net) => net,
             Err((number, place)) => {
-                assert!(
-                    !whole || stdout == format!("refused {number} {place}\n"),
-                    "{name}"
-                );
+                assert!(!whole || stdout == format!("refused {number} {place}\n"), "{name}");
                 continue;
             }
         };
@@ -109,10 +104,7 @@ fn the_outside_vectors() {
         let told: Vec<&str> = told.filter(|l| !l.starts_with("refused 14")).collect();
         assert!(!whole || verdicts(&net, &file) == told, "{name}");
     }
-    assert!(
-        networks > 100 && legal > 200 && files > 40,
-        "{networks} {legal} {files}"
-    );
+    assert!(networks > 100 && legal > 200 && files > 40, "{networks} {legal} {files}");
 }
 
 #[test]
@@ -137,10 +129,7 @@ fn odd_but_legal_networks() {
 fn names_and_positions_give_the_same_bytes() {
     let named = "table a x y\ntable b x\nselect s = a where y >= 8\nselect t = a where x < y\nproject p = a give y x\njoin j = a b on x = x give left.y right.x\nwatch j both\n";
     let placed = "table a x y\ntable b x\nselect s = @0 where .1>=8\nselect t=a where .0<.1\nproject p = @0 give .1 .0\njoin j = @0 @1 on .0=.0 give left.1 right.0\nwatch @5 both\n";
-    let (named, placed) = (
-        Network::assemble(named).unwrap(),
-        Network::assemble(placed).unwrap(),
-    );
+    let (named, placed) = (Network::assemble(named).unwrap(), Network::assemble(placed).unwrap());
     assert_eq!(named, placed);
 }
 
@@ -148,16 +137,14 @@ fn names_and_positions_give_the_same_bytes() {
 fn the_papers_network_has_the_papers_bytes() {
     let net = Network::assemble(common::N).unwrap();
     let bytes: &[u8] = &[
-        6, 0, 1, 0, 2, 0, 14, 0, 2, 0, 0, 0, 1, 0, 5, 0, 8, 0, 0, 0, 10, 0, 4, 0, 1, 0, 1, 0, 0, 0,
-        6, 0, 1, 0, 1, 0, 8, 0, 7, 0, 2, 0, 3, 0, 8, 0, 9, 0, 4, 0, 3, 0,
+        6, 0, 1, 0, 2, 0, 14, 0, 2, 0, 0, 0, 1, 0, 5, 0, 8, 0, 0, 0, 10, 0, 4, 0, 1, 0, 1, 0, 0, 0, 6, 0, 1, 0, 1, 0,
+        8, 0, 7, 0, 2, 0, 3, 0, 8, 0, 9, 0, 4, 0, 3, 0,
     ];
     assert_eq!(net.bytes(), bytes);
     let levels: Vec<usize> = net.nodes.iter().map(|n| n.level).collect();
     assert_eq!(levels, [0, 1, 2, 0, 3]);
-    let events: &[u8] = &[
-        14, 0, 32, 0, 0, 0, 5, 0, 0, 0, 9, 0, 0, 0, 4, 0, 34, 0, 10, 0, 33, 0, 3, 0, 0, 0, 1, 0, 4,
-        0, 34, 0,
-    ];
+    let events: &[u8] =
+        &[14, 0, 32, 0, 0, 0, 5, 0, 0, 0, 9, 0, 0, 0, 4, 0, 34, 0, 10, 0, 33, 0, 3, 0, 0, 0, 1, 0, 4, 0, 34, 0];
     let text = "put catches 5 9\nend\nremove sprays 65536\nend\n";
     assert_eq!(batches::assemble(&net, text).unwrap().bytes, events);
     assert_eq!(batches::text(&net, events).unwrap(), text);

@@ -31,10 +31,7 @@ fn run_tells_what_the_station_prints_for_the_outside_vectors() {
         let Ok(net) = Network::from_bytes(&network) else {
             continue;
         };
-        let file = Assembled {
-            bytes,
-            ends: vec![],
-        };
+        let file = Assembled { bytes, ends: vec![] };
         let (told, fine) = run(&net, "batch.bin", &file).unwrap();
         let told: String = told.lines().map(|l| plain(l) + "\n").collect();
         assert_eq!(told, stdout, "{name}");
@@ -96,9 +93,7 @@ fn why_an_advice_is_not_there() {
 ";
     assert_eq!(asked(5, "advice", &["70", "5", "22"]), sprayed);
     let other = asked(5, "advice", &["71", "6", "22"]);
-    assert!(other.contains(
-        "codling with block 6, week 22: no such row: 1 row of lured fails species = 1\n"
-    ));
+    assert!(other.contains("codling with block 6, week 22: no such row: 1 row of lured fails species = 1\n"));
     assert!(other.contains("lured (block 6, week 22, species 2): from 1 pair of heavy and lures"));
     let gone = asked(6, "catches", &["5", "101", "22", "9"]);
     assert!(gone.ends_with("removed in batch 4\n"));
@@ -114,10 +109,7 @@ fn a_row_is_all_of_its_fields_once() {
     assert_eq!(told(&["1"]), form);
     assert_eq!(told(&["1", "2", "3"]), form);
     assert_eq!(told(&["block=1", "block=2"]), form);
-    assert_eq!(
-        told(&["row=1", "2"]),
-        "'catches' has no column 'row' (it has block, count)"
-    );
+    assert_eq!(told(&["row=1", "2"]), "'catches' has no column 'row' (it has block, count)");
     assert_eq!(told(&["1", "x"]), "'x' is no number from 0 to 4294967295");
 }
 
@@ -137,10 +129,7 @@ fn why_answers_for_random_networks() {
             let rows: Vec<Row> = station.rows[node].iter().take(3).cloned().collect();
             for row in rows {
                 let told = why(&station, node, &row, false);
-                assert!(
-                    told.contains(" is there\n") && told.contains("put in batch"),
-                    "{told}"
-                );
+                assert!(told.contains(" is there\n") && told.contains("put in batch"), "{told}");
                 let mut other = row.clone();
                 other[0] ^= 1;
                 if !station.rows[node].contains(&other) {

@@ -20,10 +20,7 @@ pub fn dot(net: &Network, state: Option<&[Held]>) -> String {
         let texts = lines(net, i, held);
         let label: Vec<String> = texts.iter().map(|l| escaped(&l.0)).collect();
         let (fill, edge) = colours(sort(net, i));
-        out += &format!(
-            "  n{i} [label=\"{}\\l\", fillcolor=\"{fill}\", color=\"{edge}\"]\n",
-            label.join("\\l")
-        );
+        out += &format!("  n{i} [label=\"{}\\l\", fillcolor=\"{fill}\", color=\"{edge}\"]\n", label.join("\\l"));
     }
     let levels = net.nodes.iter().map(|n| n.level).max().unwrap_or(0);
     for level in 0..=levels {
@@ -42,12 +39,7 @@ pub fn dot(net: &Network, state: Option<&[Held]>) -> String {
 
 /// Has Graphviz draw a graph; false if it is not installed.
 pub fn graphviz(graph: &str, out: &Path) -> Result<bool, String> {
-    let started = Command::new("dot")
-        .arg("-Tsvg")
-        .arg("-o")
-        .arg(out)
-        .stdin(Stdio::piped())
-        .spawn();
+    let started = Command::new("dot").arg("-Tsvg").arg("-o").arg(out).stdin(Stdio::piped()).spawn();
     let mut child = match started {
         Ok(child) => child,
         Err(e) if e.kind() == ErrorKind::NotFound => return Ok(false),

@@ -15,10 +15,14 @@ const LANE: f64 = 12.0;
 /// Room between two rows: at least, for each sloping edge, and at most.
 const CHANNEL: (f64, f64, f64) = (36.0, 4.0, 84.0);
 
-/// How often rows are ordered, from how many starts, and how often they are moved.
-const SWEEPS: usize = 12;
-const STARTS: u64 = 12;
-const MOVES: usize = 60;
+/// How far a link may go aside for the price of one crossing.
+const SLOPE: f64 = 400.0;
+
+/// How often rows are ordered, from how many starts, how often they are moved, and how often lanes are straightened.
+const SWEEPS: usize = 16;
+const STARTS: u64 = 24;
+const MOVES: usize = 300;
+const PASSES: usize = 6;
 
 #[derive(Clone, Copy, Debug, Default, PartialEq)]
 pub struct Size {
@@ -63,6 +67,8 @@ struct Item {
 struct Graph {
     items: Vec<Item>,
     links: Vec<(usize, usize)>,
+    /// Each item's links: the other ends above, and below.
+    near: Vec<[Vec<usize>; 2]>,
     /// The items that each edge passes, from its node on.
     routes: Vec<Vec<usize>>,
     rows: Vec<Vec<usize>>,
@@ -89,9 +95,7 @@ impl Graph {
         let mut row_of = vec![0; net.nodes.len()];
         let (mut of_level, mut row) = (Vec::new(), 0);
         for (level, &split) in splits.iter().enumerate() {
-            let here: Vec<usize> = (0..net.nodes.len())
-                .filter(|&i| net.nodes[i].level == level)
-                .collect();
+            let here: Vec<usize> = (0..net.nodes.len()).filter(|&i| net.nodes[i].level == level).collect();
             let start = row;
             for chunk in here.chunks(here.len().div_ceil(split)) {
                 chunk.iter().for_each(|&i| row_of[i] = row);
@@ -99,14 +103,11 @@ impl Graph {
             }
             of_level.push((start..row).collect());
         }
-        let box_of = |node: usize| Item {
-            node,
-            lane: false,
-            row: row_of[node],
-        };
+        let box_of = |node: usize| Item { node, lane: false, row: row_of[node] };
         let mut graph = Graph {
             items: (0..net.nodes.len()).map(box_of).collect(),
             links: Vec::new(),
+            near: Vec::new(),
             routes: Vec::new(),
             rows: vec![Vec::new(); row],
             wide: sizes.iter().map(|s| s.wide).collect(),
@@ -119,6 +120,11 @@ impl Graph {
         for (id, item) in graph.items.iter().enumerate() {
             graph.rows[item.row].push(id);
         }
+        graph.near = vec![Default::default(); graph.items.len()];
+        for &(a, b) in &graph.links {
+            graph.near[b][0].push(a);
+            graph.near[a][1].push(b);
+        }
         (graph, of_level)
     }
 
@@ -126,11 +132,7 @@ impl Graph {
     fn route(&mut self, from: usize, to: usize) {
         let mut route = vec![from];
         for row in self.items[from].row + 1..self.items[to].row {
-            let lane = Item {
-                node: from,
-                lane: true,
-                row,
-            };
+            let lane = Item { node: from, lane: true, row };
             let before = route[route.len() - 1];
             let id = match self.items.iter().position(|i| *i == lane) {
                 Some(id) => id,
@@ -171,11 +173,7 @@ impl Graph {
     fn too_wide(&self, rows: &[usize]) -> bool {
         rows.iter().any(|&r| {
             let row = &self.rows[r];
-            let boxes: Vec<usize> = row
-                .iter()
-                .copied()
-                .filter(|&i| !self.items[i].lane)
-                .collect();
+            let boxes: Vec<usize> = row.iter().copied().filter(|&i| !self.items[i].lane).collect();
             let lanes = (row.len() - boxes.len()) as f64;
             let wide = self.row_width(&boxes) + lanes * 2.0 * LANE;
             boxes.len() > 1 && wide > WIDE - LEFT - RIGHT
@@ -223,22 +221,13 @@ impl Graph {
     /// Sorts each row by the mean place of its neighbours above (or below).
     fn sweep(&mut self, down: bool) {
         let count = self.rows.len();
+        let side = usize::from(!down);
         for k in 1..count {
             let r = if down { k } else { count - 1 - k };
             let at = self.packed();
-            let mean = |id: usize| {
-                let (mut sum, mut n) = (0.0, 0.0);
-                for &(a, b) in &self.links {
-                    let (here, there) = if down { (b, a) } else { (a, b) };
-                    if here == id {
-                        (sum, n) = (sum + at[there], n + 1.0);
-                    }
-                }
-                if n > 0.0 {
-                    sum / n
-                } else {
-                    at[id]
-                }
+            let mean = |id: usize| match &self.near[id][side][..] {
+                [] => at[id],
+                near => near.iter().map(|&i| at[i]).sum::<f64>() / near.len() as f64,
             };
             let mut row: Vec<(f64, usize)> = self.rows[r].iter().map(|&i| (mean(i), i)).collect();
             row.sort_by(|a, b| a.0.total_cmp(&b.0));
@@ -246,20 +235,35 @@ impl Graph {
         }
     }
 
-    /// Swaps neighbours in a row while that makes the picture better.
+    /// Swaps neighbours in a row where that makes the picture better.
     fn swap_neighbours(&mut self) {
-        let mut cost = self.cost();
+        let mut at = self.packed();
         for r in 0..self.rows.len() {
             for k in 1..self.rows[r].len() {
-                self.rows[r].swap(k - 1, k);
-                let now = self.cost();
-                if now < cost - 1e-6 {
-                    cost = now;
-                } else {
+                let (a, b) = (self.rows[r][k - 1], self.rows[r][k]);
+                let (left, right) = (at[a] - self.wide[a] / 2.0, at[b] + self.wide[b] / 2.0);
+                let (x, y) = (right - self.wide[a] / 2.0, left + self.wide[b] / 2.0);
+                let now = self.cost_of(&at, (a, at[a]), (b, at[b]));
+                if self.cost_of(&at, (b, y), (a, x)) < now - 1e-6 {
+                    (at[a], at[b]) = (x, y);
                     self.rows[r].swap(k - 1, k);
                 }
             }
         }
+    }
+
+    /// The cost of the links of two neighbours in a row, one left of the other, at given places.
+    fn cost_of(&self, at: &[f64], (a, x): (usize, f64), (b, y): (usize, f64)) -> f64 {
+        let mut cost = 0.0;
+        for side in 0..2 {
+            let (of_a, of_b) = (&self.near[a][side], &self.near[b][side]);
+            let slopes = of_a.iter().map(|&i| (at[i] - x).abs());
+            cost += slopes.sum::<f64>() / SLOPE;
+            cost += of_b.iter().map(|&i| (at[i] - y).abs()).sum::<f64>() / SLOPE;
+            let crossed = |i: usize| of_b.iter().filter(|&&j| at[i] > at[j]).count();
+            cost += of_a.iter().map(|&i| crossed(i)).sum::<usize>() as f64;
+        }
+        cost
     }
 
     /// Crossings, and a little for the links' slopes.
@@ -267,7 +271,7 @@ impl Graph {
         let at = self.packed();
         let mut cost = 0.0;
         for (k, &(a, b)) in self.links.iter().enumerate() {
-            cost += (at[a] - at[b]).abs() / 400.0;
+            cost += (at[a] - at[b]).abs() / SLOPE;
             for &(c, d) in &self.links[..k] {
                 let level = self.items[a].row == self.items[c].row;
                 let cross = (at[a] < at[c] && at[b] > at[d]) || (at[a] > at[c] && at[b] < at[d]);
@@ -286,33 +290,40 @@ impl Graph {
             let count = self.rows.len();
             for k in 0..count {
                 let r = if turn % 2 == 0 { k } else { count - 1 - k };
-                let wanted: Vec<(f64, f64)> =
-                    self.rows[r].iter().map(|&i| self.wanted(i, &x)).collect();
+                let wanted: Vec<(f64, f64)> = self.rows[r].iter().map(|&i| self.wanted(i, &x)).collect();
                 let moved = self.moved(&self.rows[r], &wanted);
                 for (&id, v) in self.rows[r].iter().zip(moved) {
                     x[id] = v;
                 }
             }
         }
-        for turn in 0..2 * self.wide.len() {
-            self.straighten(&mut x, turn);
+        for node in (0..PASSES).flat_map(|_| 0..self.items.len()) {
+            self.straighten(&mut x, node);
         }
         let low = (0..x.len()).map(|i| x[i] - self.wide[i] / 2.0);
         let shift = low.fold(f64::MAX, f64::min) - LEFT;
         x.iter().map(|v| v - shift).collect()
     }
 
-    /// Makes the lanes of a node one straight line where its neighbours leave room.
-    fn straighten(&self, x: &mut [f64], turn: usize) {
-        let node = turn % self.items.len();
-        let lanes: Vec<usize> = (0..x.len())
-            .filter(|&i| self.items[i].lane && self.items[i].node == node)
-            .collect();
-        let room = lanes.iter().map(|&i| self.room(x, i));
-        let (low, high) = room.fold((f64::MIN, f64::MAX), |a, b| (a.0.max(b.0), a.1.min(b.1)));
-        if lanes.len() > 1 && low <= high {
-            let mean = lanes.iter().map(|&i| x[i]).sum::<f64>() / lanes.len() as f64;
-            lanes.iter().for_each(|&i| x[i] = mean.max(low).min(high));
+    /// Makes the lanes of a node straight as far as their neighbours leave room: few bends.
+    fn straighten(&self, x: &mut [f64], node: usize) {
+        let lanes = (0..x.len()).filter(|&i| self.items[i].lane && self.items[i].node == node);
+        let mut lanes: Vec<usize> = lanes.collect();
+        lanes.sort_by_key(|&i| self.items[i].row);
+        while !lanes.is_empty() {
+            let (mut low, mut high, mut count) = (f64::MIN, f64::MAX, 0);
+            for &lane in &lanes {
+                let room = self.room(x, lane);
+                if low.max(room.0) > high.min(room.1) {
+                    break;
+                }
+                (low, high, count) = (low.max(room.0), high.min(room.1), count + 1);
+            }
+            let run: Vec<usize> = lanes.drain(..count.max(1)).collect();
+            if count > 1 {
+                let mean = run.iter().map(|&i| x[i]).sum::<f64>() / count as f64;
+                run.iter().for_each(|&i| x[i] = mean.max(low).min(high));
+            }
         }
     }
 
@@ -324,22 +335,18 @@ impl Graph {
             0 => LEFT,
             _ => x[row[k - 1]] + self.apart(row[k - 1], id),
         };
-        let high = row
-            .get(k + 1)
-            .map_or(WIDE - RIGHT, |&next| x[next] - self.apart(id, next));
+        let high = row.get(k + 1).map_or(WIDE - RIGHT, |&next| x[next] - self.apart(id, next));
         (low, high)
     }
 
     /// Where an item wants to be, and how much: lanes want to be straight.
     fn wanted(&self, id: usize, x: &[f64]) -> (f64, f64) {
         let (mut sum, mut weight) = (0.02 * x[id], 0.02);
-        for &(a, b) in &self.links {
-            if a == id || b == id {
-                let lanes = usize::from(self.items[a].lane) + usize::from(self.items[b].lane);
-                let w = [1.0, 2.0, 8.0][lanes];
-                sum += w * x[a + b - id];
-                weight += w;
-            }
+        for &other in self.near[id].iter().flatten() {
+            let lane = |i: usize| usize::from(self.items[i].lane);
+            let w = [1.0, 3.0, 30.0][lane(id) + lane(other)];
+            sum += w * x[other];
+            weight += w;
         }
         (sum / weight, weight)
     }
@@ -364,9 +371,7 @@ impl Graph {
         let low = LEFT + self.wide[row[0]] / 2.0;
         let last = row[row.len() - 1];
         let high = WIDE - RIGHT - self.wide[last] / 2.0 - before[row.len() - 1];
-        let places = blocks
-            .iter()
-            .flat_map(|&(place, _, n)| std::iter::repeat_n(place, n));
+        let places = blocks.iter().flat_map(|&(place, _, n)| std::iter::repeat_n(place, n));
         let inside = places.map(|p| p.min(high).max(low));
         inside.zip(&before).map(|(p, b)| p + b).collect()
     }
@@ -385,18 +390,10 @@ impl Graph {
         let lanes = x[sizes.len()..].iter().copied();
         let wide = ends.chain(lanes).fold(0.0, f64::max) + RIGHT;
         Placed {
-            boxes: (0..sizes.len())
-                .map(|i| (x[i] - sizes[i].wide / 2.0, rows[self.items[i].row].0))
-                .collect(),
+            boxes: (0..sizes.len()).map(|i| (x[i] - sizes[i].wide / 2.0, rows[self.items[i].row].0)).collect(),
             edges: self.edges(sizes, x, &rows),
-            levels: of_level
-                .iter()
-                .map(|l| (rows[l[0]].0, rows[l[l.len() - 1]].1))
-                .collect(),
-            size: Size {
-                wide,
-                high: bottom + TOP,
-            },
+            levels: of_level.iter().map(|l| (rows[l[0]].0, rows[l[l.len() - 1]].1)).collect(),
+            size: Size { wide, high: bottom + TOP },
         }
     }
 
@@ -415,28 +412,12 @@ impl Graph {
             for (at, &id) in route.iter().enumerate() {
                 let (top, bottom) = rows[self.items[id].row];
                 steps.push(match at {
-                    0 => Step {
-                        x: x[id] + self.port(x, k, false),
-                        top: top + sizes[id].high,
-                        bottom,
-                    },
-                    _ if at == route.len() - 1 => Step {
-                        x: x[id] + self.port(x, k, true),
-                        top,
-                        bottom: top,
-                    },
-                    _ => Step {
-                        x: x[id],
-                        top,
-                        bottom,
-                    },
+                    0 => Step { x: x[id] + self.port(x, k, false), top: top + sizes[id].high, bottom },
+                    _ if at == route.len() - 1 => Step { x: x[id] + self.port(x, k, true), top, bottom: top },
+                    _ => Step { x: x[id], top, bottom },
                 });
             }
-            out.push(Edge {
-                from: route[0],
-                to: route[route.len() - 1],
-                steps,
-            });
+            out.push(Edge { from: route[0], to: route[route.len() - 1], steps });
         }
         out
     }
@@ -469,9 +450,7 @@ impl Graph {
 /// A fixed order out of a seed.
 fn shuffle(row: &mut [usize], seed: &mut u64) {
     for k in (1..row.len()).rev() {
-        *seed = seed
-            .wrapping_mul(6364136223846793005)
-            .wrapping_add(1442695040888963407);
+        *seed = seed.wrapping_mul(6364136223846793005).wrapping_add(1442695040888963407);
         row.swap(k, (*seed >> 33) as usize % (k + 1));
     }
 }

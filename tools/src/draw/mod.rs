@@ -32,36 +32,19 @@ pub struct Held {
 /// What a station's areas hold: rows, gained, lost and head one after the other, each word in 4 bytes, the lowest first.
 pub fn held(net: &Network, bytes: &[u8]) -> Result<Vec<Held>, String> {
     if bytes.len() != 4 * WORDS {
-        return Err(format!(
-            "areas have {} bytes, not {}",
-            4 * WORDS,
-            bytes.len()
-        ));
+        return Err(format!("areas have {} bytes, not {}", 4 * WORDS, bytes.len()));
     }
-    let words: Vec<u32> = bytes
-        .chunks(4)
-        .map(|w| u32::from_le_bytes([w[0], w[1], w[2], w[3]]))
-        .collect();
+    let words: Vec<u32> = bytes.chunks(4).map(|w| u32::from_le_bytes([w[0], w[1], w[2], w[3]])).collect();
     let rows = |i: usize, area: usize, counts: usize| {
         let count = words[3 * AREA + counts + i] as usize;
         if count > 64 {
-            return Err(format!(
-                "node {i} has {count} rows, above 64: the areas are not of good form"
-            ));
+            return Err(format!("node {i} has {count} rows, above 64: the areas are not of good form"));
         }
         let at = |j: usize| area * AREA + 256 * i + 4 * j;
         let wide = net.nodes[i].columns.len();
-        Ok((0..count)
-            .map(|j| words[at(j)..at(j) + wide].to_vec())
-            .collect())
+        Ok((0..count).map(|j| words[at(j)..at(j) + wide].to_vec()).collect())
     };
-    let node = |i: usize| {
-        Ok(Held {
-            rows: rows(i, 0, 1)?,
-            gained: rows(i, 1, 65)?,
-            lost: rows(i, 2, 97)?,
-        })
-    };
+    let node = |i: usize| Ok(Held { rows: rows(i, 0, 1)?, gained: rows(i, 1, 65)?, lost: rows(i, 2, 97)? });
     (0..net.nodes.len()).map(node).collect()
 }
 
@@ -69,11 +52,7 @@ pub fn held(net: &Network, bytes: &[u8]) -> Result<Vec<Held>, String> {
 pub fn state(station: &Station) -> Vec<Held> {
     let node = |i: usize| {
         let change = station.change(i);
-        Held {
-            rows: station.rows[i].iter().cloned().collect(),
-            gained: change.gained,
-            lost: change.lost,
-        }
+        Held { rows: station.rows[i].iter().cloned().collect(), gained: change.gained, lost: change.lost }
     };
     (0..station.net.nodes.len()).map(node).collect()
 }
@@ -117,9 +96,7 @@ fn colours(sort: Sort) -> (&'static str, &'static str) {
 }
 
 /// Edges' colours, by the node they come from.
-const EDGES: [&str; 8] = [
-    "#4e79a7", "#b35806", "#3f8f5f", "#8c5aa8", "#c0504d", "#5f6b7a", "#9a7d0a", "#2a8fa0",
-];
+const EDGES: [&str; 8] = ["#4e79a7", "#b35806", "#3f8f5f", "#8c5aa8", "#c0504d", "#5f6b7a", "#9a7d0a", "#2a8fa0"];
 
 /// What a node does, in words.
 fn says(net: &Network, i: usize) -> String {

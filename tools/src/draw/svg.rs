@@ -9,9 +9,7 @@ const NARROWEST: f64 = 84.0;
 const ARROW: f64 = 8.0;
 
 fn escaped(text: &str) -> String {
-    text.replace('&', "&amp;")
-        .replace('<', "&lt;")
-        .replace('>', "&gt;")
+    text.replace('&', "&amp;").replace('<', "&lt;").replace('>', "&gt;")
 }
 
 /// Size, weight and colour of a line.
@@ -42,32 +40,23 @@ fn wide(line: &Line) -> f64 {
 
 fn size(lines: &[Line]) -> Size {
     let widest = lines.iter().map(wide).fold(0.0, f64::max);
-    Size {
-        wide: (widest + 2.0 * SIDE).max(NARROWEST).round(),
-        high: LINE * lines.len() as f64 + 10.0,
-    }
+    Size { wide: (widest + 2.0 * SIDE).max(NARROWEST).round(), high: LINE * lines.len() as f64 + 10.0 }
 }
 
-/// An edge's line: straight through rows, curved between them.
-fn path(edge: &Edge) -> String {
-    let first = &edge.steps[0];
-    let mut out = format!("M{:.1} {:.1}", first.x, first.top);
-    if first.bottom > first.top {
+/// An edge's line from one of its steps on: straight through rows, curved between them.
+fn path(edge: &Edge, from: usize) -> String {
+    let first = &edge.steps[from];
+    let top = if from == 0 { first.top } else { first.bottom };
+    let mut out = format!("M{:.1} {top:.1}", first.x);
+    if first.bottom > top {
         out += &format!("V{:.1}", first.bottom);
     }
-    let last = edge.steps.len() - 2;
-    for (k, pair) in edge.steps.windows(2).enumerate() {
-        let (a, b) = (pair[0], pair[1]);
-        let end = if k == last {
-            b.top - ARROW + 1.0
-        } else {
-            b.top
-        };
+    let last = edge.steps.len() - 1;
+    for k in from + 1..=last {
+        let (a, b) = (edge.steps[k - 1], edge.steps[k]);
+        let end = if k == last { b.top - ARROW + 1.0 } else { b.top };
         let middle = (a.bottom + end) / 2.0;
-        out += &format!(
-            "C{:.1} {middle:.1} {:.1} {middle:.1} {:.1} {end:.1}",
-            a.x, b.x, b.x
-        );
+        out += &format!("C{:.1} {middle:.1} {:.1} {middle:.1} {:.1} {end:.1}", a.x, b.x, b.x);
         if b.bottom > b.top {
             out += &format!("V{:.1}", b.bottom);
         }
@@ -75,31 +64,36 @@ fn path(edge: &Edge) -> String {
     out
 }
 
+/// The step from which on an edge runs by itself: before it, it shares the lanes of an edge that is drawn already.
+fn own_step(edge: &Edge, drawn: &[&Edge]) -> usize {
+    let shared = |other: &&Edge| {
+        let both = edge.steps.iter().zip(&other.steps);
+        both.take_while(|(a, b)| a == b).count()
+    };
+    let most = drawn.iter().map(shared).max().unwrap_or(0);
+    most.min(edge.steps.len() - 1).saturating_sub(1)
+}
+
 /// The edges from one node: white below, so that crossings can be told apart, then colour and arrowheads.
 fn edges_from(net: &Network, edges: &[Edge], from: usize) -> String {
-    let own = || edges.iter().filter(|e| e.from == from);
+    let own: Vec<&Edge> = edges.iter().filter(|e| e.from == from).collect();
+    let paths: Vec<String> = (0..own.len()).map(|k| path(own[k], own_step(own[k], &own[..k]))).collect();
     let colour = EDGES[from % EDGES.len()];
     let mut out = String::new();
-    for edge in own() {
-        out += &format!(
-            "<path d=\"{}\" fill=\"none\" stroke=\"#ffffff\" stroke-width=\"5\"/>\n",
-            path(edge)
-        );
+    for path in &paths {
+        out += &format!("<path d=\"{path}\" fill=\"none\" stroke=\"#ffffff\" stroke-width=\"5\"/>\n");
     }
-    for edge in own() {
+    for (edge, path) in own.iter().zip(&paths) {
         let title = format!("{} to {}", net.nodes[from].name, net.nodes[edge.to].name);
         out += &format!(
-            "<path class=\"edge\" d=\"{}\" fill=\"none\" stroke=\"{colour}\" stroke-width=\"1.6\"><title>{}</title></path>\n",
-            path(edge),
+            "<path class=\"edge\" d=\"{path}\" fill=\"none\" stroke=\"{colour}\" stroke-width=\"1.6\"><title>{}</title></path>\n",
             escaped(&title)
         );
     }
-    for edge in own() {
+    for edge in own {
         let end = edge.steps[edge.steps.len() - 1];
-        out += &format!(
-            "<path class=\"arrow\" d=\"M{:.1} {:.1}l-4 -{ARROW}h8z\" fill=\"{colour}\"/>\n",
-            end.x, end.top
-        );
+        out +=
+            &format!("<path class=\"arrow\" d=\"M{:.1} {:.1}l-4 -{ARROW}h8z\" fill=\"{colour}\"/>\n", end.x, end.top);
     }
     out
 }
@@ -123,9 +117,7 @@ fn node_box(net: &Network, i: usize, texts: &[Line], (x, y): (f64, f64), size: S
 
 /// The picture of a network, with what a station holds where that is given.
 pub fn svg(net: &Network, state: Option<&[Held]>) -> String {
-    let texts: Vec<Vec<Line>> = (0..net.nodes.len())
-        .map(|i| lines(net, i, state.and_then(|s| s.get(i))))
-        .collect();
+    let texts: Vec<Vec<Line>> = (0..net.nodes.len()).map(|i| lines(net, i, state.and_then(|s| s.get(i)))).collect();
     let sizes: Vec<Size> = texts.iter().map(|t| size(t)).collect();
     let placed = layout(net, &sizes);
     let Size { wide, high } = placed.size;
@@ -134,7 +126,10 @@ pub fn svg(net: &Network, state: Option<&[Held]>) -> String {
     for (level, (top, bottom)) in placed.levels.iter().enumerate() {
         if level % 2 == 0 {
             let (y, tall) = (top - 8.0, bottom - top + 16.0);
-            out += &format!("<rect x=\"4\" y=\"{y:.1}\" width=\"{}\" height=\"{tall:.1}\" rx=\"6\" fill=\"#f4f4f1\"/>\n", wide - 8.0);
+            out += &format!(
+                "<rect x=\"4\" y=\"{y:.1}\" width=\"{}\" height=\"{tall:.1}\" rx=\"6\" fill=\"#f4f4f1\"/>\n",
+                wide - 8.0
+            );
         }
         let base = top + 17.0;
         out += &format!("<text x=\"12\" y=\"{base:.1}\" font-size=\"11\" fill=\"#6b6b6b\">level {level}</text>\n");

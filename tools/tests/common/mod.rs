@@ -52,11 +52,7 @@ pub struct Made {
 }
 
 pub fn network(r: &mut Random) -> Made {
-    let mut m = Made {
-        bytes: Vec::new(),
-        widths: Vec::new(),
-        tables: Vec::new(),
-    };
+    let mut m = Made { bytes: Vec::new(), widths: Vec::new(), tables: Vec::new() };
     let most = if r.below(8) == 0 { 32 } else { 10 };
     let count = 1 + r.below(most);
     let mut watched = vec![false; count];
@@ -163,9 +159,7 @@ pub fn vectors() -> Vec<(String, Vec<u8>, Vec<u8>, String)> {
         for entry in std::fs::read_dir(folder).unwrap() {
             let path = entry.unwrap().path();
             let read = |name: &str| std::fs::read(path.join(name)).ok();
-            if let (Some(n), Some(b), Some(s)) =
-                (read("network.bin"), read("batch.bin"), read("stdout"))
-            {
+            if let (Some(n), Some(b), Some(s)) = (read("network.bin"), read("batch.bin"), read("stdout")) {
                 let name = path.file_name().unwrap().to_string_lossy().into_owned();
                 out.push((name, n, b, String::from_utf8(s).unwrap()));
             }
