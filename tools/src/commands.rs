@@ -1,4 +1,5 @@
 //! The command line.
+use std::ffi::OsString;
 use std::io::{ErrorKind, Write};
 use std::path::Path;
 
@@ -245,7 +246,9 @@ fn assemble_batches(given: &Arguments) -> Result<Done, Failure> {
     let file = located(path, batches::assemble(&net, &text))?;
     let size = file.bytes.len();
     if size > FILE {
-        eprintln!("{path}: warning: this makes {size} bytes; the station program reads no file above {FILE}: split it");
+        complain(&format!(
+            "{path}: warning: this makes {size} bytes; the station program reads no file above {FILE}: split it"
+        ));
     }
     write(out, &file.bytes)
 }
@@ -362,7 +365,7 @@ fn draw_network(given: &Arguments) -> Result<Done, Failure> {
         }
         match draw::graphviz(&graph, Path::new(out)) {
             Ok(true) => return Done::quiet(),
-            Ok(false) => eprintln!("Graphviz (dot) is not installed: the built-in layout serves"),
+            Ok(false) => complain("Graphviz (dot) is not installed: the built-in layout serves"),
             Err(e) => return Err(input(format!("{out}: {e}"))),
         }
     }
@@ -416,15 +419,25 @@ fn done(args: &[String]) -> Result<Done, Failure> {
     })
 }
 
+/// A line on standard error, if that can be written.
+fn complain(text: &str) {
+    let _ = writeln!(std::io::stderr(), "{}", text.trim_end());
+}
+
 /// Runs a command line, prints, and gives the exit status.
-pub fn main(args: &[String]) -> i32 {
-    match done(args) {
+pub fn main(args: impl Iterator<Item = OsString>) -> i32 {
+    let words: Result<Vec<String>, OsString> = args.map(OsString::into_string).collect();
+    let answer = match words {
+        Ok(words) => done(&words),
+        Err(word) => Err(Failure::Usage(format!("{} is no text in UTF-8", word.to_string_lossy()))),
+    };
+    match answer {
         Err(Failure::Usage(text)) => {
-            eprint!("{text}");
+            complain(&text);
             2
         }
         Err(Failure::Input(text)) => {
-            eprintln!("{text}");
+            complain(&text);
             1
         }
         Ok(done) => {
@@ -432,7 +445,7 @@ pub fn main(args: &[String]) -> i32 {
             let written = out.write_all(done.text.as_bytes()).and_then(|()| out.flush());
             match written {
                 Err(e) if e.kind() != ErrorKind::BrokenPipe => {
-                    eprintln!("standard output: {e}");
+                    complain(&format!("standard output: {e}"));
                     1
                 }
                 _ => i32::from(!done.fine),

@@ -77,6 +77,11 @@ fn is_sign(c: char) -> bool {
     "=!<>".contains(c)
 }
 
+/// Whether a word can stand only between names.
+fn is_inner(word: &str) -> bool {
+    word.starts_with(is_sign) || INNER.contains(&word)
+}
+
 /// The words of a line without its comment; spaces around comparison signs may be left out.
 pub fn words(line: &str) -> Vec<&str> {
     let kept = line.split('#').next().unwrap_or("");
@@ -246,18 +251,27 @@ impl<'a> Line<'a> {
         }
     }
 
-    pub fn name(&mut self, what: &str) -> Checked<String> {
+    /// The next word, which must not be one that shows that something is missing before it.
+    fn before(&mut self, what: &str, shows: fn(&str) -> bool) -> Checked<&'a str> {
         let word = self.next(what)?;
+        if shows(word) {
+            return self.misshapen(format!("{what} is missing before '{word}'"));
+        }
+        Ok(word)
+    }
+
+    pub fn name(&mut self, what: &str) -> Checked<String> {
+        let word = self.before(what, |w| w.starts_with(is_sign))?;
         self.tell(name(word))
     }
 
     pub fn node(&mut self, net: &Network) -> Checked<usize> {
-        let word = self.next("a node")?;
+        let word = self.before("a node", is_inner)?;
         self.tell(node(net, word))
     }
 
     pub fn column(&mut self, net: &Network, node: usize) -> Checked<usize> {
-        let word = self.next("a column")?;
+        let word = self.before("a column", is_inner)?;
         self.tell(column(net, node, word))
     }
 

@@ -155,23 +155,24 @@ impl Teller<'_> {
                 }
                 self.more(depth + 1, from.len(), "rows");
             }
-            Op::Join { left, right, .. } => {
-                let pairs = self.pairs(node, row);
-                let (l, r) = (self.name(left), self.name(right));
-                let on = match self.net().pairs(node) {
-                    on if on.is_empty() => String::new(),
-                    on => format!(" with {on}"),
-                };
-                let count = counted(pairs.len(), "pair", "pairs");
-                self.line(depth, &format!("{named}: from {count} of {l} and {r}{on}"));
-                for (a, b) in pairs.iter().take(self.most) {
-                    self.tell(depth + 1, "", left, a);
-                    self.tell(depth + 1, "and ", right, b);
-                }
-                self.more(depth + 1, pairs.len(), "pairs");
-            }
+            Op::Join { left, right, .. } => self.join_origins(depth, named, node, (left, right), row),
             Op::Set { set, left, right } => self.set_origins(depth, named, row, (set, left, right)),
         }
+    }
+
+    fn join_origins(&mut self, depth: usize, named: &str, node: usize, (left, right): (usize, usize), row: &[u32]) {
+        let pairs = self.pairs(node, row);
+        let on = match self.net().pairs(node) {
+            on if on.is_empty() => on,
+            on => format!(" with {on}"),
+        };
+        let (l, r, count) = (self.name(left), self.name(right), counted(pairs.len(), "pair", "pairs"));
+        self.line(depth, &format!("{named}: from {count} of {l} and {r}{on}"));
+        for (a, b) in pairs.iter().take(self.most) {
+            self.tell(depth + 1, "", left, a);
+            self.tell(depth + 1, "and ", right, b);
+        }
+        self.more(depth + 1, pairs.len(), "pairs");
     }
 
     fn set_origins(&mut self, depth: usize, named: &str, row: &[u32], (set, left, right): (Set, usize, usize)) {
@@ -239,21 +240,7 @@ impl Teller<'_> {
         let op = self.net().nodes[node].op.clone();
         match op {
             Op::Table(_) => self.no_entry(depth, &missing, node, known),
-            Op::Select { input, .. } => {
-                let failing = self.matching(input, known);
-                let reason = match failing.len() {
-                    0 => String::new(),
-                    n => format!(
-                        ": {} of {} {} {}",
-                        counted(n, "row", "rows"),
-                        self.name(input),
-                        if n == 1 { "fails" } else { "fail" },
-                        self.net().test(node)
-                    ),
-                };
-                self.line(depth, &format!("{missing}{reason}"));
-                self.rows_or_absence(depth + 1, input, known, &failing);
-            }
+            Op::Select { input, .. } => self.none_passes(depth, &missing, (node, input), known),
             Op::Project { input, columns } => {
                 let fields = known.iter().map(|&(k, v)| (columns[k], v));
                 match agreed(fields) {
@@ -276,6 +263,18 @@ impl Teller<'_> {
         }
     }
 
+    fn none_passes(&mut self, depth: usize, missing: &str, (node, input): (usize, usize), known: &[(usize, u32)]) {
+        let failing = self.matching(input, known);
+        let (name, test) = (self.name(input), self.net().test(node));
+        let reason = match failing.len() {
+            0 => String::new(),
+            1 => format!(": 1 row of {name} fails {test}"),
+            n => format!(": {n} rows of {name} fail {test}"),
+        };
+        self.line(depth, &format!("{missing}{reason}"));
+        self.rows_or_absence(depth + 1, input, known, &failing);
+    }
+
     /// Rows of a node that have known fields, or why there are none.
     fn rows_or_absence(&mut self, depth: usize, node: usize, known: &[(usize, u32)], rows: &[Row]) {
         if rows.is_empty() {
@@ -291,8 +290,12 @@ impl Teller<'_> {
         let gone = self.station.moved[table].iter();
         let gone: Vec<(Row, u32)> =
             gone.filter(|(row, _)| fits(row, known)).map(|(row, batch)| (row.clone(), *batch)).collect();
-        if gone.is_empty() {
-            return self.line(depth, &format!("{missing}: no batch has put it"));
+        match gone[..] {
+            [] => return self.line(depth, &format!("{missing}: no batch has put it")),
+            [(ref row, batch)] if row.len() == known.len() => {
+                return self.line(depth, &format!("{missing}: removed in batch {batch}"))
+            }
+            _ => {}
         }
         self.line(depth, missing);
         for (row, batch) in gone.iter().take(self.most) {

@@ -171,6 +171,14 @@ fn a_full_disk_is_told() {
 }
 
 #[test]
+fn a_full_disk_behind_standard_error_is_no_panic() {
+    for (args, status) in [(&["draws"][..], 2), (&["text", "nowhere.bin"], 1)] {
+        let full = File::options().write(true).open("/dev/full").unwrap();
+        assert_eq!(command(args).stderr(full).status().unwrap().code(), Some(status));
+    }
+}
+
+#[test]
 fn text_and_events_come_back() {
     let text = tool(&["text", NETWORK_BIN]);
     let (path, out) = (made("again.txt", &text.out), made("again.bin", ""));

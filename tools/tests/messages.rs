@@ -108,6 +108,10 @@ fn a_wrong_line_says_how_it_should_look() {
     assert!(told("watch a all").starts_with("2: 'all' is no sign (gained lost both)\n"));
     assert!(told("table b").starts_with("2: a column is missing at the end\n"));
     assert!(told("union b = a").starts_with("2: a node is missing at the end\n"));
+    assert!(told("union = a a").starts_with("2: a name is missing before '='\n"));
+    assert!(told("select b = where x = 1").starts_with("2: a node is missing before 'where'\n"));
+    assert!(told("select b = a where = 1").starts_with("2: a column is missing before '='\n"));
+    assert!(told("join b = a on x = x give left.x").starts_with("2: a node is missing before 'on'\n"));
     let lines = told("tabel b x");
     assert!(lines.starts_with("2: no line begins with 'tabel'; the lines are\n    table NAME COLUMN ...\n    select "));
     assert!(events("putt catches 1 2\n")
