@@ -133,16 +133,22 @@ pub fn text(net: &Network, file: &[u8]) -> Result<String, String> {
         out += &records.map_err(|e| format!("{place}: {e}"))?;
         out += "end\n";
     }
+    let place = |start: usize| format!("after the last mark, from byte {start} on");
     match pieces.rest {
         Rest::Nothing => {}
-        Rest::Unfinished(r) | Rest::Broken(r, _) => {
-            let place = format!("after the last mark, from byte {} on", r.start);
-            let records = records_text(net, &file[r]);
-            out += &records.map_err(|e| format!("{place}: {e}"))?;
+        Rest::Unfinished(r) => {
+            let start = place(r.start);
+            out += &records_text(net, &file[r]).map_err(|e| format!("{start}: {e}"))?;
             out += "unfinished\n";
         }
+        Rest::Broken(r, at) => return Err(format!("{}: {}", place(r.start), broken(net, &file[r], at))),
     }
     Ok(out)
+}
+
+/// The refusal of a batch with a broken length at an offset, which the station finds before it looks at the batch's records.
+pub fn broken(net: &Network, batch: &[u8], place: u32) -> String {
+    refused::batch(net, batch, Refusal { number: 10, place })
 }
 
 /// The library's verdict on a batch's records: 10 to 13.

@@ -183,6 +183,17 @@ fn is_bytes(path: &str, bytes: &[u8]) -> bool {
     path.ends_with(".bin") || bytes.contains(&0)
 }
 
+/// The bytes of a file that must not be text already.
+fn records_of(path: &str) -> Result<Vec<u8>, Failure> {
+    let bytes = bytes_of(path)?;
+    let letter = |c: char| !c.is_control() || c.is_whitespace();
+    let is_text = std::str::from_utf8(&bytes).is_ok_and(|t| !t.is_empty() && t.chars().all(letter));
+    if is_text && !is_bytes(path, &bytes) {
+        return Err(input(format!("{path}: this is text already: the commands network and batches make bytes of it")));
+    }
+    Ok(bytes)
+}
+
 fn as_text(path: &str, bytes: Vec<u8>) -> Result<String, Failure> {
     if bytes.contains(&0) {
         let text = format!("{path}: this is no text but bytes: the commands text and events make text of them");
@@ -233,7 +244,7 @@ fn text(given: &Arguments) -> Result<Done, Failure> {
     let [path] = given.words()[..] else {
         return Err(misused());
     };
-    let net = Network::from_bytes(&bytes_of(path)?);
+    let net = Network::from_bytes(&records_of(path)?);
     Done::text(net.map_err(|e| input(format!("{path}: {}", e.1)))?.text())
 }
 
@@ -258,7 +269,7 @@ fn events(given: &Arguments) -> Result<Done, Failure> {
         return Err(misused());
     };
     let net = network_of(net)?;
-    let text = batches::text(&net, &bytes_of(path)?);
+    let text = batches::text(&net, &records_of(path)?);
     Done::text(text.map_err(|e| input(format!("{path}: {e}")))?)
 }
 

@@ -3,7 +3,7 @@ use std::collections::{BTreeMap, BTreeSet};
 
 use bagwezin::{Monitor, Refusal};
 
-use crate::batches::{pieces, Assembled, Rest, FILE};
+use crate::batches::{broken, pieces, Assembled, Rest, FILE};
 use crate::grammar::counted;
 use crate::{refused, Network, Row};
 
@@ -141,9 +141,7 @@ fn rest(net: &Network, file: &[u8], rest: &Rest) -> Option<String> {
             Some(format!("unfinished: {records} after the last mark, not applied"))
         }
         Rest::Broken(range, place) => {
-            let refusal = Refusal { number: 10, place: *place };
-            let text = refused::batch(net, &file[range.clone()], refusal);
-            Some(format!("{text}; the station ends here"))
+            Some(format!("{}; the station ends here", broken(net, &file[range.clone()], *place)))
         }
     }
 }

@@ -106,7 +106,9 @@ fn bad_input_exits_1_with_file_and_line() {
     let latin = made("latin.txt", b"table a x\n# \xe4\n");
     let short = made("short.bin", [6, 0, 1]);
     let over = made("over.txt", "put sprays 5 22\nput sprays 5\nend\n");
-    let list: [(&[&str], String); 10] = [
+    let list: [(&[&str], String); 12] = [
+        (&["text", NETWORK], format!("{NETWORK}: this is text already")),
+        (&["events", NETWORK, BATCHES], format!("{BATCHES}: this is text already")),
         (&["network", &wrong, "/dev/null"], format!("{wrong}:2: 'a' has no column 'y' (it has x)\n")),
         (&["network", &latin, "/dev/null"], format!("{latin}:2: this is no text in UTF-8\n")),
         (&["network", NETWORK_BIN, "/dev/null"], format!("{NETWORK_BIN}: this is no text but bytes")),

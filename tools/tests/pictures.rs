@@ -125,10 +125,14 @@ fn edges_run_between_boxes() {
     }
     for seed in 0..150 {
         let mut r = Random::new(seed);
-        let net = Network::from_bytes(&common::network(&mut r).bytes).unwrap();
+        let made = common::network(&mut r);
+        let net = Network::from_bytes(&made.bytes).unwrap();
         let picture = draw::svg(&net, None);
         sound(&picture, &format!("seed {seed}"));
         assert_eq!(picture, draw::svg(&net, None));
+        let mut station = Station::open(&net).unwrap();
+        station.play(&common::batches(&mut r, &made), None).unwrap();
+        sound(&draw::svg(&net, Some(&draw::state(&station))), &format!("seed {seed} with rows"));
     }
 }
 

@@ -80,6 +80,79 @@ fn verdicts(net: &Network, file: &[u8]) -> Vec<String> {
 }
 
 #[test]
+fn damaged_files_of_batches_are_refused_by_the_library_or_come_back() {
+    let (mut accepted, mut refused) = (0, 0);
+    for seed in 0..5000 {
+        let mut r = Random::new(seed + 2_000_000);
+        let made = common::network(&mut r);
+        let net = Network::from_bytes(&made.bytes).unwrap();
+        let mut file = common::batches(&mut r, &made);
+        if !file.is_empty() {
+            let at = r.below(file.len());
+            match r.below(4) {
+                0 => file.truncate(at),
+                _ => file[at] = r.below(40) as u8,
+            }
+        }
+        match (batches_around(&net, &file), verdicts(&net, &file).first()) {
+            (Ok(()), None) => accepted += 1,
+            (Err(text), Some(verdict)) => {
+                let number = verdict.split(' ').nth(1).unwrap();
+                assert!(text.contains(&format!("refused {number} at byte")), "{text}, not {verdict}");
+                refused += 1;
+            }
+            // what stands after the last mark is no batch of the station's, and no text either
+            (Err(text), None) => assert!(text.starts_with("after the last mark"), "{text}"),
+            (Ok(()), Some(verdict)) => panic!("a text for a file with {verdict}"),
+        }
+    }
+    assert!(accepted > 500 && refused > 500, "{accepted} {refused}");
+}
+
+/// A text with some words or letters changed gives a network or a problem with a line of the text.
+#[test]
+fn damaged_texts_are_read_or_told() {
+    let words =
+        ["=", "where", "give", "as", "left.x", ".9", "@40", "@", ".", "4294967296", "-1", "both", "#", "é", "!"];
+    let texts = [common::N, include_str!("../../examples/orchard/network.txt")];
+    let events = include_str!("../../examples/orchard/batches.txt");
+    let orchard = Network::assemble(texts[1]).unwrap();
+    let mut read = 0;
+    for seed in 0..20_000 {
+        let mut r = Random::new(seed + 3_000_000);
+        let whole = [texts[0], texts[1], events][r.below(3)];
+        let mut pieces: Vec<&str> = whole.split_inclusive([' ', '\n']).collect();
+        for _ in 0..1 + r.below(3) {
+            let at = r.below(pieces.len());
+            match r.below(3) {
+                0 => drop(pieces.remove(at)),
+                1 => pieces.insert(at, words[r.below(words.len())]),
+                _ => pieces[at] = pieces[r.below(pieces.len())],
+            }
+        }
+        let text = pieces.concat();
+        let problem = match whole == events {
+            true => batches::assemble(&orchard, &text).err(),
+            false => Network::assemble(&text).map(|net| around(&net.bytes()).unwrap()).err(),
+        };
+        match problem {
+            None => read += 1,
+            Some(p) => assert!((1..=text.lines().count().max(1)).contains(&p.line), "{p}"),
+        }
+    }
+    assert!(read > 1000, "{read}");
+}
+
+#[test]
+fn named_networks_come_back_with_their_names() {
+    for folder in ["orchard", "pictures/32-nodes", "pictures/self-join"] {
+        let path = common::root().join("examples").join(folder).join("network.txt");
+        let net = Network::assemble(&std::fs::read_to_string(path).unwrap()).unwrap();
+        assert_eq!(Network::assemble(&net.text()).unwrap(), net);
+    }
+}
+
+#[test]
 fn the_outside_vectors() {
     let (mut networks, mut legal, mut files) = (0, 0, 0);
     for (name, network, file, stdout) in common::vectors() {
