@@ -4,7 +4,7 @@ use std::ops::Range;
 use bagwezin::{Monitor, Refusal};
 
 use crate::grammar::{self, lines, Checked, Line, Problem, EVENTS};
-use crate::network::{halves, length, offsets, record};
+use crate::network::{halves, length, offsets, record, two};
 use crate::{refused, Network};
 
 /// The most events of a batch, and the most bytes of a file that the station program reads.
@@ -168,10 +168,10 @@ fn records_text(net: &Network, batch: &[u8]) -> Result<String, String> {
 
 /// The line of an event that the library accepts.
 fn event_text(net: &Network, record: &[u8]) -> String {
-    let two = |at: usize| u16::from_le_bytes([record[at], record[at + 1]]) as u32;
-    let table = &net.nodes[two(4) as usize];
-    let word = if two(2) as usize == PUT { "put" } else { "remove" };
-    let fields = (0..table.columns.len()).map(|k| two(6 + 4 * k) + (two(8 + 4 * k) << 16));
+    let half = |at: usize| two(record, at).unwrap_or(0);
+    let table = &net.nodes[half(4)];
+    let word = if half(2) == PUT { "put" } else { "remove" };
+    let fields = (0..table.columns.len()).map(|k| half(6 + 4 * k) + (half(8 + 4 * k) << 16));
     let row: String = fields.map(|v| format!(" {v}")).collect();
     format!("{word} {}{row}\n", table.name)
 }

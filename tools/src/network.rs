@@ -117,7 +117,8 @@ pub fn judged(bytes: &[u8]) -> Result<(), Refusal> {
 }
 
 impl Network {
-    /// An accepted network, with made-up names; else the library's refusal, and what is wrong in words.
+    /// An accepted network, with made-up names; else the library's refusal, and what is wrong in words. Number 0 stands for a record that the library
+    /// accepts and these tools do not know.
     pub fn from_bytes(bytes: &[u8]) -> Result<Network, (Refusal, String)> {
         if let Err(refusal) = judged(bytes) {
             return Err((refusal, refused::network(bytes, refusal)));
@@ -308,7 +309,8 @@ fn unique(names: &[&str]) -> Vec<String> {
     out
 }
 
-fn two(bytes: &[u8], at: usize) -> Option<usize> {
+/// The number in 2 bytes at an offset.
+pub fn two(bytes: &[u8], at: usize) -> Option<usize> {
     Some(u16::from_le_bytes([*bytes.get(at)?, *bytes.get(at + 1)?]) as usize)
 }
 

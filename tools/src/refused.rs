@@ -1,7 +1,7 @@
 //! Refusals in words: the rule, and what is wrong in the record at fault.
 use bagwezin::Refusal;
 
-use crate::network::{fits, kind_word, length, offsets};
+use crate::network::{fits, kind_word, length, offsets, two};
 use crate::Network;
 
 /// A refused network: number, place, the rule, and which field breaks it.
@@ -14,7 +14,7 @@ pub fn network(bytes: &[u8], refusal: Refusal) -> String {
         }
     }
     let record = bytes.get(at..).unwrap_or(&[]);
-    let kind = record.get(2..4).map(|k| u16::from_le_bytes([k[0], k[1]]) as usize);
+    let kind = two(record, 2);
     let fault = match refusal.number {
         3 => length(record).err(),
         4 => kind.map(|k| format!("its kind is {k}")),
@@ -33,10 +33,9 @@ pub fn network(bytes: &[u8], refusal: Refusal) -> String {
 /// A refused batch, with the network's names.
 pub fn batch(net: &Network, bytes: &[u8], refusal: Refusal) -> String {
     if refusal.number == 14 {
-        let name = net.nodes.get(refusal.place as usize).map(|n| &n.name);
+        let name = net.nodes.get(refusal.place as usize).map_or("?", |n| &n.name);
         let place = format!("at node {}", refusal.place);
-        let named = format!("{place} ({})", name.map_or("", |n| n));
-        return refusal.to_string().replacen(&place, &named, 1);
+        return refusal.to_string().replacen(&place, &format!("{place} ({name})"), 1);
     }
     let at = refusal.place as usize;
     let event = offsets(bytes).position(|k| k == at).map(|k| k + 1);
@@ -49,10 +48,7 @@ pub fn batch(net: &Network, bytes: &[u8], refusal: Refusal) -> String {
 
 /// What is wrong with an event's record.
 fn fault(net: &Network, record: &[u8], refusal: Refusal) -> Option<String> {
-    let field = |k: usize| {
-        let two = record.get(2 * k..2 * k + 2)?;
-        Some(u16::from_le_bytes([two[0], two[1]]) as usize)
-    };
+    let field = |k: usize| two(record, 2 * k);
     match refusal.number {
         10 => length(record).err(),
         11 => Some(format!("its kind is {}", field(1)?)),
