@@ -1,0 +1,170 @@
+//! Pictures: every node and edge, edges between boxes, and the stored ones made anew.
+mod common;
+
+use bagwezin_tools::draw::{self, Held};
+use bagwezin_tools::station::Station;
+use bagwezin_tools::{batches, Network};
+use common::{Random, N};
+
+fn text(path: &str) -> String {
+    std::fs::read_to_string(common::root().join("examples").join(path)).unwrap()
+}
+
+fn drawn(folder: &str) -> String {
+    let net = Network::assemble(&text(&format!("{folder}/network.txt"))).unwrap();
+    draw::svg(&net, None)
+}
+
+/// The number that follows a mark in a text.
+fn number(text: &str, mark: &str) -> f64 {
+    let rest = &text[text.find(mark).unwrap() + mark.len()..];
+    let end = rest.find(|c: char| !c.is_ascii_digit() && c != '.').unwrap();
+    rest[..end].parse().unwrap()
+}
+
+#[test]
+fn the_stored_pictures_are_made_anew() {
+    for folder in ["orchard", "pictures/32-nodes", "pictures/self-join"] {
+        let stored = text(&format!("{folder}/network.svg"));
+        assert!(drawn(folder) == stored, "examples/{folder}/network.svg is not what draw makes");
+        assert!(number(&stored, "width=\"") <= 900.0);
+    }
+    let net = Network::assemble(&text("orchard/network.txt")).unwrap();
+    let file = batches::assemble(&net, &text("orchard/batches.txt")).unwrap();
+    let mut station = Station::open(&net).unwrap();
+    station.play(&file.bytes, Some(5)).unwrap();
+    let picture = draw::svg(&net, Some(&draw::state(&station)));
+    assert!(picture == text("orchard/after-batch-5.svg"));
+    assert!(picture.contains(">1 row, 1 gained<") && picture.contains(">0 rows, 1 lost<"));
+    assert!(!picture.contains(">1 rows"));
+}
+
+#[test]
+fn every_node_edge_and_watch_is_drawn() {
+    let picture = draw::svg(&Network::assemble(N).unwrap(), None);
+    assert_eq!(picture.matches("class=\"node\"").count(), 5);
+    assert_eq!(picture.matches("class=\"edge\"").count(), 4);
+    assert_eq!(picture.matches("class=\"arrow\"").count(), 4);
+    assert_eq!(picture.matches(">level ").count(), 4);
+    let texts = [">watched: gained and lost<", "count\u{a0}&gt;=\u{a0}8", ">block, count<"];
+    assert!(texts.iter().all(|t| picture.contains(t)));
+    let twice = drawn("pictures/self-join");
+    assert_eq!(twice.matches("<title>twice to pairs</title>").count(), 2);
+}
+
+type Frame = (f64, f64, f64, f64);
+
+fn frames(picture: &str) -> Vec<Frame> {
+    let lines = picture.lines().filter(|l| l.contains("class=\"node\""));
+    lines
+        .map(|l| {
+            let (x, y) = (number(l, " x=\""), number(l, " y=\""));
+            (x, y, x + number(l, " width=\""), y + number(l, " height=\""))
+        })
+        .collect()
+}
+
+/// The points of an edge's line, with some on each of its curves.
+fn points(line: &str) -> Vec<(f64, f64)> {
+    let d = line.split("d=\"").nth(1).unwrap().split('"').next().unwrap();
+    let spaced = d.replace('M', " M ").replace('C', " C ").replace('V', " V ");
+    let words: Vec<&str> = spaced.split_whitespace().collect();
+    let at = |k: usize| words[k].parse::<f64>().unwrap();
+    let (mut out, mut k) = (Vec::<(f64, f64)>::new(), 0);
+    while k < words.len() {
+        let from = out.last().copied().unwrap_or_default();
+        match words[k] {
+            "M" => {
+                out.push((at(k + 1), at(k + 2)));
+                k += 3;
+            }
+            "V" => {
+                let steps = 1..=20;
+                out.extend(steps.map(|s| (from.0, from.1 + (at(k + 1) - from.1) * f64::from(s) / 20.0)));
+                k += 2;
+            }
+            _ => {
+                let p = [from, (at(k + 1), at(k + 2)), (at(k + 3), at(k + 4)), (at(k + 5), at(k + 6))];
+                out.extend((1..=40).map(|s| curve(p, f64::from(s) / 40.0)));
+                k += 7;
+            }
+        }
+    }
+    out
+}
+
+fn curve(p: [(f64, f64); 4], t: f64) -> (f64, f64) {
+    let u = 1.0 - t;
+    let w = [u * u * u, 3.0 * u * u * t, 3.0 * u * t * t, t * t * t];
+    let sum = |f: fn((f64, f64)) -> f64| (0..4).map(|k| w[k] * f(p[k])).sum::<f64>();
+    (sum(|p| p.0), sum(|p| p.1))
+}
+
+/// No edge runs behind a box, no two boxes overlap, and no picture is wider than 900.
+fn sound(picture: &str, what: &str) {
+    let boxes = frames(picture);
+    assert!(number(picture, "width=\"") <= 900.0, "{what}");
+    for (k, a) in boxes.iter().enumerate() {
+        for b in &boxes[..k] {
+            let beside = a.2 < b.0 || b.2 < a.0 || a.3 < b.1 || b.3 < a.1;
+            assert!(beside, "{what}: boxes overlap");
+        }
+    }
+    for line in picture.lines().filter(|l| l.contains("class=\"edge\"")) {
+        for (x, y) in points(line) {
+            let behind = |b: &Frame| x > b.0 + 1.0 && x < b.2 - 1.0 && y > b.1 + 1.0 && y < b.3 - 1.0;
+            assert!(!boxes.iter().any(behind), "{what}: an edge runs behind a box");
+        }
+    }
+}
+
+#[test]
+fn edges_run_between_boxes() {
+    for folder in ["orchard", "pictures/32-nodes", "pictures/self-join"] {
+        sound(&drawn(folder), folder);
+    }
+    for seed in 0..150 {
+        let mut r = Random::new(seed);
+        let made = common::network(&mut r);
+        let net = Network::from_bytes(&made.bytes).unwrap();
+        let picture = draw::svg(&net, None);
+        sound(&picture, &format!("seed {seed}"));
+        assert_eq!(picture, draw::svg(&net, None));
+        let mut station = Station::open(&net).unwrap();
+        station.play(&common::batches(&mut r, &made), None).unwrap();
+        sound(&draw::svg(&net, Some(&draw::state(&station))), &format!("seed {seed} with rows"));
+    }
+}
+
+#[test]
+fn rows_and_last_changes_of_areas() {
+    let net = Network::assemble(N).unwrap();
+    let mut words = vec![0u32; 3 * 8192 + 162];
+    let head = 3 * 8192;
+    (words[head + 1], words[head + 65], words[head + 97]) = (2, 1, 1);
+    words[..6].copy_from_slice(&[5, 9, 0, 0, 5, 12]);
+    words[8192..8194].copy_from_slice(&[5, 12]);
+    words[2 * 8192..2 * 8192 + 2].copy_from_slice(&[6, 1]);
+    let bytes = |words: &[u32]| -> Vec<u8> { words.iter().flat_map(|w| w.to_le_bytes()).collect() };
+    let held = draw::held(&net, &bytes(&words)).unwrap();
+    let rows = vec![vec![5, 9], vec![5, 12]];
+    let (gained, lost) = (vec![vec![5, 12]], vec![vec![6, 1]]);
+    assert_eq!(held[0], Held { rows, gained, lost });
+    assert_eq!(held[4], Held::default());
+    let picture = draw::svg(&net, Some(&held));
+    let texts = [">2 rows, 1 gained, 1 lost<", ">+ 5 12<", ">\u{2212} 6 1<", ">\u{a0} 5 9<"];
+    assert!(texts.iter().all(|t| picture.contains(t)));
+    let short = draw::held(&net, &bytes(&words)[4..]).unwrap_err();
+    assert!(short.starts_with("areas have 98952 bytes"));
+    words[head + 1] = 65;
+    assert!(draw::held(&net, &bytes(&words)).unwrap_err().contains("above 64"));
+}
+
+#[test]
+fn the_graph_for_graphviz() {
+    let graph = draw::dot(&Network::assemble(N).unwrap(), None);
+    assert!(graph.starts_with("digraph network {\n") && graph.ends_with("}\n"));
+    assert_eq!(graph.matches(" -> ").count(), 4);
+    assert_eq!(graph.matches("rank=same").count(), 4);
+    assert!(graph.contains("n2 -> n4 ") && graph.contains("label=\"4 advice\\lblock\\l"));
+}

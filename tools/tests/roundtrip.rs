@@ -1,0 +1,235 @@
+//! Bytes to text to bytes gives the same bytes, for whatever the library accepts; what it refuses has no text.
+mod common;
+
+use std::ops::Range;
+
+use bagwezin_tools::batches::Rest;
+use bagwezin_tools::{batches, network, Network};
+use common::Random;
+
+/// Bytes to text to bytes; the refusal's number and place where the library refuses.
+fn around(bytes: &[u8]) -> Result<Network, (u32, u32)> {
+    let net = match Network::from_bytes(bytes) {
+        Ok(net) => net,
+        Err((refusal, text)) => {
+            let start = format!("refused {}", refusal.number);
+            assert!(text.starts_with(&start), "{text}: {bytes:?}");
+            return Err((refusal.number, refusal.place));
+        }
+    };
+    assert_eq!(net.bytes(), bytes);
+    let text = net.text();
+    let again = Network::assemble(&text).unwrap_or_else(|e| panic!("{e}\n{text}"));
+    assert_eq!(again.bytes(), bytes, "{text}");
+    assert_eq!(again, net, "{text}");
+    Ok(net)
+}
+
+fn batches_around(net: &Network, file: &[u8]) -> Result<(), String> {
+    let text = batches::text(net, file)?;
+    let again = batches::assemble(net, &text).unwrap_or_else(|e| panic!("{e}\n{text}"));
+    assert_eq!(again.bytes, file, "{text}");
+    Ok(())
+}
+
+#[test]
+fn random_networks_and_batches() {
+    for seed in 0..20_000 {
+        let mut r = Random::new(seed);
+        let made = common::network(&mut r);
+        let net = around(&made.bytes).unwrap_or_else(|e| panic!("seed {seed}: refused {e:?}"));
+        let file = common::batches(&mut r, &made);
+        batches_around(&net, &file).unwrap_or_else(|e| panic!("seed {seed}: {e}"));
+    }
+}
+
+#[test]
+fn damaged_networks_are_refused_by_the_library_or_come_back() {
+    let (mut accepted, mut refused) = (0, [0; 8]);
+    for seed in 0..20_000 {
+        let mut r = Random::new(seed + 1_000_000);
+        let mut bytes = common::network(&mut r).bytes;
+        for _ in 0..1 + r.below(2) {
+            let at = r.below(bytes.len());
+            match r.below(5) {
+                0 => bytes.truncate(at + 1),
+                1 => bytes[at] = r.below(256) as u8,
+                _ => bytes[at] = r.below(14) as u8,
+            }
+        }
+        let verdict = network::judged(&bytes).map_err(|e| (e.number, e.place));
+        assert_eq!(around(&bytes).map(|_| ()), verdict);
+        match verdict {
+            Ok(()) => accepted += 1,
+            Err((number, _)) => refused[number as usize] += 1,
+        }
+    }
+    assert!(accepted > 1000 && refused[3..=7].iter().filter(|&&n| n > 0).count() >= 4);
+}
+
+/// The verdicts on a file's batches in turn, as the station tells them for 10 to 13.
+fn verdicts(net: &Network, file: &[u8]) -> Vec<String> {
+    let cut = batches::pieces(file);
+    let judged = |range: &Range<usize>| batches::judged(net, &file[range.clone()]);
+    let refused = cut.batches.iter().filter_map(|range| judged(range).err());
+    let mut out: Vec<String> = refused.map(|e| format!("refused {} {}", e.number, e.place)).collect();
+    if let Rest::Broken(_, place) = cut.rest {
+        out.push(format!("refused 10 {place}"));
+    }
+    out
+}
+
+#[test]
+fn damaged_files_of_batches_are_refused_by_the_library_or_come_back() {
+    let (mut accepted, mut refused) = (0, 0);
+    for seed in 0..5000 {
+        let mut r = Random::new(seed + 2_000_000);
+        let made = common::network(&mut r);
+        let net = Network::from_bytes(&made.bytes).unwrap();
+        let mut file = common::batches(&mut r, &made);
+        if !file.is_empty() {
+            let at = r.below(file.len());
+            match r.below(4) {
+                0 => file.truncate(at),
+                _ => file[at] = r.below(40) as u8,
+            }
+        }
+        match (batches_around(&net, &file), verdicts(&net, &file).first()) {
+            (Ok(()), None) => accepted += 1,
+            (Err(text), Some(verdict)) => {
+                let number = verdict.split(' ').nth(1).unwrap();
+                assert!(text.contains(&format!("refused {number} at byte")), "{text}, not {verdict}");
+                refused += 1;
+            }
+            // what stands after the last mark is no batch of the station's, and no text either
+            (Err(text), None) => assert!(text.starts_with("after the last mark"), "{text}"),
+            (Ok(()), Some(verdict)) => panic!("a text for a file with {verdict}"),
+        }
+    }
+    assert!(accepted > 500 && refused > 500, "{accepted} {refused}");
+}
+
+/// A text with some words or letters changed gives a network or a problem with a line of the text.
+#[test]
+fn damaged_texts_are_read_or_told() {
+    let words =
+        ["=", "where", "give", "as", "left.x", ".9", "@40", "@", ".", "4294967296", "-1", "both", "#", "é", "!"];
+    let texts = [common::N, include_str!("../../examples/orchard/network.txt")];
+    let events = include_str!("../../examples/orchard/batches.txt");
+    let orchard = Network::assemble(texts[1]).unwrap();
+    let mut read = 0;
+    for seed in 0..20_000 {
+        let mut r = Random::new(seed + 3_000_000);
+        let whole = [texts[0], texts[1], events][r.below(3)];
+        let mut pieces: Vec<&str> = whole.split_inclusive([' ', '\n']).collect();
+        for _ in 0..1 + r.below(3) {
+            let at = r.below(pieces.len());
+            match r.below(3) {
+                0 => drop(pieces.remove(at)),
+                1 => pieces.insert(at, words[r.below(words.len())]),
+                _ => pieces[at] = pieces[r.below(pieces.len())],
+            }
+        }
+        let text = pieces.concat();
+        let problem = match whole == events {
+            true => batches::assemble(&orchard, &text).err(),
+            false => Network::assemble(&text).map(|net| around(&net.bytes()).unwrap()).err(),
+        };
+        match problem {
+            None => read += 1,
+            Some(p) => assert!((1..=text.lines().count().max(1)).contains(&p.line), "{p}"),
+        }
+    }
+    assert!(read > 1000, "{read}");
+}
+
+#[test]
+fn named_networks_come_back_with_their_names() {
+    for folder in ["orchard", "pictures/32-nodes", "pictures/self-join"] {
+        let path = common::root().join("examples").join(folder).join("network.txt");
+        let net = Network::assemble(&std::fs::read_to_string(path).unwrap()).unwrap();
+        assert_eq!(Network::assemble(&net.text()).unwrap(), net);
+    }
+}
+
+#[test]
+fn the_outside_vectors() {
+    let (mut networks, mut legal, mut files) = (0, 0, 0);
+    for (name, network, file, stdout) in common::vectors() {
+        let whole = network.len() <= batches::FILE && file.len() <= batches::FILE;
+        let net = match around(&network) {
+            Ok(net) => net,
+            Err((number, place)) => {
+                assert!(!whole || stdout == format!("refused {number} {place}\n"), "{name}");
+                continue;
+            }
+        };
+        networks += 1;
+        for range in batches::pieces(&file).batches {
+            let marked = &file[range.start..range.end + 4];
+            match batches::judged(&net, &file[range]) {
+                Ok(()) => legal += usize::from(batches_around(&net, marked) == Ok(())),
+                Err(_) => assert!(batches::text(&net, marked).is_err(), "{name}"),
+            }
+        }
+        files += usize::from(batches_around(&net, &file).is_ok());
+        let told = stdout.lines().filter(|l| l.starts_with("refused 1"));
+        let told: Vec<&str> = told.filter(|l| !l.starts_with("refused 14")).collect();
+        assert!(!whole || verdicts(&net, &file) == told, "{name}");
+    }
+    assert!(networks > 100 && legal > 200 && files > 40, "{networks} {legal} {files}");
+}
+
+#[test]
+fn odd_but_legal_networks() {
+    let lines = [
+        "table n0 c0 c1",
+        "watch n0 lost",
+        "project n1 = n0 give c1 c1 as c1_2 c0 c1 as c1_3",
+        "select n2 = n1 where c1_2 = c1_2",
+        "select n3 = n0 where c0 != 4294967295",
+        "join n4 = n0 n0 on c0 = c1 and c0 = c1 give left.c0 right.c0 as c0_2",
+        "watch n4 both",
+        "join n5 = n4 n4 give left.c0_2 right.c0",
+        "intersect n6 = n5 n5",
+    ];
+    let text = lines.join("\n") + "\n";
+    let net = Network::assemble(&text).unwrap();
+    assert_eq!(Network::from_bytes(&net.bytes()).unwrap().text(), text);
+}
+
+#[test]
+fn names_and_positions_give_the_same_bytes() {
+    let named = "table a x y\ntable b x\nselect s = a where y >= 8\nselect t = a where x < y\nproject p = a give y x\njoin j = a b on x = x give left.y right.x\nwatch j both\n";
+    let placed = "table a x y\ntable b x\nselect s = @0 where .1>=8\nselect t=a where .0<.1\nproject p = @0 give .1 .0\njoin j = @0 @1 on .0=.0 give left.1 right.0\nwatch @5 both\n";
+    let (named, placed) = (Network::assemble(named).unwrap(), Network::assemble(placed).unwrap());
+    assert_eq!(named, placed);
+}
+
+#[test]
+fn the_papers_network_has_the_papers_bytes() {
+    let net = Network::assemble(common::N).unwrap();
+    let bytes: &[u8] = &[
+        6, 0, 1, 0, 2, 0, 14, 0, 2, 0, 0, 0, 1, 0, 5, 0, 8, 0, 0, 0, 10, 0, 4, 0, 1, 0, 1, 0, 0, 0, 6, 0, 1, 0, 1, 0,
+        8, 0, 7, 0, 2, 0, 3, 0, 8, 0, 9, 0, 4, 0, 3, 0,
+    ];
+    assert_eq!(net.bytes(), bytes);
+    let levels: Vec<usize> = net.nodes.iter().map(|n| n.level).collect();
+    assert_eq!(levels, [0, 1, 2, 0, 3]);
+    let events: &[u8] =
+        &[14, 0, 32, 0, 0, 0, 5, 0, 0, 0, 9, 0, 0, 0, 4, 0, 34, 0, 10, 0, 33, 0, 3, 0, 0, 0, 1, 0, 4, 0, 34, 0];
+    let text = "put catches 5 9\nend\nremove sprays 65536\nend\n";
+    assert_eq!(batches::assemble(&net, text).unwrap().bytes, events);
+    assert_eq!(batches::text(&net, events).unwrap(), text);
+}
+
+#[test]
+fn the_orchards_text_has_the_orchards_bytes() {
+    let folder = common::root().join("examples/orchard");
+    let text = |name: &str| std::fs::read_to_string(folder.join(name)).unwrap();
+    let bytes = |name: &str| std::fs::read(folder.join(name)).unwrap();
+    let net = Network::assemble(&text("network.txt")).unwrap();
+    assert_eq!(net.bytes(), bytes("network.bin"));
+    let file = batches::assemble(&net, &text("batches.txt")).unwrap();
+    assert_eq!(file.bytes, bytes("batch.bin"));
+}
