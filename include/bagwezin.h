@@ -1,30 +1,28 @@
 /* Bagwezin: the condition monitor of the trap stations.
  *
- * Link with libbagwezin.a (rt staticlib bagwezin). No function allocates, keeps anything between calls, or prints.
+ * Link with libbagwezin.a (rt staticlib bagwezin). The archive is for x86-64 with the calling convention of Linux (System V), uses no instructions
+ * beyond SSE2 and is position-independent. It needs memcpy and memset and nothing else: no other function, no start-up code, no heap.
  *
- * A slice is a pointer and a count of elements. Pointers must be non-null and aligned even where the count is 0, and the ranges
- * lent to one call must not overlap: C cannot check this, and the proofs rest on it.
+ * The functions keep no state: the archive has no variables, and all that a call knows is what it is lent. So calls on different areas may run on
+ * different threads at the same time, also with the same network's bytes; and so may checks and reports on the same areas, as long as none of the
+ * calls at that time writes what another one is lent.
  *
- * Each function returns one number of 64 bits. Its upper 32 bits are 0, or the number of the refusal. Its lower 32 bits are the place
- * of a refusal; else the value: the length of a report, 1 (coherent) or 0 of the check, and 0 of the others. A refusal writes nothing.
+ * SLICES. A slice is a pointer and a count of elements. A pointer to words is aligned to 4 bytes. A pointer whose count is 0 is never looked at and
+ * may be null; any other points to as many elements as its count says. A range that a call may write (a parameter without const) overlaps no other
+ * range lent to that call; ranges that it only reads may overlap. C cannot check any of this, and the proofs rest on it.
  *
- * Refusals, in checking order (the place is 0 where none is given):
- *    1  an area is shorter than stated
- *    2  the network has no bytes
- *    3  1 to 3 bytes remain in the network, or a length is below 4 or beyond the end; place: the record's offset, as for 4 to 7
- *    4  the record has a kind outside 1 to 9
- *    5  it would be the 33rd node
- *    6  its length is not its kind's, or a count is out of range or not inside the record
- *    7  another of its fields breaks a rule
- *    8  the areas are not of good form
- *    9  the batch number is 4294967295
- *   10  1 to 3 bytes remain in the batch, or a length is below 4 or beyond the end; place: the record's offset, as for 11 to 13
- *   11  the event's kind is neither 32 nor 33
- *   12  it is the 65th event
- *   13  it names no table, or its length does not fit the table's width
- *   14  after the batch a node has more than 64 rows; place: the lowest such node
- *   15  the node of a report does not exist or has no watch
- *   16  the report's buffer is shorter than the report
+ * ANSWERS. Each function returns one number of 64 bits. Its upper 32 bits are 0, or the number of the refusal. Its lower 32 bits are the place of a
+ * refusal; else the value: the length of a report, 1 (coherent) or 0 of the check, and 0 of the others. A refusal writes nothing.
+ *
+ * AREAS. The caller lends four areas of 32-bit words: rows, gained and lost of at least BAGWEZIN_AREA words, head of at least BAGWEZIN_HEAD. Longer
+ * ones will do; words past these are never read or written. Opening sets all named words to 0, whatever they were. Between calls the areas may be
+ * stored, moved and copied like any other bytes: apply, check and report look at their words afresh each time, and refuse words that are not of good
+ * form (8); bagwezin_check says whether stored words are coherent. In rows, gained and lost, field k of row j of node i is word 256 i + 4 j + k:
+ * bagwezin_word. Rows ascend in each place, and unused words are 0.
+ *
+ * RECORDS are little-endian: 2 bytes length of the whole record, 2 bytes kind, then the fields. An event has the table in 2 bytes, then the row, 4
+ * bytes a field. A report's record has the node in 2 bytes, then the row, 4 bytes a field: 6 + 4 x width bytes, at most 22. A report has the gained
+ * rows, then the lost ones, as the watch's sign allows, each ascending: at most 64 and 64 records, BAGWEZIN_REPORT bytes.
  */
 #ifndef BAGWEZIN_H
 #define BAGWEZIN_H
@@ -36,19 +34,94 @@
 extern "C" {
 #endif
 
-/* Named words of the areas. Words past these are never read or written. */
+/* Sizes. */
 enum {
-    BAGWEZIN_AREA = 8192,  /* rows, gained, lost */
-    BAGWEZIN_HEAD = 162,   /* head */
-    BAGWEZIN_ANSWER = 97   /* the reader's answer */
+    BAGWEZIN_NODES = 32,   /* the most nodes of a network */
+    BAGWEZIN_ROWS = 64,    /* the most rows of a node */
+    BAGWEZIN_FIELDS = 4,   /* the most fields of a row */
+    BAGWEZIN_EVENTS = 64,  /* the most events of a batch */
+    BAGWEZIN_AREA = 8192,  /* named words of rows, gained and lost */
+    BAGWEZIN_HEAD = 162,   /* named words of head */
+    BAGWEZIN_ANSWER = 97,  /* words of the reader's answer */
+    BAGWEZIN_REPORT = 2816 /* the most bytes of a report */
+};
+
+/* Words of the head. */
+enum {
+    BAGWEZIN_HEAD_NUMBER = 0,         /* the batch number */
+    BAGWEZIN_HEAD_ROWS = 1,           /* 32 row counts, by node */
+    BAGWEZIN_HEAD_STAMPS = 33,        /* 32 change stamps, by node: the number of the last batch that changed it */
+    BAGWEZIN_HEAD_GAINED = 65,        /* 32 counts of gained rows, by node */
+    BAGWEZIN_HEAD_LOST = 97,          /* 32 counts of lost rows, by node */
+    BAGWEZIN_HEAD_WORKED_COUNT = 129, /* how many nodes the last batch worked on */
+    BAGWEZIN_HEAD_WORKED = 130        /* their numbers, by level, then number */
+};
+
+/* Words of the reader's answer. */
+enum {
+    BAGWEZIN_ANSWER_COUNT = 0,   /* the node count */
+    BAGWEZIN_ANSWER_KINDS = 1,   /* 32 kinds, by node; 0 past the last, as for widths and levels */
+    BAGWEZIN_ANSWER_WIDTHS = 33, /* 32 widths */
+    BAGWEZIN_ANSWER_LEVELS = 65  /* 32 levels */
+};
+
+/* Kinds of records. */
+enum {
+    BAGWEZIN_TABLE = 1,         /* kinds of nodes: in networks, and in the reader's answer */
+    BAGWEZIN_SELECT = 2,        /* a column compared with a constant */
+    BAGWEZIN_SELECT_COLUMN = 3, /* a column compared with a column */
+    BAGWEZIN_PROJECT = 4,
+    BAGWEZIN_JOIN = 5,
+    BAGWEZIN_UNION = 6,
+    BAGWEZIN_WITHOUT = 7,
+    BAGWEZIN_INTERSECTION = 8,
+    BAGWEZIN_WATCH = 9,         /* in networks, no node */
+    BAGWEZIN_PUT = 32,          /* events */
+    BAGWEZIN_REMOVE = 33,
+    BAGWEZIN_MARK = 34,         /* ends a batch in a file of batches; part of no batch */
+    BAGWEZIN_GAINED = 64,       /* in reports */
+    BAGWEZIN_LOST = 65
+};
+
+/* Refusals, in checking order. The place is the record's offset in bytes for 3 to 7 and 10 to 13, the node for 14, else 0. */
+enum {
+    BAGWEZIN_SHORT_AREA = 1,      /* an area, or the reader's answer, is shorter than stated */
+    BAGWEZIN_NO_NETWORK = 2,      /* the network has no bytes */
+    BAGWEZIN_NETWORK_LENGTH = 3,  /* 1 to 3 bytes remain in the network, or a length is below 4 or beyond the end */
+    BAGWEZIN_NETWORK_KIND = 4,    /* the record has a kind outside 1 to 9 */
+    BAGWEZIN_NETWORK_NODES = 5,   /* it would be the 33rd node */
+    BAGWEZIN_NETWORK_SIZE = 6,    /* its length is not its kind's, or a count is out of range or not inside the record */
+    BAGWEZIN_NETWORK_FIELD = 7,   /* another of its fields breaks a rule */
+    BAGWEZIN_FORM = 8,            /* the areas are not of good form */
+    BAGWEZIN_LAST_NUMBER = 9,     /* the batch number is 4294967295 */
+    BAGWEZIN_EVENT_LENGTH = 10,   /* 1 to 3 bytes remain in the batch, or a length is below 4 or beyond the end */
+    BAGWEZIN_EVENT_KIND = 11,     /* the event's kind is neither 32 nor 33 */
+    BAGWEZIN_EVENT_COUNT = 12,    /* it is the 65th event */
+    BAGWEZIN_EVENT_TABLE = 13,    /* it names no table, or its length does not fit the table's width */
+    BAGWEZIN_OVER = 14,           /* after the batch a node has more than 64 rows; the place is the lowest such node */
+    BAGWEZIN_NO_WATCH = 15,       /* the node of a report does not exist or has no watch */
+    BAGWEZIN_SHORT_REPORT = 16    /* the report's buffer is shorter than the report */
+};
+
+/* The most bytes of stack that a call takes, for every input: below its caller's stack pointer, its return address included, and what memcpy and
+ * memset take below theirs not. By the machine code (tests/stack_bounds) and measured (tests/c); here rounded up to 1024. */
+enum {
+    BAGWEZIN_STACK_READ = 29 * 1024,
+    BAGWEZIN_STACK_OPEN = 24 * 1024,
+    BAGWEZIN_STACK_APPLY = 77 * 1024,
+    BAGWEZIN_STACK_CHECK = 42 * 1024,
+    BAGWEZIN_STACK_REPORT = 41 * 1024
 };
 
 /* The number of an answer (0: not refused), and its lower half. */
 static inline uint32_t bagwezin_number(uint64_t answer) { return (uint32_t)(answer >> 32); }
 static inline uint32_t bagwezin_value(uint64_t answer) { return (uint32_t)answer; }
 
-/* Reads a network: 2 to 7. Writes the node count, then 32 kinds, 32 widths and 32 levels, 0 past the last node. Fewer than 97 lent words
- * are refused by 1 before anything else. */
+/* The word of a field in rows, gained or lost. */
+static inline size_t bagwezin_word(uint32_t node, uint32_t row, uint32_t field) { return (size_t)256 * node + (size_t)4 * row + field; }
+
+/* Reads a network: 1 to 7. Writes the node count, then 32 kinds, 32 widths and 32 levels, 0 past the last node. Fewer than BAGWEZIN_ANSWER lent words
+ * are refused by 1 before anything else; words past these are never read or written. */
 uint64_t bagwezin_read(const uint8_t *net, size_t net_len, uint32_t *answer, size_t answer_len);
 
 /* Opens the areas for a network: 1 to 7. Sets every named word to 0. */
@@ -56,7 +129,7 @@ uint64_t bagwezin_open(const uint8_t *net, size_t net_len,
                        uint32_t *rows, size_t rows_len, uint32_t *gained, size_t gained_len,
                        uint32_t *lost, size_t lost_len, uint32_t *head, size_t head_len);
 
-/* Applies a batch: 1 to 14. */
+/* Applies a batch: 1 to 14. No bytes are the empty batch. */
 uint64_t bagwezin_apply(const uint8_t *net, size_t net_len, const uint8_t *batch, size_t batch_len,
                         uint32_t *rows, size_t rows_len, uint32_t *gained, size_t gained_len,
                         uint32_t *lost, size_t lost_len, uint32_t *head, size_t head_len);

@@ -1,16 +1,56 @@
-//! Finds the static library of the proved monitor, and has it built if it is not there.
-use std::path::PathBuf;
-use std::process::Command;
+//! Has `rt` prove the monitor and write its static library, and links a copy of it.
+//!
+//! cargo runs this again when a file of the proved crates changes; `rt` itself proves only what changed. The copy stands in cargo's own folder, so
+//! that nothing that is done to target/ afterwards can change what is linked.
+use std::path::{Path, PathBuf};
+use std::process::{exit, Command};
+
+/// Ends the build with a message.
+fn fail(message: &str) -> ! {
+    println!("cargo::error={message}");
+    exit(1)
+}
+
+/// The file `rt` on the PATH.
+fn find_rt() -> Option<PathBuf> {
+    let path = std::env::var_os("PATH")?;
+    std::env::split_paths(&path).map(|folder| folder.join("rt")).find(|file| file.is_file())
+}
+
+/// Runs `rt staticlib bagwezin` at the root; its words are shown where it fails.
+fn staticlib(rt: &Path, root: &Path) {
+    let ran = Command::new(rt).args(["staticlib", "bagwezin"]).current_dir(root).output();
+    let ran = ran.unwrap_or_else(|e| fail(&format!("{} cannot be run: {e}", rt.display())));
+    if !ran.status.success() {
+        eprintln!("{}{}", String::from_utf8_lossy(&ran.stdout), String::from_utf8_lossy(&ran.stderr));
+        fail(&format!(
+            "`rt staticlib bagwezin` failed in {} ({}): the static library is not proved or not built",
+            root.display(),
+            ran.status
+        ));
+    }
+}
 
 fn main() {
-    let root = PathBuf::from(std::env::var("CARGO_MANIFEST_DIR").unwrap()).join("../..");
-    let folder = root.join("target/staticlib");
-    let library = folder.join("libbagwezin.a");
-    if !library.exists() {
-        let built = Command::new("rt").args(["staticlib", "bagwezin"]).current_dir(&root).status();
-        assert!(built.map(|s| s.success()).unwrap_or(false), "`rt staticlib bagwezin` failed");
+    let var = |name: &str| std::env::var(name).unwrap_or_else(|_| fail(&format!("cargo gives no {name}")));
+    let root = Path::new(&var("CARGO_MANIFEST_DIR")).join("../..");
+    for name in ["crates", "crates.txt"] {
+        println!("cargo::rerun-if-changed={}", root.join(name).display());
     }
-    println!("cargo:rerun-if-changed={}", library.display());
-    println!("cargo:rustc-link-search=native={}", folder.display());
-    println!("cargo:rustc-link-lib=static=bagwezin");
+    println!("cargo::rerun-if-env-changed=RATTLE_HOME");
+    if var("CARGO_CFG_TARGET_ARCH") != "x86_64" || var("CARGO_CFG_TARGET_OS") != "linux" {
+        fail(&format!("the static library is for x86-64 Linux, not for {}", var("TARGET")));
+    }
+    let Some(rt) = find_rt() else {
+        fail("the Rattle toolchain is missing: no `rt` on the PATH. It proves the monitor and builds the static library that this crate links");
+    };
+    println!("cargo::rerun-if-changed={}", rt.display());
+    staticlib(&rt, &root);
+    let out = PathBuf::from(var("OUT_DIR"));
+    let library = root.join("target/staticlib/libbagwezin.a");
+    if let Err(e) = std::fs::copy(&library, out.join("libbagwezin.a")) {
+        fail(&format!("{}: {e}", library.display()));
+    }
+    println!("cargo::rustc-link-search=native={}", out.display());
+    println!("cargo::rustc-link-lib=static=bagwezin");
 }

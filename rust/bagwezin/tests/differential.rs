@@ -3,8 +3,10 @@
 //! `BAGWEZIN_SECONDS=60 cargo test --release -- --nocapture` runs for that long; `BAGWEZIN_SEED=7` starts from that seed.
 use std::time::{Duration, Instant};
 
-use bagwezin::model::{Areas, Network, Station, Verdict};
 use bagwezin::{outcome, raw, ANSWER, AREA, HEAD};
+use model::{Areas, Network, Station, Verdict};
+
+mod model;
 
 struct Random(u64);
 
@@ -153,7 +155,12 @@ impl Lent {
         for (area, n) in [(&a.rows, AREA), (&a.gained, AREA), (&a.lost, AREA), (&a.head, HEAD)] {
             assert_eq!(area[n..], [PAST; 3], "a word past the named ones changed");
         }
-        Areas { rows: a.rows[..AREA].to_vec(), gained: a.gained[..AREA].to_vec(), lost: a.lost[..AREA].to_vec(), head: a.head[..HEAD].to_vec() }
+        Areas {
+            rows: a.rows[..AREA].to_vec(),
+            gained: a.gained[..AREA].to_vec(),
+            lost: a.lost[..AREA].to_vec(),
+            head: a.head[..HEAD].to_vec(),
+        }
     }
 }
 
@@ -165,7 +172,8 @@ fn check(bytes: &[u8], a: &Areas) -> u64 {
 fn reads(bytes: &[u8]) -> Option<Network> {
     let mut answer = [7; ANSWER];
     let given = verdict(raw::read(bytes, &mut answer));
-    let mut lent = Lent::new(&Areas { rows: vec![5; AREA], gained: vec![5; AREA], lost: vec![5; AREA], head: vec![5; HEAD] });
+    let mut lent =
+        Lent::new(&Areas { rows: vec![5; AREA], gained: vec![5; AREA], lost: vec![5; AREA], head: vec![5; HEAD] });
     let before = lent.named();
     let opened = verdict(raw::open(bytes, &mut lent.raw()));
     match Network::read(bytes) {
@@ -180,7 +188,8 @@ fn reads(bytes: &[u8]) -> Option<Network> {
             let mut words = [0; ANSWER];
             words[0] = net.nodes.len() as u32;
             for i in 0..net.nodes.len() {
-                (words[1 + i], words[33 + i], words[65 + i]) = (net.nodes[i].kind(), net.widths[i] as u32, net.levels[i] as u32);
+                (words[1 + i], words[33 + i], words[65 + i]) =
+                    (net.nodes[i].kind(), net.widths[i] as u32, net.levels[i] as u32);
             }
             assert_eq!(answer, words);
             assert!(lent.named() == Areas::zero());
@@ -353,7 +362,12 @@ fn nothing_past_the_lent_memory_is_touched() {
         let Ok(net) = Network::read(&bytes) else { continue };
         let lent = guarded::bytes(bytes.len());
         lent.copy_from_slice(&bytes);
-        let mut a = raw::Areas { rows: guarded::words(AREA), gained: guarded::words(AREA), lost: guarded::words(AREA), head: guarded::words(HEAD) };
+        let mut a = raw::Areas {
+            rows: guarded::words(AREA),
+            gained: guarded::words(AREA),
+            lost: guarded::words(AREA),
+            head: guarded::words(HEAD),
+        };
         let answer = guarded::words(ANSWER);
         assert_eq!(verdict(raw::read(lent, answer)), (0, 0));
         assert_eq!(verdict(raw::open(lent, &mut a)), (0, 0));
@@ -363,45 +377,24 @@ fn nothing_past_the_lent_memory_is_touched() {
             let last = guarded::bytes(events.len());
             last.copy_from_slice(&events);
             assert_eq!(verdict(raw::apply(lent, last, &mut a)), station.apply(&events));
-            let named = Areas { rows: a.rows.to_vec(), gained: a.gained.to_vec(), lost: a.lost.to_vec(), head: a.head.to_vec() };
+            let named = Areas {
+                rows: a.rows.to_vec(),
+                gained: a.gained.to_vec(),
+                lost: a.lost.to_vec(),
+                head: a.head.to_vec(),
+            };
             assert!(named == station.areas());
             assert_eq!(outcome(raw::check(lent, a.rows, a.gained, a.lost, a.head)), Ok(1));
             for node in 0..net.nodes.len() {
                 if let Ok(text) = named.report(&net, node, bagwezin::REPORT) {
                     let out = guarded::bytes(text.len());
-                    assert_eq!(outcome(raw::report(lent, node as u32, a.rows, a.gained, a.lost, a.head, out)), Ok(text.len() as u32));
+                    assert_eq!(
+                        outcome(raw::report(lent, node as u32, a.rows, a.gained, a.lost, a.head, out)),
+                        Ok(text.len() as u32)
+                    );
                     assert_eq!(out, &text[..]);
                 }
             }
         }
     }
-}
-
-#[test]
-fn the_wrapper_shows_what_the_paper_shows() {
-    let mut net = record(1, &[2]);
-    net.extend(record(2, &[0, 1, 5, 8, 0]));
-    net.extend(record(4, &[1, 1, 0]));
-    net.extend(record(1, &[1]));
-    net.extend(record(7, &[2, 3]));
-    net.extend(record(9, &[4, 3]));
-    let mut monitor = bagwezin::Monitor::open(&net).unwrap();
-    let put = |node: usize, row: &[u32]| {
-        let mut e = vec![6 + 4 * row.len() as u8, 0, 32, 0, node as u8, 0];
-        row.iter().for_each(|x| e.extend(x.to_le_bytes()));
-        e
-    };
-    let mut first = put(0, &[5, 9]);
-    first.extend(put(0, &[5, 12]));
-    assert_eq!(monitor.apply(&first), Ok(1));
-    assert_eq!(monitor.gained(4).collect::<Vec<_>>(), [[5]]);
-    assert_eq!(monitor.rows(0).collect::<Vec<_>>(), [[5, 9], [5, 12]]);
-    assert_eq!(monitor.worked(), [1, 2, 4]);
-    assert_eq!(monitor.apply(&put(3, &[5])), Ok(2));
-    assert_eq!((monitor.gained(4).count(), monitor.lost(4).collect::<Vec<_>>()), (0, vec![&[5][..]]));
-    assert_eq!(monitor.report(4).unwrap(), [10, 0, 65, 0, 4, 0, 5, 0, 0, 0]);
-    assert_eq!(monitor.check(), Ok(true));
-    assert_eq!(monitor.report(1).unwrap_err().to_string(), "refused 15: the node does not exist or has no watch");
-    assert_eq!(monitor.apply(&[1, 2]).unwrap_err().to_string(), "refused 10 at byte 0: an event record's length is broken");
-    assert_eq!(bagwezin::Monitor::open(&[6, 0, 1, 0, 5, 0]).err().unwrap().number, 7);
 }

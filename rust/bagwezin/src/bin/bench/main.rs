@@ -5,10 +5,13 @@
 use std::hint::black_box;
 use std::time::Instant;
 
-use bagwezin::model::{Network, Station};
-use bagwezin::{batches, outcome, raw, AREA, HEAD};
+use bagwezin::{cut, outcome, raw, End, AREA, HEAD};
+use model::{Network, Station};
 use workloads::Workload;
 
+#[allow(dead_code)]
+#[path = "../../../tests/model/mod.rs"]
+mod model;
 mod workloads;
 
 /// How often a workload is run; medians are told.
@@ -23,8 +26,14 @@ fn median(mut times: Vec<f64>) -> f64 {
 fn folder(path: &str) -> Workload {
     let read = |name: &str| std::fs::read(format!("{path}/{name}")).unwrap_or_else(|e| panic!("{path}/{name}: {e}"));
     let file = read("batch.bin");
-    let batches = batches(&file).into_iter().map(<[u8]>::to_vec).collect();
-    Workload { name: path.trim_end_matches('/').rsplit('/').next().unwrap_or(path).to_string(), network: read("network.bin"), batches }
+    let (batches, end) = cut(&file);
+    assert_eq!(end, End::Whole, "{path}/batch.bin");
+    let batches = batches.into_iter().map(<[u8]>::to_vec).collect();
+    Workload {
+        name: path.trim_end_matches('/').rsplit('/').next().unwrap_or(path).to_string(),
+        network: read("network.bin"),
+        batches,
+    }
 }
 
 /// Microseconds for each of so many runs.
@@ -64,11 +73,23 @@ fn once(w: &Workload, network: &Network) -> [f64; 3] {
 fn main() {
     let folders: Vec<String> = std::env::args().skip(1).collect();
     let list = if folders.is_empty() { workloads::all() } else { folders.iter().map(|path| folder(path)).collect() };
-    println!("{:12} {:>8} {:>12} {:>12} {:>12} {:>14} {:>14}", "workload", "batches", "library us", "model us", "scan us", "library/scan", "model/library");
+    println!(
+        "{:12} {:>8} {:>12} {:>12} {:>12} {:>14} {:>14}",
+        "workload", "batches", "library us", "model us", "scan us", "library/scan", "model/library"
+    );
     for w in list {
         let network = Network::read(&w.network).expect("the network is accepted");
         let runs: Vec<[f64; 3]> = (0..REPEATS).map(|_| once(&w, &network)).collect();
         let [l, m, s] = [0, 1, 2].map(|k| median(runs.iter().map(|r| r[k]).collect()));
-        println!("{:12} {:>8} {:>12.2} {:>12.2} {:>12.2} {:>14.1} {:>14.1}", w.name, w.batches.len(), l, m, s, l / s, m / l);
+        println!(
+            "{:12} {:>8} {:>12.2} {:>12.2} {:>12.2} {:>14.1} {:>14.1}",
+            w.name,
+            w.batches.len(),
+            l,
+            m,
+            s,
+            l / s,
+            m / l
+        );
     }
 }

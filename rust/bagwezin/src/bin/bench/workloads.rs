@@ -1,5 +1,5 @@
 //! The five workloads, made here: a network and batches that a plain station accepts, the same for every run.
-use bagwezin::model::{Network, Station};
+use crate::model::{Network, Station};
 
 /// A workload: a name, a network's bytes and its batches.
 pub struct Workload {
@@ -35,7 +35,15 @@ fn event(put: bool, table: u16, row: &[u32]) -> Vec<u8> {
 
 /// The order's network N.
 fn network_n() -> Vec<u8> {
-    [record(1, &[2]), record(2, &[0, 1, 5, 8, 0]), record(4, &[1, 1, 0]), record(1, &[1]), record(7, &[2, 3]), record(9, &[4, 3])].concat()
+    [
+        record(1, &[2]),
+        record(2, &[0, 1, 5, 8, 0]),
+        record(4, &[1, 1, 0]),
+        record(1, &[1]),
+        record(7, &[2, 3]),
+        record(9, &[4, 3]),
+    ]
+    .concat()
 }
 
 /// An orchard of 24 nodes. Tables: catches (block, trap, week, count), lures (trap, species), blocks (block, owner), sprays (block, week) and
@@ -43,25 +51,25 @@ fn network_n() -> Vec<u8> {
 fn orchard() -> Vec<u8> {
     let tables = [[4], [2], [2], [2], [3]].map(|width| record(1, &width)).concat();
     let nodes = [
-        record(2, &[0, 3, 5, 8, 0]),                // 5 catches of 8 or more
-        record(4, &[5, 2, 0, 2]),                   // 6 their blocks and weeks
-        record(2, &[1, 1, 1, 2, 0]),                // 7 lures for another species than 2
-        record(5, &[5, 7, 1, 1, 0, 4, 0, 2, 3, 5]), // 8 block, week, count, species
-        record(5, &[8, 2, 1, 0, 0, 4, 5, 0, 1, 3]), // 9 owner, block, week, species
+        record(2, &[0, 3, 5, 8, 0]),                      // 5 catches of 8 or more
+        record(4, &[5, 2, 0, 2]),                         // 6 their blocks and weeks
+        record(2, &[1, 1, 1, 2, 0]),                      // 7 lures for another species than 2
+        record(5, &[5, 7, 1, 1, 0, 4, 0, 2, 3, 5]),       // 8 block, week, count, species
+        record(5, &[8, 2, 1, 0, 0, 4, 5, 0, 1, 3]),       // 9 owner, block, week, species
         record(5, &[8, 4, 2, 3, 0, 1, 1, 4, 0, 1, 2, 6]), // 10 block, week, count, limit
-        record(3, &[10, 2, 5, 3]),                  // 11 at or above the limit
-        record(4, &[11, 2, 0, 1]),                  // 12 their blocks and weeks
-        record(5, &[5, 5, 2, 0, 0, 2, 2, 3, 0, 1, 5]), // 13 pairs of traps in one block and week
-        record(3, &[13, 1, 4, 2]),                  // 14 the first trap above the second
-        record(4, &[14, 1, 0]),                     // 15 blocks with two heavy traps
-        record(8, &[6, 3]),                         // 16 heavy and sprayed
-        record(7, &[6, 3]),                         // 17 heavy and not sprayed
-        record(4, &[17, 1, 0]),                     // 18 their blocks
-        record(6, &[15, 18]),                       // 19 either
-        record(4, &[12, 1, 0]),                     // 20 blocks at their limit
-        record(7, &[19, 20]),                       // 21 either, below the limit
-        record(8, &[19, 20]),                       // 22 either, at the limit
-        record(5, &[22, 2, 1, 0, 0, 2, 0, 2]),      // 23 and whom to tell
+        record(3, &[10, 2, 5, 3]),                        // 11 at or above the limit
+        record(4, &[11, 2, 0, 1]),                        // 12 their blocks and weeks
+        record(5, &[5, 5, 2, 0, 0, 2, 2, 3, 0, 1, 5]),    // 13 pairs of traps in one block and week
+        record(3, &[13, 1, 4, 2]),                        // 14 the first trap above the second
+        record(4, &[14, 1, 0]),                           // 15 blocks with two heavy traps
+        record(8, &[6, 3]),                               // 16 heavy and sprayed
+        record(7, &[6, 3]),                               // 17 heavy and not sprayed
+        record(4, &[17, 1, 0]),                           // 18 their blocks
+        record(6, &[15, 18]),                             // 19 either
+        record(4, &[12, 1, 0]),                           // 20 blocks at their limit
+        record(7, &[19, 20]),                             // 21 either, below the limit
+        record(8, &[19, 20]),                             // 22 either, at the limit
+        record(5, &[22, 2, 1, 0, 0, 2, 0, 2]),            // 23 and whom to tell
     ];
     let watches = [[12, 3], [16, 2], [17, 3], [21, 3], [22, 1], [23, 3]].map(|w| record(9, &w)).concat();
     [tables, nodes.concat(), watches].concat()
@@ -98,7 +106,14 @@ fn orchard_row(table: usize, r: &mut Random) -> Vec<u32> {
 }
 
 /// Batches of so many events that keep each table between two sizes once it is filled; those that the plain station refuses are left out.
-fn batches(network: &[u8], count: usize, events: usize, sizes: (usize, usize), tables: &[usize], row: impl Fn(usize, &mut Random) -> Vec<u32>) -> Vec<Vec<u8>> {
+fn batches(
+    network: &[u8],
+    count: usize,
+    events: usize,
+    sizes: (usize, usize),
+    tables: &[usize],
+    row: impl Fn(usize, &mut Random) -> Vec<u32>,
+) -> Vec<Vec<u8>> {
     let net = Network::read(network).expect("the network is accepted");
     let (mut r, mut station, mut out) = (Random(0x9e3779b97f4a7c15), Station::open(&net), Vec::new());
     let mut held: Vec<Vec<Vec<u32>>> = vec![Vec::new(); tables.len()];
@@ -130,14 +145,34 @@ fn batches(network: &[u8], count: usize, events: usize, sizes: (usize, usize), t
 
 /// All five.
 pub fn all() -> Vec<Workload> {
-    let make = |name: &str, network: Vec<u8>, batches: Vec<Vec<u8>>| Workload { name: name.to_string(), network, batches };
+    let make =
+        |name: &str, network: Vec<u8>, batches: Vec<Vec<u8>>| Workload { name: name.to_string(), network, batches };
     let n = network_n();
     let orchard = orchard();
     let joins = joins();
-    let mut out = vec![make("w1", n.clone(), batches(&n, 2400, 1, (4, 40), &[0, 3], |t, r| if t == 0 { vec![r.below(16), r.below(16)] } else { vec![r.below(16)] }))];
+    let mut out =
+        vec![make(
+            "w1",
+            n.clone(),
+            batches(&n, 2400, 1, (4, 40), &[0, 3], |t, r| {
+                if t == 0 {
+                    vec![r.below(16), r.below(16)]
+                } else {
+                    vec![r.below(16)]
+                }
+            }),
+        )];
     for events in [1, 8, 64] {
-        out.push(make(&format!("w2-{events}"), orchard.clone(), batches(&orchard, 2000, events, (32, 60), &[0, 1, 2, 3, 4], orchard_row)));
+        out.push(make(
+            &format!("w2-{events}"),
+            orchard.clone(),
+            batches(&orchard, 2000, events, (32, 60), &[0, 1, 2, 3, 4], orchard_row),
+        ));
     }
-    out.push(make("w3", joins.clone(), batches(&joins, 2000, 1, (60, 64), &[0, 1], |_, r| vec![r.below(24), r.below(8), r.below(8), r.below(8)])));
+    out.push(make(
+        "w3",
+        joins.clone(),
+        batches(&joins, 2000, 1, (60, 64), &[0, 1], |_, r| vec![r.below(24), r.below(8), r.below(8), r.below(8)]),
+    ));
     out
 }

@@ -1,7 +1,7 @@
 //! The plain station, written from the order's sentences: sets of rows, everything evaluated afresh.
 use std::collections::BTreeSet;
 
-use crate::{AREA, HEAD};
+use bagwezin::{AREA, HEAD};
 
 pub type Row = Vec<u32>;
 pub type Relation = BTreeSet<Row>;
@@ -47,7 +47,9 @@ impl Node {
     pub fn inputs(&self) -> Vec<usize> {
         match self {
             Node::Table(_) => vec![],
-            Node::SelectConstant { input, .. } | Node::SelectColumn { input, .. } | Node::Project { input, .. } => vec![*input],
+            Node::SelectConstant { input, .. } | Node::SelectColumn { input, .. } | Node::Project { input, .. } => {
+                vec![*input]
+            }
             Node::Join { left, right, .. } | Node::Set { left, right, .. } => vec![*left, *right],
         }
     }
@@ -154,7 +156,11 @@ impl Network {
                     let (left, right, p) = (field(0), field(1), field(2));
                     let pairs: Vec<(usize, usize)> = (0..p).map(|k| (field(3 + 2 * k), field(4 + 2 * k))).collect();
                     let columns: Vec<usize> = (0..field(3 + 2 * p)).map(|k| field(4 + 2 * p + k)).collect();
-                    if left >= n || right >= n || pairs.iter().any(|&(l, r)| l >= width(left) || r >= width(right)) || columns.iter().any(|&c| c >= width(left) + width(right)) {
+                    if left >= n
+                        || right >= n
+                        || pairs.iter().any(|&(l, r)| l >= width(left) || r >= width(right))
+                        || columns.iter().any(|&c| c >= width(left) + width(right))
+                    {
                         return refuse(7);
                     }
                     let w = columns.len();
@@ -185,14 +191,22 @@ impl Network {
         for (i, node) in self.nodes.iter().enumerate() {
             let rows = match node {
                 Node::Table(_) => tables[i].clone(),
-                Node::SelectConstant { input, column, code, constant } => rels[*input].iter().filter(|r| holds(*code, r[*column], *constant)).cloned().collect(),
-                Node::SelectColumn { input, column, code, other } => rels[*input].iter().filter(|r| holds(*code, r[*column], r[*other])).cloned().collect(),
-                Node::Project { input, columns } => rels[*input].iter().map(|r| columns.iter().map(|&c| r[c]).collect()).collect(),
+                Node::SelectConstant { input, column, code, constant } => {
+                    rels[*input].iter().filter(|r| holds(*code, r[*column], *constant)).cloned().collect()
+                }
+                Node::SelectColumn { input, column, code, other } => {
+                    rels[*input].iter().filter(|r| holds(*code, r[*column], r[*other])).cloned().collect()
+                }
+                Node::Project { input, columns } => {
+                    rels[*input].iter().map(|r| columns.iter().map(|&c| r[c]).collect()).collect()
+                }
                 Node::Join { left, right, pairs, columns } => {
                     let mut out = Relation::new();
                     for l in &rels[*left] {
                         for r in rels[*right].iter().filter(|r| pairs.iter().all(|&(x, y)| l[x] == r[y])) {
-                            out.insert(columns.iter().map(|&c| if c < l.len() { l[c] } else { r[c - l.len()] }).collect());
+                            out.insert(
+                                columns.iter().map(|&c| if c < l.len() { l[c] } else { r[c - l.len()] }).collect(),
+                            );
                         }
                     }
                     out
@@ -259,7 +273,9 @@ impl Areas {
         if !self.good_form(net) {
             return false;
         }
-        let rels: Vec<Relation> = (0..net.nodes.len()).map(|i| Areas::held(&self.rows, &self.head, 1, i, net.widths[i]).into_iter().collect()).collect();
+        let rels: Vec<Relation> = (0..net.nodes.len())
+            .map(|i| Areas::held(&self.rows, &self.head, 1, i, net.widths[i]).into_iter().collect())
+            .collect();
         net.evaluate(&rels) == rels
     }
 
@@ -300,16 +316,27 @@ pub struct Station {
 impl Station {
     pub fn open(net: &Network) -> Station {
         let n = net.nodes.len();
-        Station { net: net.clone(), tables: vec![Relation::new(); n], number: 0, stamps: vec![0; n], changes: vec![Default::default(); n], worked: vec![] }
+        Station {
+            net: net.clone(),
+            tables: vec![Relation::new(); n],
+            number: 0,
+            stamps: vec![0; n],
+            changes: vec![Default::default(); n],
+            worked: vec![],
+        }
     }
 
     /// The state that areas of good form hold.
     pub fn from(net: &Network, a: &Areas) -> Station {
         let n = net.nodes.len();
-        let set = |area: &[u32], counts: usize, i: usize| -> Relation { Areas::held(area, &a.head, counts, i, net.widths[i]).into_iter().collect() };
+        let set = |area: &[u32], counts: usize, i: usize| -> Relation {
+            Areas::held(area, &a.head, counts, i, net.widths[i]).into_iter().collect()
+        };
         Station {
             net: net.clone(),
-            tables: (0..n).map(|i| if net.nodes[i].inputs().is_empty() { set(&a.rows, 1, i) } else { Relation::new() }).collect(),
+            tables: (0..n)
+                .map(|i| if net.nodes[i].inputs().is_empty() { set(&a.rows, 1, i) } else { Relation::new() })
+                .collect(),
             number: a.head[0],
             stamps: a.head[33..33 + n].to_vec(),
             changes: (0..n).map(|i| (set(&a.gained, 65, i), set(&a.lost, 97, i))).collect(),
@@ -371,7 +398,8 @@ impl Station {
                 self.stamps[i] = self.number;
             }
         }
-        let mut worked: Vec<usize> = (0..self.net.nodes.len()).filter(|&i| self.net.nodes[i].inputs().iter().any(|&j| changed[j])).collect();
+        let mut worked: Vec<usize> =
+            (0..self.net.nodes.len()).filter(|&i| self.net.nodes[i].inputs().iter().any(|&j| changed[j])).collect();
         worked.sort_by_key(|&i| (self.net.levels[i], i));
         self.worked = worked;
         self.tables = copy;
@@ -385,7 +413,11 @@ impl Station {
         a.head[0] = self.number;
         for i in 0..self.net.nodes.len() {
             a.head[33 + i] = self.stamps[i];
-            for (area, counts, rel) in [(&mut a.rows, 1, &fresh[i]), (&mut a.gained, 65, &self.changes[i].0), (&mut a.lost, 97, &self.changes[i].1)] {
+            for (area, counts, rel) in [
+                (&mut a.rows, 1, &fresh[i]),
+                (&mut a.gained, 65, &self.changes[i].0),
+                (&mut a.lost, 97, &self.changes[i].1),
+            ] {
                 a.head[counts + i] = rel.len() as u32;
                 for (j, row) in rel.iter().enumerate() {
                     area[256 * i + 4 * j..256 * i + 4 * j + row.len()].copy_from_slice(row);

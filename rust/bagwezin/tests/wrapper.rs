@@ -1,0 +1,201 @@
+//! The wrapper as its users see it, on the order's network N.
+use std::process::{Command, Output};
+
+use bagwezin::{batches, cut, read, End, Monitor, NodeShape, Refusal, Resumed, AREA, HEAD};
+
+const N: &[u8] = &[
+    6, 0, 1, 0, 2, 0, // node 0: table of width 2
+    14, 0, 2, 0, 0, 0, 1, 0, 5, 0, 8, 0, 0, 0, // node 1: its rows with field 1 at least 8
+    10, 0, 4, 0, 1, 0, 1, 0, 0, 0, // node 2: their field 0
+    6, 0, 1, 0, 1, 0, // node 3: table of width 1
+    8, 0, 7, 0, 2, 0, 3, 0, // node 4: 2 without 3
+    8, 0, 9, 0, 4, 0, 3, 0, // watch on 4, gained and lost
+];
+const MARK: &[u8] = &[4, 0, 34, 0];
+
+fn event(kind: u8, node: u8, row: &[u32]) -> Vec<u8> {
+    let mut out = vec![6 + 4 * row.len() as u8, 0, kind, 0, node, 0];
+    row.iter().for_each(|x| out.extend(x.to_le_bytes()));
+    out
+}
+
+fn put(node: u8, row: &[u32]) -> Vec<u8> {
+    event(32, node, row)
+}
+
+/// N after its first batch.
+fn first() -> Monitor {
+    let mut monitor = Monitor::open(N).unwrap();
+    assert_eq!(monitor.apply(&[put(0, &[5, 9]), put(0, &[5, 12])].concat()), Ok(1));
+    monitor
+}
+
+#[test]
+fn a_batch_shows_what_the_order_shows() {
+    let mut monitor = first();
+    assert_eq!(monitor.gained(4).collect::<Vec<_>>(), [[5]]);
+    assert_eq!(monitor.rows(0).collect::<Vec<_>>(), [[5, 9], [5, 12]]);
+    assert_eq!(monitor.worked().collect::<Vec<_>>(), [1, 2, 4]);
+    assert_eq!(monitor.apply(&put(3, &[5])), Ok(2));
+    assert_eq!((monitor.gained(4).count(), monitor.lost(4).collect::<Vec<_>>()), (0, vec![&[5][..]]));
+    assert_eq!((0..6).map(|i| monitor.stamp(i)).collect::<Vec<_>>(), [1, 1, 1, 2, 2, 0]);
+    assert_eq!(monitor.report(4).unwrap(), [10, 0, 65, 0, 4, 0, 5, 0, 0, 0]);
+    assert_eq!(monitor.check(), Ok(true));
+}
+
+#[test]
+fn refusals_carry_number_place_and_words() {
+    let mut monitor = first();
+    let before = monitor.clone();
+    let said = |refusal: Refusal| refusal.to_string();
+    assert_eq!(said(monitor.report(1).unwrap_err()), "refused 15: the node does not exist or has no watch");
+    for node in [5, 1 << 32, usize::MAX] {
+        assert_eq!(monitor.report(node).unwrap_err().number, 15);
+        assert_eq!((monitor.node(node), monitor.rows(node).len(), monitor.stamp(node)), (None, 0, 0));
+    }
+    assert_eq!(said(monitor.apply(&[1, 2]).unwrap_err()), "refused 10 at byte 0: an event record's length is broken");
+    let full: Vec<u8> = (0..63).flat_map(|x| put(0, &[5, 100 + x])).collect();
+    assert_eq!(
+        said(monitor.apply(&full).unwrap_err()),
+        "refused 14 at node 0: after the batch a node has more than 64 rows"
+    );
+    assert_eq!(Monitor::open(&[6, 0, 1, 0, 5, 0]).unwrap_err(), Refusal { number: 7, place: 0 });
+    assert_eq!(monitor, before, "a refusal changed something");
+}
+
+#[test]
+fn the_reader_gives_shapes() {
+    let nodes = read(N).unwrap();
+    let shape = |kind, width, level| NodeShape { kind, width, level };
+    assert_eq!(nodes, [shape(1, 2, 0), shape(2, 2, 1), shape(4, 1, 2), shape(1, 1, 0), shape(7, 1, 3)]);
+    let monitor = Monitor::open(N).unwrap();
+    assert_eq!((0..monitor.nodes()).map(|i| monitor.node(i).unwrap()).collect::<Vec<_>>(), nodes);
+    assert_eq!(monitor.network(), N);
+    assert_eq!(read(&N[1..]).unwrap_err().number, 3);
+}
+
+#[test]
+fn a_station_resumes_from_its_words() {
+    let monitor = first();
+    let resume = |areas: &[Vec<u32>]| Monitor::from_areas(N, &areas[0], &areas[1], &areas[2], &areas[3]);
+    let stored: Vec<Vec<u32>> = monitor.areas().map(<[u32]>::to_vec).into();
+    assert_eq!(stored.iter().map(Vec::len).collect::<Vec<_>>(), [AREA, AREA, AREA, HEAD]);
+    assert_eq!(stored.concat(), monitor.words().copied().collect::<Vec<_>>());
+    assert_eq!(resume(&stored), Ok(Resumed { monitor: monitor.clone(), coherent: true }));
+
+    // the two go on alike
+    let (mut one, mut other) = (monitor, resume(&stored).unwrap().monitor);
+    assert_eq!(one.apply(&put(3, &[5])), other.apply(&put(3, &[5])));
+    assert_eq!(one, other);
+
+    // longer areas are taken, and what is past the named words is left
+    let longer: Vec<Vec<u32>> = stored.iter().map(|area| [&area[..], &[7; 3]].concat()).collect();
+    assert_eq!(resume(&longer), resume(&stored));
+
+    // 1: too short, before anything else
+    for k in 0..4 {
+        let mut short = stored.clone();
+        short[k].pop();
+        assert_eq!(resume(&short).unwrap_err().number, 1);
+    }
+    // 2 to 7: the network
+    let on = |network: &[u8]| Monitor::from_areas(network, &stored[0], &stored[1], &stored[2], &stored[3]);
+    assert_eq!(on(&[]).unwrap_err(), Refusal { number: 2, place: 0 });
+    assert_eq!(on(&N[..N.len() - 1]).unwrap_err(), Refusal { number: 3, place: 44 });
+    // 8: not of good form
+    let mut bad = stored.clone();
+    bad[3][1] = 65;
+    assert_eq!(resume(&bad).unwrap_err(), Refusal { number: 8, place: 0 });
+    // of good form, and not coherent: a row of node 1 is not in table 0
+    let mut other = stored.clone();
+    other[0][256] = 4;
+    let resumed = resume(&other).unwrap();
+    assert!(!resumed.coherent);
+    assert_eq!(resumed.monitor.check(), Ok(false));
+}
+
+#[test]
+fn debug_tells_numbers_and_not_24738_words() {
+    let text = format!("{:?}", first());
+    assert!(text.starts_with("Monitor { number: 1, worked: [1, 2, 4], nodes: [Node { shape: NodeShape { kind: 1, width: 2, level: 0 }, stamp: 1, rows: 2, gained: 2, lost: 0 }"), "{text}");
+    assert!(text.len() < 1000, "{text}");
+}
+
+#[test]
+fn monitors_go_to_other_threads() {
+    fn sendable<T: Send + Sync>() {}
+    sendable::<Monitor>();
+    let one = first();
+    let ended: Vec<Monitor> = std::thread::scope(|scope| {
+        let run = |_| {
+            let mut mine = one.clone();
+            scope.spawn(move || {
+                for i in 0..500 {
+                    mine.apply(&event(if i % 2 == 0 { 32 } else { 33 }, 3, &[5])).unwrap();
+                }
+                mine
+            })
+        };
+        let threads: Vec<_> = (0..4).map(run).collect();
+        threads.into_iter().map(|t| t.join().unwrap()).collect()
+    });
+    assert!(ended.iter().all(|m| *m == ended[0] && m.number() == 501));
+}
+
+#[test]
+fn a_file_is_cut_at_its_marks() {
+    let (a, b) = (put(0, &[5, 9]), put(3, &[5]));
+    let file = [&a[..], &b, MARK, MARK, &b, MARK].concat();
+    let ab = [&a[..], &b].concat();
+    let whole = vec![&ab[..], &[], &b];
+    assert_eq!(cut(&file), (whole.clone(), End::Whole));
+    assert_eq!(batches(&file), whole);
+    let with = |more: &[u8]| [&file[..], more].concat();
+    assert_eq!(cut(&with(&a)), (whole.clone(), End::Unfinished));
+    assert_eq!(cut(&with(&[&a[..], &[4]].concat())), (whole.clone(), End::Broken { offset: 14 }));
+    assert_eq!(cut(&with(&[3, 0, 34, 0])), (whole.clone(), End::Broken { offset: 0 }));
+    assert_eq!(cut(&with(&[5, 0, 34, 0])), (whole.clone(), End::Broken { offset: 0 }));
+    // a mark of another length is a record of kind 34
+    assert_eq!(cut(&with(&[5, 0, 34, 0, 0])), (whole, End::Unfinished));
+    assert_eq!(cut(&[]), (vec![], End::Whole));
+}
+
+/// Runs the program `areas` on N and a file of batches.
+fn areas(name: &str, file: &[u8], more: &[&str]) -> (Output, Option<Vec<u8>>) {
+    let folder = std::env::temp_dir().join(format!("bagwezin-areas-{}-{name}", std::process::id()));
+    std::fs::create_dir_all(&folder).unwrap();
+    std::fs::write(folder.join("network.bin"), N).unwrap();
+    std::fs::write(folder.join("batch.bin"), file).unwrap();
+    let out = folder.join("areas.bin");
+    let ran = Command::new(env!("CARGO_BIN_EXE_areas")).arg(&folder).arg(&out).args(more).output().unwrap();
+    let written = std::fs::read(&out).ok();
+    std::fs::remove_dir_all(&folder).unwrap();
+    (ran, written)
+}
+
+#[test]
+fn the_program_areas_tells_how_a_file_ends() {
+    let batch = [&put(0, &[5, 9])[..], &put(0, &[5, 12]), MARK].concat();
+    let bytes: Vec<u8> = first().words().flat_map(|w| w.to_le_bytes()).collect();
+    let cases: [(&str, Vec<u8>, &[&str], &str); 6] = [
+        ("whole", batch.clone(), &[], ""),
+        ("unfinished", [&batch[..], &put(3, &[5])].concat(), &[], "batch 2: unfinished"),
+        (
+            "broken",
+            [&batch[..], &put(3, &[5]), &[1, 2]].concat(),
+            &[],
+            "batch 2: refused 10 at byte 10: an event record's length is broken",
+        ),
+        ("refused", [&batch[..], &put(1, &[5, 9]), MARK].concat(), &[], "batch 2: refused 13 at byte 0"),
+        ("first", [&batch[..], &put(3, &[5]), MARK].concat(), &["1"], ""),
+        ("few", batch.clone(), &["3"], "whole batches: 1, not 3"),
+    ];
+    for (name, file, more, said) in cases {
+        let (ran, written) = areas(name, &file, more);
+        let text = String::from_utf8(ran.stderr).unwrap();
+        assert!(ran.status.success() && text.contains(said) && text.is_empty() == said.is_empty(), "{name}: {text}");
+        assert!(written.as_ref() == Some(&bytes), "{name}: not the areas after the first batch");
+    }
+    let (ran, written) = areas("number", &batch, &["x"]);
+    assert!(!ran.status.success() && written.is_none());
+}

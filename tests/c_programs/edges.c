@@ -1,0 +1,185 @@
+/* What the header promises beside the rules: null pointers with a count of 0, names and layout, the largest report, calls on several threads. */
+#define _GNU_SOURCE
+#include <pthread.h>
+#include <stdio.h>
+#include <string.h>
+#include <sys/mman.h>
+
+#include "bagwezin.h"
+
+static int passed, failed;
+
+#define EXPECT(what)                                                  \
+    do {                                                              \
+        if (what) {                                                   \
+            passed += 1;                                              \
+        } else {                                                      \
+            failed += 1;                                              \
+            printf("edges.c:%d: not so: %s\n", __LINE__, #what);      \
+        }                                                             \
+    } while (0)
+
+struct areas { uint32_t rows[BAGWEZIN_AREA], gained[BAGWEZIN_AREA], lost[BAGWEZIN_AREA], head[BAGWEZIN_HEAD]; };
+
+#define LENT(a) (a)->rows, BAGWEZIN_AREA, (a)->gained, BAGWEZIN_AREA, (a)->lost, BAGWEZIN_AREA, (a)->head, BAGWEZIN_HEAD
+#define SHORT(a, k, at) \
+    (k) == 0 ? (at) : (a)->rows, (k) == 0 ? 0 : BAGWEZIN_AREA, (k) == 1 ? (at) : (a)->gained, (k) == 1 ? 0 : BAGWEZIN_AREA, \
+    (k) == 2 ? (at) : (a)->lost, (k) == 2 ? 0 : BAGWEZIN_AREA, (k) == 3 ? (at) : (a)->head, (k) == 3 ? 0 : BAGWEZIN_HEAD
+
+/* The order's network N, and batches on it. */
+static const uint8_t N[] = {
+    6, 0, BAGWEZIN_TABLE, 0, 2, 0,
+    14, 0, BAGWEZIN_SELECT, 0, 0, 0, 1, 0, 5, 0, 8, 0, 0, 0,
+    10, 0, BAGWEZIN_PROJECT, 0, 1, 0, 1, 0, 0, 0,
+    6, 0, BAGWEZIN_TABLE, 0, 1, 0,
+    8, 0, BAGWEZIN_WITHOUT, 0, 2, 0, 3, 0,
+    8, 0, BAGWEZIN_WATCH, 0, 4, 0, 3, 0,
+};
+static const uint8_t CATCH[] = {14, 0, BAGWEZIN_PUT, 0, 0, 0, 5, 0, 0, 0, 9, 0, 0, 0};
+static const uint8_t SPRAY[] = {10, 0, BAGWEZIN_PUT, 0, 3, 0, 5, 0, 0, 0};
+static const uint8_t UNSPRAY[] = {10, 0, BAGWEZIN_REMOVE, 0, 3, 0, 5, 0, 0, 0};
+
+static uint64_t refusal(uint32_t number) { return (uint64_t)number << 32; }
+
+/* Pointers whose count is 0: null, and into a page that nobody may touch. */
+static void nothing_is_looked_at(void *at)
+{
+    static struct areas a, before;
+    uint32_t answer[BAGWEZIN_ANSWER];
+    EXPECT(bagwezin_read(at, 0, answer, BAGWEZIN_ANSWER) == refusal(BAGWEZIN_NO_NETWORK));
+    EXPECT(bagwezin_read(N, sizeof N, at, 0) == refusal(BAGWEZIN_SHORT_AREA));
+    EXPECT(bagwezin_read(at, 0, at, 0) == refusal(BAGWEZIN_SHORT_AREA));
+    EXPECT(bagwezin_open(at, 0, LENT(&a)) == refusal(BAGWEZIN_NO_NETWORK));
+    EXPECT(bagwezin_open(N, sizeof N, LENT(&a)) == 0);
+    EXPECT(bagwezin_apply(at, 0, CATCH, sizeof CATCH, LENT(&a)) == refusal(BAGWEZIN_NO_NETWORK));
+    EXPECT(bagwezin_apply(N, sizeof N, CATCH, sizeof CATCH, LENT(&a)) == 0);
+    EXPECT(bagwezin_check(at, 0, LENT(&a)) == refusal(BAGWEZIN_NO_NETWORK));
+    EXPECT(bagwezin_report(at, 0, 4, LENT(&a), at, 0) == refusal(BAGWEZIN_NO_NETWORK));
+    EXPECT(bagwezin_report(N, sizeof N, 4, LENT(&a), at, 0) == refusal(BAGWEZIN_SHORT_REPORT));
+    EXPECT(bagwezin_report(N, sizeof N, 3, LENT(&a), at, 0) == refusal(BAGWEZIN_NO_WATCH));
+    /* the empty batch, and the empty report after it */
+    EXPECT(bagwezin_apply(N, sizeof N, at, 0, LENT(&a)) == 0 && a.head[BAGWEZIN_HEAD_NUMBER] == 2);
+    EXPECT(bagwezin_report(N, sizeof N, 4, LENT(&a), at, 0) == 0);
+    EXPECT(bagwezin_check(N, sizeof N, LENT(&a)) == 1);
+    /* an area that is not lent at all */
+    memcpy(&before, &a, sizeof a);
+    for (int k = 0; k < 4; k += 1) {
+        uint64_t short_area = refusal(BAGWEZIN_SHORT_AREA);
+        EXPECT(bagwezin_open(N, sizeof N, SHORT(&a, k, at)) == short_area);
+        EXPECT(bagwezin_apply(N, sizeof N, at, 0, SHORT(&a, k, at)) == short_area);
+        EXPECT(bagwezin_check(N, sizeof N, SHORT(&a, k, at)) == short_area);
+        EXPECT(bagwezin_report(N, sizeof N, 4, SHORT(&a, k, at), at, 0) == short_area);
+    }
+    EXPECT(bagwezin_open(at, 0, at, 0, at, 0, at, 0, at, 0) == refusal(BAGWEZIN_SHORT_AREA));
+    EXPECT(bagwezin_apply(at, 0, at, 0, at, 0, at, 0, at, 0, at, 0) == refusal(BAGWEZIN_SHORT_AREA));
+    EXPECT(bagwezin_check(at, 0, at, 0, at, 0, at, 0, at, 0) == refusal(BAGWEZIN_SHORT_AREA));
+    EXPECT(bagwezin_report(at, 0, 0, at, 0, at, 0, at, 0, at, 0, at, 0) == refusal(BAGWEZIN_SHORT_AREA));
+    EXPECT(memcmp(&before, &a, sizeof a) == 0);
+}
+
+static void names_and_layout(void)
+{
+    static struct areas a;
+    uint32_t answer[BAGWEZIN_ANSWER];
+    EXPECT(bagwezin_read(N, sizeof N, answer, BAGWEZIN_ANSWER) == 0);
+    EXPECT(answer[BAGWEZIN_ANSWER_COUNT] == 5);
+    EXPECT(answer[BAGWEZIN_ANSWER_KINDS + 4] == BAGWEZIN_WITHOUT && answer[BAGWEZIN_ANSWER_KINDS + 5] == 0);
+    EXPECT(answer[BAGWEZIN_ANSWER_WIDTHS] == 2 && answer[BAGWEZIN_ANSWER_LEVELS + 4] == 3);
+    EXPECT(BAGWEZIN_ANSWER_LEVELS + BAGWEZIN_NODES == BAGWEZIN_ANSWER && BAGWEZIN_HEAD_WORKED + BAGWEZIN_NODES == BAGWEZIN_HEAD);
+    EXPECT(bagwezin_word(BAGWEZIN_NODES, 0, 0) == BAGWEZIN_AREA && bagwezin_word(0, BAGWEZIN_ROWS, 0) == bagwezin_word(1, 0, 0));
+    memset(&a, 7, sizeof a);
+    EXPECT(bagwezin_open(N, sizeof N, LENT(&a)) == 0);
+    EXPECT(bagwezin_apply(N, sizeof N, CATCH, sizeof CATCH, LENT(&a)) == 0);
+    EXPECT(bagwezin_apply(N, sizeof N, SPRAY, sizeof SPRAY, LENT(&a)) == 0);
+    EXPECT(a.head[BAGWEZIN_HEAD_NUMBER] == 2 && a.head[BAGWEZIN_HEAD_STAMPS] == 1 && a.head[BAGWEZIN_HEAD_STAMPS + 4] == 2);
+    EXPECT(a.head[BAGWEZIN_HEAD_ROWS] == 1 && a.rows[bagwezin_word(0, 0, 0)] == 5 && a.rows[bagwezin_word(0, 0, 1)] == 9);
+    EXPECT(a.head[BAGWEZIN_HEAD_GAINED + 3] == 1 && a.gained[bagwezin_word(3, 0, 0)] == 5);
+    EXPECT(a.head[BAGWEZIN_HEAD_LOST + 4] == 1 && a.lost[bagwezin_word(4, 0, 0)] == 5);
+    EXPECT(a.head[BAGWEZIN_HEAD_WORKED_COUNT] == 1 && a.head[BAGWEZIN_HEAD_WORKED] == 4);
+    uint8_t out[BAGWEZIN_REPORT + 1];
+    memset(out, 7, sizeof out);
+    EXPECT(bagwezin_report(N, sizeof N, 4, LENT(&a), out, sizeof out) == 10);
+    EXPECT(out[0] == 10 && out[2] == BAGWEZIN_LOST && out[4] == 4 && out[6] == 5 && out[10] == 7);
+    uint64_t bad = bagwezin_apply(N, sizeof N, CATCH, 1, LENT(&a));
+    EXPECT(bagwezin_number(bad) == BAGWEZIN_EVENT_LENGTH && bagwezin_value(bad) == 0);
+}
+
+/* 64 rows of width 3 beside the one row of another table: when that row is exchanged, the product loses and gains 64 rows of width 4. */
+static const uint8_t PRODUCT[] = {
+    6, 0, BAGWEZIN_TABLE, 0, 3, 0,
+    6, 0, BAGWEZIN_TABLE, 0, 1, 0,
+    20, 0, BAGWEZIN_JOIN, 0, 0, 0, 1, 0, 0, 0, 4, 0, 0, 0, 1, 0, 2, 0, 3, 0,
+    8, 0, BAGWEZIN_WATCH, 0, 2, 0, 3, 0,
+};
+
+static void the_largest_report(void)
+{
+    static struct areas a;
+    static uint8_t many[18 * BAGWEZIN_ROWS], out[BAGWEZIN_REPORT];
+    for (uint8_t i = 0; i < BAGWEZIN_ROWS; i += 1) {
+        uint8_t event[18] = {18, 0, BAGWEZIN_PUT, 0, 0, 0, i};
+        memcpy(many + 18 * i, event, sizeof event);
+    }
+    uint8_t one[] = {10, 0, BAGWEZIN_PUT, 0, 1, 0, 8, 0, 0, 0};
+    uint8_t other[] = {10, 0, BAGWEZIN_REMOVE, 0, 1, 0, 8, 0, 0, 0, 10, 0, BAGWEZIN_PUT, 0, 1, 0, 9, 0, 0, 0};
+    EXPECT(bagwezin_open(PRODUCT, sizeof PRODUCT, LENT(&a)) == 0);
+    EXPECT(bagwezin_apply(PRODUCT, sizeof PRODUCT, many, sizeof many, LENT(&a)) == 0);
+    EXPECT(bagwezin_apply(PRODUCT, sizeof PRODUCT, one, sizeof one, LENT(&a)) == 0);
+    EXPECT(bagwezin_apply(PRODUCT, sizeof PRODUCT, other, sizeof other, LENT(&a)) == 0);
+    EXPECT(bagwezin_report(PRODUCT, sizeof PRODUCT, 2, LENT(&a), out, BAGWEZIN_REPORT - 1) == refusal(BAGWEZIN_SHORT_REPORT));
+    EXPECT(out[0] == 0);
+    EXPECT(bagwezin_report(PRODUCT, sizeof PRODUCT, 2, LENT(&a), out, BAGWEZIN_REPORT) == BAGWEZIN_REPORT);
+    EXPECT(out[2] == BAGWEZIN_GAINED && out[BAGWEZIN_REPORT - 22] == 22 && out[BAGWEZIN_REPORT - 20] == BAGWEZIN_LOST);
+}
+
+enum { THREADS = 4, BATCHES = 3000 };
+static struct areas own[THREADS], shared;
+
+static void *writes(void *mine)
+{
+    struct areas *a = mine;
+    uint64_t bad = bagwezin_open(N, sizeof N, LENT(a)) | bagwezin_apply(N, sizeof N, CATCH, sizeof CATCH, LENT(a));
+    for (int i = 0; i < BATCHES; i += 1) {
+        bad |= i % 2 == 0 ? bagwezin_apply(N, sizeof N, SPRAY, sizeof SPRAY, LENT(a)) : bagwezin_apply(N, sizeof N, UNSPRAY, sizeof UNSPRAY, LENT(a));
+    }
+    return bad == 0 && a->head[BAGWEZIN_HEAD_NUMBER] == BATCHES + 1 ? mine : NULL;
+}
+
+static void *reads(void *mine)
+{
+    int good = 1;
+    uint8_t out[BAGWEZIN_REPORT];
+    for (int i = 0; i < BATCHES; i += 1) {
+        good &= bagwezin_check(N, sizeof N, LENT(&shared)) == 1 && bagwezin_report(N, sizeof N, 4, LENT(&shared), out, sizeof out) == 10 && out[6] == 5;
+    }
+    return good ? mine : NULL;
+}
+
+static void threads(void)
+{
+    pthread_t writing[THREADS], reading[THREADS];
+    EXPECT(bagwezin_open(N, sizeof N, LENT(&shared)) == 0);
+    EXPECT(bagwezin_apply(N, sizeof N, CATCH, sizeof CATCH, LENT(&shared)) == 0);
+    for (int i = 0; i < THREADS; i += 1) {
+        EXPECT(pthread_create(&writing[i], NULL, writes, &own[i]) == 0 && pthread_create(&reading[i], NULL, reads, &own[i]) == 0);
+    }
+    for (int i = 0; i < THREADS; i += 1) {
+        void *wrote = NULL, *read = NULL;
+        EXPECT(pthread_join(writing[i], &wrote) == 0 && wrote != NULL);
+        EXPECT(pthread_join(reading[i], &read) == 0 && read != NULL);
+        EXPECT(memcmp(&own[i], &own[0], sizeof own[0]) == 0);
+    }
+}
+
+int main(void)
+{
+    nothing_is_looked_at(NULL);
+    void *page = mmap(NULL, 4096, PROT_NONE, MAP_PRIVATE | MAP_ANONYMOUS, -1, 0);
+    EXPECT(page != MAP_FAILED);
+    nothing_is_looked_at(page);
+    names_and_layout();
+    the_largest_report();
+    threads();
+    printf("edges: %d passed, %d failed\n", passed, failed);
+    return failed != 0;
+}
