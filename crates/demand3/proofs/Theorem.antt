@@ -5,6 +5,7 @@ use mathlib.Core.List.{List, [], map, _∷_}
 use mathlib.Core.Path.{ap, ap₂, refl, sym, _∙_, _≡_}
 use native.Mathlib.Omega.{arith}
 use lib.Dec.{eqb}
+use lib.ListN.{length}
 use borrow.Author.Tests.{eq-eqb, ne-eqb}
 use Rattle.model.specs.Network.{Node, AllFit, readNetwork, within}
 use Rattle.model.specs.Calls.{Applied, Keeps, Result, applyPromise, formVerdict, free, openCall, openVerdict, orElse, promiseOf, resultOf, settled, unless}
@@ -46,7 +47,7 @@ module _ (net : Bytes) (accepts : readNetwork net .verdict .number ≡ 0) where
       let g : goodForm layout ns a ≡ true = and-first (goodForm layout ns a) (sameRelations (rowsIn layout ns a) (evaluate ns (tablesOf ns (rowsIn layout ns a)))) c in
       let ok : isAccepted (formVerdict net a) ≡ true = ap isAccepted (form-passes a l g) in
       ap (λ (t : Bool). cond t (promiseOf ns a (step ns (stateIn layout ns a) b)) (settled (record { verdict = formVerdict net a; areas = a }))) ok
-      ∙ ap (λ (t : Bool). cond (t || within 9 13 (step ns (stateIn layout ns a) b .verdict .number)) (settled (resultOf ns a (step ns (stateIn layout ns a) b))) free) c
+      ∙ ap (λ (t : Bool). cond (t || within 9 13 (step ns (stateIn layout ns a) b .verdict .number)) (settled (resultOf ns a (step ns (stateIn layout ns a) b))) (free (length ns))) c
 
   module _ (s : State) (before a : Areas) (h : Held (readNetwork net .network .nodes) s before a) (b : Bytes) (r : Result) (m : Applied net b a r) where
     -- the call's result is that of the plain station's step
