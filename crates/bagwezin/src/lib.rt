@@ -6,20 +6,20 @@ ghost use Prim.Native.Nat.{ℕ, _+_, _*_, _≤_, _<_};
 ghost use lib.ListN.{length, drop};
 ghost use lib.Dec.{eqb};
 ghost use lib.Seq.{sets};
-ghost use Rattle.model.specs.Record as modelRecord;
+ghost use Rattle.model.specs.Record.{refused, SmallVerdict};
 ghost use Rattle.model.specs.Calls.{openCall, checkCall, reportCall};
-ghost use Rattle.network.specs.Reading.{verdictOf};
 ghost use Rattle.areas.specs.Lent.{lent};
-ghost use Rattle.bagwezin.specs.Answers.{half, asWords, packed, bit, Applies, readVerdict, readAfter};
+ghost use Rattle.bagwezin.specs.Answers.{half, Answers, AnswersCheck, AnswersReport, FitWords, Applies, readVerdict, readAfter};
 
 // The number in the upper 32 bits; below it the value, or beside a refusal the place.
 fn pack(number: usize, place: usize, value: usize) -> u64
-    ensures { λ r. ⌜ r ≡ packed (record { number = number; place = place }) value ⌝ }
+    requires { ⌜ SmallVerdict (refused number place) × (value < half) ⌝ }
+    ensures { λ r. ⌜ Answers (refused number place) value r ⌝ }
 {
     if number == 0 {
-        return (value % 4294967296) as u64;
+        return value as u64;
     }
-    ((number % 4294967296) * 4294967296 + place % 4294967296) as u64
+    (number * 4294967296 + place) as u64
 }
 
 // How many words the reader's answer takes.
@@ -27,13 +27,13 @@ const WORDS: usize = 97;
 
 // Numbers written as words, from an index on.
 fn write_list(answer: &mut [u32], at: usize, list: &[usize])
-    requires { ⌜ at + length (now list) ≤ length (now answer) ⌝ }
-    ensures { λ _. ⌜ now (answer .exit) ≡ sets (now (answer .entry)) at (asWords (now (list .entry))) ⌝ }
+    requires { ⌜ (at + length (now list) ≤ length (now answer)) × FitWords (now list) ⌝ }
+    ensures { λ _. ⌜ now (answer .exit) ≡ sets (now (answer .entry)) at (now (list .entry)) ⌝ }
 {
     let n = list.len();
     let mut k = 0;
     while k < n {
-        answer[at + k] = (list[k] % 4294967296) as u32;
+        answer[at + k] = list[k] as u32;
         k += 1;
     }
 }
@@ -47,7 +47,16 @@ pub extern "C" fn bagwezin_open(
     lost: &mut [u32],
     head: &mut [u32],
 ) -> u64
-    ensures { λ r. ⌜ (r ≡ packed (openCall (now (net .entry)) (lent (now (rows .entry)) (now (gained .entry)) (now (lost .entry)) (now (head .entry))) .verdict) 0) × (lent (now (rows .exit)) (now (gained .exit)) (now (lost .exit)) (now (head .exit)) ≡ openCall (now (net .entry)) (lent (now (rows .entry)) (now (gained .entry)) (now (lost .entry)) (now (head .entry))) .areas) ⌝ }
+    ensures answers { λ r. ⌜
+        Answers
+        (openCall (now (net .entry)) (lent (now (rows .entry)) (now (gained .entry)) (now (lost .entry)) (now (head .entry))) .verdict)
+        0
+        r
+        ⌝ }
+    ensures areas { λ _. ⌜
+        lent (now (rows .exit)) (now (gained .exit)) (now (lost .exit)) (now (head .exit))
+        ≡ openCall (now (net .entry)) (lent (now (rows .entry)) (now (gained .entry)) (now (lost .entry)) (now (head .entry))) .areas
+        ⌝ }
 {
     let v = monitor::open(net, rows, gained, lost, head);
     pack(v.number, v.place, 0)
@@ -63,7 +72,14 @@ pub extern "C" fn bagwezin_apply(
     lost: &mut [u32],
     head: &mut [u32],
 ) -> u64
-    ensures { λ r. ⌜ Applies (now (net .entry)) (now (batch .entry)) (lent (now (rows .entry)) (now (gained .entry)) (now (lost .entry)) (now (head .entry))) (lent (now (rows .exit)) (now (gained .exit)) (now (lost .exit)) (now (head .exit))) r ⌝ }
+    ensures applies { λ r. ⌜
+        Applies
+        (now (net .entry))
+        (now (batch .entry))
+        (lent (now (rows .entry)) (now (gained .entry)) (now (lost .entry)) (now (head .entry)))
+        (lent (now (rows .exit)) (now (gained .exit)) (now (lost .exit)) (now (head .exit)))
+        r
+        ⌝ }
 {
     let v = monitor::apply(net, batch, rows, gained, lost, head);
     pack(v.number, v.place, 0)
@@ -78,7 +94,11 @@ pub extern "C" fn bagwezin_check(
     lost: &[u32],
     head: &[u32],
 ) -> u64
-    ensures { λ r. ⌜ r ≡ packed (checkCall (now (net .entry)) (lent (now (rows .entry)) (now (gained .entry)) (now (lost .entry)) (now (head .entry))) .verdict) (bit (checkCall (now (net .entry)) (lent (now (rows .entry)) (now (gained .entry)) (now (lost .entry)) (now (head .entry))) .yes?)) ⌝ }
+    ensures answers { λ r. ⌜
+        AnswersCheck
+        (checkCall (now (net .entry)) (lent (now (rows .entry)) (now (gained .entry)) (now (lost .entry)) (now (head .entry))))
+        r
+        ⌝ }
 {
     let v = monitor::check(net, rows, gained, lost, head);
     pack(v.number, v.place, v.yes as usize)
@@ -95,7 +115,15 @@ pub extern "C" fn bagwezin_report(
     head: &[u32],
     out: &mut [u8],
 ) -> u64
-    ensures { λ r. ⌜ (r ≡ packed (reportCall (now (net .entry)) node (lent (now (rows .entry)) (now (gained .entry)) (now (lost .entry)) (now (head .entry))) (now (out .entry)) .verdict) (reportCall (now (net .entry)) node (lent (now (rows .entry)) (now (gained .entry)) (now (lost .entry)) (now (head .entry))) (now (out .entry)) .size)) × (now (out .exit) ≡ reportCall (now (net .entry)) node (lent (now (rows .entry)) (now (gained .entry)) (now (lost .entry)) (now (head .entry))) (now (out .entry)) .out) ⌝ }
+    ensures answers { λ r. ⌜
+        AnswersReport
+        (reportCall (now (net .entry)) node (lent (now (rows .entry)) (now (gained .entry)) (now (lost .entry)) (now (head .entry))) (now (out .entry)))
+        r
+        ⌝ }
+    ensures bytes { λ _. ⌜
+        now (out .exit)
+        ≡ reportCall (now (net .entry)) node (lent (now (rows .entry)) (now (gained .entry)) (now (lost .entry)) (now (head .entry))) (now (out .entry)) .out
+        ⌝ }
 {
     let v = monitor::report(net, node as usize, rows, gained, lost, head, out);
     pack(v.number, v.place, v.size)
@@ -104,7 +132,8 @@ pub extern "C" fn bagwezin_report(
 // The reader's answer in 97 words: refusal 1 where they are not lent, then 2 to 7, or 0.
 #[no_mangle]
 pub extern "C" fn bagwezin_read(net: &[u8], answer: &mut [u32]) -> u64
-    ensures { λ r. ⌜ (r ≡ packed (readVerdict (now (net .entry)) (now (answer .entry))) 0) × (now (answer .exit) ≡ readAfter (now (net .entry)) (now (answer .entry))) ⌝ }
+    ensures answers { λ r. ⌜ Answers (readVerdict (now (net .entry)) (now (answer .entry))) 0 r ⌝ }
+    ensures words { λ _. ⌜ now (answer .exit) ≡ readAfter (now (net .entry)) (now (answer .entry)) ⌝ }
 {
     if answer.len() < WORDS {
         return pack(1, 0, 0);

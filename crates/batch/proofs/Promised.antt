@@ -52,14 +52,14 @@ module _ (nodes : List Node) (a : Areas) (x : Step) where
   unfolding promiseOf
   promise-settled t c e = rw (c, e) refl
 
-  promise-free : coherent layout nodes a ≡ false → within 9 13 (x .verdict .number) ≡ false → promiseOf nodes a x ≡ free
+  promise-free : coherent layout nodes a ≡ false → within 9 13 (x .verdict .number) ≡ false → promiseOf nodes a x ≡ free (length nodes)
   unfolding promiseOf
   promise-free c e = rw (c, e) refl
 
   settles : (t : Bool) → coherent layout nodes a ≡ t → (t || within 9 13 (x .verdict .number)) ≡ true → (r : Result) → r ≡ resultOf nodes a x → Keeps (promiseOf nodes a x) a r
   settles t c e r f = rw (promise-settled t c e) f
 
-  frees : coherent layout nodes a ≡ false → within 9 13 (x .verdict .number) ≡ false → (r : Result) → Free a r → Keeps (promiseOf nodes a x) a r
+  frees : coherent layout nodes a ≡ false → within 9 13 (x .verdict .number) ≡ false → (r : Result) → Free (length nodes) a r → Keeps (promiseOf nodes a x) a r
   frees c e r f = rw (promise-free c e) f
 
 limit-over : (nodes : List Node) (s : State) (copy : List Relation) (i : ℕ) (list : List ℕ) → limit nodes s copy (i ∷ list) ≡ refusedStep (refused 14 i) s
@@ -165,7 +165,7 @@ module _ (net : Network) (bs : Bytes) (rows gained lost head : List ℕ) (can : 
             let is : st ≡ refusedStep (refused 14 i) s = step-is ∙ ap (limit (nodesOf net) s (tablesAfter net rows head bs)) list ∙ limit-over (nodesOf net) s (tablesAfter net rows head bs) i (first .0) in
             settles (nodesOf net) (lent rows gained lost head) st true c refl (record { verdict = refused 14 i; areas = lent rows gained lost head })
             (sym (ap (resultOf (nodesOf net) (lent rows gained lost head)) is ∙ result-refused (nodesOf net) (lent rows gained lost head) (refusedStep (refused 14 i) s) refl))
-        go false c = frees (nodesOf net) (lent rows gained lost head) st c number-free (record { verdict = refused 14 i; areas = lent rows gained lost head }) (freelyRefused refl refl)
+        go false c = frees (nodesOf net) (lent rows gained lost head) st c number-free (record { verdict = refused 14 i; areas = lent rows gained lost head }) (freelyRefused refl (rw (nodes-count net (can .checkable .built)) h) refl)
 
     -- every node's new rows worked out and written
     module _ (work counts : List ℕ) (changed : List Bool) (to : WorkedTo head (newRows net rows head bs) (working (net .widths) rows work counts changed) (net .count)) where

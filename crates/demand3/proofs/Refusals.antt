@@ -3,6 +3,7 @@ use mathlib.Core.Bool.{Bool, cond, false, true, true≢false, _||_}
 use mathlib.Core.List.{List}
 use mathlib.Core.Path.{_≡_, ap, refl, sym, _∙_}
 use Prim.Native.Nat.{ℕ}
+use lib.ListN.{length}
 use native.Mathlib.Omega.{arith}
 use Rattle.model.specs.Record.{Bytes, isAccepted}
 use Rattle.model.specs.Network.{Node, nodesIn, within}
@@ -12,10 +13,10 @@ use Rattle.model.specs.Calls.{Applied, Keeps, Promise, Result, applyPromise, fo
 
 keeps-refused : (p : Promise) (a : Areas) (r : Result) → ((x : Result) → p ≡ settled x → isAccepted (x .verdict) ≡ false → x .areas ≡ a) → Keeps p a r → isAccepted (r .verdict) ≡ false → r .areas ≡ a
 keeps-refused (settled x) a r h k e = ap (λ (y : Result). y .areas) k ∙ h x refl (ap (λ (y : Result). isAccepted (y .verdict)) (sym k) ∙ e)
-keeps-refused free a r h (freelyAccepted v rest) e = absurd (true≢false (sym (ap isAccepted v) ∙ e))
-keeps-refused free a r h (freelyRefused v same) e = same
+keeps-refused (free n) a r h (freelyAccepted v rest) e = absurd (true≢false (sym (ap isAccepted v) ∙ e))
+keeps-refused (free n) a r h (freelyRefused v inside same) e = same
 
-settled-refused : (nodes : List Node) (a : Areas) (st : Step) (t : Bool) (x : Result) → cond t (settled (resultOf nodes a st)) free ≡ settled x → isAccepted (x .verdict) ≡ false → x .areas ≡ a
+settled-refused : (nodes : List Node) (a : Areas) (st : Step) (t : Bool) (x : Result) → cond t (settled (resultOf nodes a st)) (free (length nodes)) ≡ settled x → isAccepted (x .verdict) ≡ false → x .areas ≡ a
 unfolding resultOf
 settled-refused nodes a st true x e f =
     let same : resultOf nodes a st ≡ x = ap result e in
@@ -23,7 +24,7 @@ settled-refused nodes a st true x e f =
   where
     result : Promise → Result
     result (settled y) = y
-    result free = x
+    result (free n) = x
 settled-refused nodes a st false x e f = let z : _≡_ {A = ℕ} 0 1 = cc in absurd (omega arith)
 
 pub refused-keeps : (net batch : Bytes) (a : Areas) (r : Result) → Applied net batch a r → isAccepted (r .verdict) ≡ false → r .areas ≡ a
@@ -36,7 +37,7 @@ refused-keeps net batch a r m e = keeps-refused (applyPromise net batch a) a r g
       where
         areas-of : Promise → Areas
         areas-of (settled y) = y .areas
-        areas-of free = a
+        areas-of (free n) = a
 
     go : (x : Result) → applyPromise net batch a ≡ settled x → isAccepted (x .verdict) ≡ false → x .areas ≡ a
     go x f g = part (isAccepted (formVerdict net a)) x f g

@@ -56,7 +56,7 @@ module _ (net : Bytes) (accepts : readNetwork net .verdict .number ≡ 0) where
       let g : goodForm layout (nodesIn net) a ≡ true = and-first (goodForm layout ns a) (sameRelations (rowsIn layout ns a) (evaluate ns (tablesOf ns (rowsIn layout ns a)))) c in
       let ok : isAccepted (formVerdict net a) ≡ true = ap isAccepted (form-passes a l g) in
       ap (λ (t : Bool). cond t (promiseOf ns a (step ns (stateIn layout ns a) b)) (settled (record { verdict = formVerdict net a; areas = a }))) ok
-      ∙ ap (λ (t : Bool). cond (t || within 9 13 (step ns (stateIn layout ns a) b .verdict .number)) (settled (resultOf ns a (step ns (stateIn layout ns a) b))) free) c
+      ∙ ap (λ (t : Bool). cond (t || within 9 13 (step ns (stateIn layout ns a) b .verdict .number)) (settled (resultOf ns a (step ns (stateIn layout ns a) b))) (free (length ns))) c
 
   module _ (s : State) (before a : Areas) (h : Held (nodesIn net) s before a) where
     long : longEnough layout a ≡ true
@@ -267,7 +267,7 @@ demand-words net a calls results z run =
 -- some result keeps a promise
 keeps-some : (p : Promise) (a : Areas) → (r : Result) × Keeps p a r
 keeps-some (settled x) a = (x, refl)
-keeps-some free a =
+keeps-some (free n) a =
     (record { verdict = accepted; areas = a }, freelyAccepted refl (record { rows-length = refl; rows = refl; gained-length = refl; gained = refl; lost-length = refl; lost = refl; head-length = refl; head = refl }))
 
 meets-some : (net : Bytes) (c : Call) (a : Areas) → (r : Result) × Meets net c a r

@@ -24,7 +24,7 @@ last-holds false false false true e h = absurd (omega arith)
 last-holds false false false false true h = refl
 last-holds false false false false false h = absurd (omega arith)
 
-fault-fits : (ws signs : List ℕ) (bs : Bytes) (at : ℕ) → recordFault ws signs bs at ≡ 0 → itemFits ws signs (itemAt (kindNumbered (kindAt bs at)) bs at) ≡ true
+pub fault-fits : (ws signs : List ℕ) (bs : Bytes) (at : ℕ) → recordFault ws signs bs at ≡ 0 → itemFits ws signs (itemAt (kindNumbered (kindAt bs at)) bs at) ≡ true
 unfolding recordFault
 fault-fits ws signs bs at e =
     let kind : Kind = kindNumbered (kindAt bs at) in
@@ -134,7 +134,7 @@ rules-hold false false true d e h = absurd (omega arith)
 rules-hold false false false false e h = absurd (omega arith)
 rules-hold false false false true e h = (refl, refl)
 
-fault-shape : (ws signs : List ℕ) (bs : Bytes) (at : ℕ) → recordFault ws signs bs at ≡ 0 → ((not (isWatch (kindNumbered (kindAt bs at))) && leb maxNodes (length ws)) ≡ false) × (hasShape (kindNumbered (kindAt bs at)) bs at ≡ true)
+pub fault-shape : (ws signs : List ℕ) (bs : Bytes) (at : ℕ) → recordFault ws signs bs at ≡ 0 → ((not (isWatch (kindNumbered (kindAt bs at))) && leb maxNodes (length ws)) ≡ false) × (hasShape (kindNumbered (kindAt bs at)) bs at ≡ true)
 unfolding recordFault
 fault-shape ws signs bs at e =
     let kind : Kind = kindNumbered (kindAt bs at) in
@@ -176,7 +176,7 @@ item-narrow (setKind o) ws signs bs at h f narrow = narrow (fieldAt bs at 0)
 item-narrow watchKind ws signs bs at h f narrow = zero-le
 
 -- a watch comes at any time, a node after fewer than 32
-item-room : (kind : Kind) (ws : List ℕ) (bs : Bytes) (at : ℕ) → (not (isWatch kind) && leb maxNodes (length ws)) ≡ false → (n : Node) → itemAt kind bs at ≡ nodeItem n → length ws < 32
+pub item-room : (kind : Kind) (ws : List ℕ) (bs : Bytes) (at : ℕ) → (not (isWatch kind) && leb maxNodes (length ws)) ≡ false → (n : Node) → itemAt kind bs at ≡ nodeItem n → length ws < 32
 unfolding itemAt
 item-room unknownKind ws bs at e n f = leb-false 32 (length ws) e
 item-room tableKind ws bs at e n f = leb-false 32 (length ws) e
@@ -187,14 +187,15 @@ item-room joinKind ws bs at e n f = leb-false 32 (length ws) e
 item-room (setKind o) ws bs at e n f = leb-false 32 (length ws) e
 item-room watchKind ws bs at e n f = let z : _≡_ {A = ℕ} 0 1 = cc in absurd (omega arith)
 
+-- one number more that is at most m
+pub most-more : (l : List ℕ) (x m : ℕ) → ((j : ℕ) → getD l j 0 ≤ m) → x ≤ m → (k : ℕ) → getD (l ++ (x ∷ [])) k 0 ≤ m
+most-more [] x m f g zero = g
+most-more [] x m f g (suc k) = zero-le
+most-more (y ∷ l) x m f g zero = f 0
+most-more (y ∷ l) x m f g (suc k) = most-more l x m (λ j. f (suc j)) g k
+
 widths-narrow : (nodes : List Node) (n : Node) → ((i : ℕ) → getD (widths nodes) i 0 ≤ 4) → widthOf n (widths nodes) ≤ 4 → (i : ℕ) → getD (widths (nodes ++ (n ∷ []))) i 0 ≤ 4
-widths-narrow nodes n h g i = rw (widths-more nodes n) (go (widths nodes) i h)
-  where
-    go : (l : List ℕ) (k : ℕ) → ((j : ℕ) → getD l j 0 ≤ 4) → getD (l ++ (widthOf n (widths nodes) ∷ [])) k 0 ≤ 4
-    go [] zero f = g
-    go [] (suc k) f = zero-le
-    go (x ∷ l) zero f = f 0
-    go (x ∷ l) (suc k) f = go l k (λ j. f (suc j))
+widths-narrow nodes n h g i = rw (widths-more nodes n) (most-more (widths nodes) (widthOf n (widths nodes)) 4 h g i)
 
 small-more : (net : Network) (item : Item) → Small (net .nodes) → ((n : Node) → item ≡ nodeItem n → length (widths (net .nodes)) < 32) → widthIs item (widths (net .nodes)) ≤ 4 → Small (withItem net item .nodes)
 unfolding widthIs

@@ -6,3 +6,4 @@ pub mod Delta
 pub mod Fits
 pub mod Parts
 pub mod Events
+pub mod Bounds

@@ -2,7 +2,7 @@
 use mathlib.Core.Path.{_≡_}
 use mathlib.Core.Bool.{Bool, true, false, not, _&&_, _||_, cond}
 use mathlib.Core.List.{List, [], _∷_, _++_, map, flatMap}
-use Prim.Native.Nat.{ℕ, _+_, _*_}
+use Prim.Native.Nat.{ℕ, _+_, _*_, _<_}
 use lib.Dec.{leb, ltb, eqb}
 use lib.ListN.{getD, length, drop}
 use Rattle.model.specs.Row.{Row, Relation, maxNodes}
@@ -70,10 +70,10 @@ openCall net a = record { verdict = openVerdict net a; areas = cond (isAccepted 
 
 -- ---- the batch call: 1 to 14
 
--- what a call settles: its whole result, or that the result is free as far as `Free` says
+-- what a call settles: its whole result, or that the result is free as far as `Free` says, for a network of so many nodes
 pub data Promise : Type 0 where
   settled : Result → Promise
-  free : Promise
+  free : ℕ → Promise
 
 -- the result that the plain station's step gives: its state in the areas, or the areas as they were
 unfoldable pub resultOf : List Node → Areas → Step → Result
@@ -83,7 +83,7 @@ resultOf nodes a st = record { verdict = st .verdict; areas = cond (isAccepted (
 -- "Something is free only for a batch on good-form areas that aren't coherent, once 9 to 13 are passed"
 unfoldable pub promiseOf : List Node → Areas → Step → Promise
 unfolding coherent resultOf
-promiseOf nodes a st = cond (coherent layout nodes a || within 9 13 (st .verdict .number)) (settled (resultOf nodes a st)) free
+promiseOf nodes a st = cond (coherent layout nodes a || within 9 13 (st .verdict .number)) (settled (resultOf nodes a st)) (free (length nodes))
 
 -- 1 to 8, then what the plain station does from the state that the areas hold
 unfoldable pub applyPromise : Bytes → Bytes → Areas → Promise
@@ -94,15 +94,16 @@ applyPromise net batch a =
     cond (isAccepted (formVerdict net a)) promise (settled (record { verdict = formVerdict net a; areas = a }))
 
 -- the free part: "the choice between acceptance and 14, 14's place, and the words after acceptance.
--- There the outcome is one of these two, 14 writes nothing, and no word past the named ones changes"
-pub data Free (a : Areas) (r : Result) : Type 0 where
-  freelyAccepted : r .verdict ≡ accepted → KeepsRest layout a (r .areas) → Free a r
-  freelyRefused : r .verdict .number ≡ 14 → r .areas ≡ a → Free a r
+-- There the outcome is one of these two, 14 writes nothing, and no word past the named ones changes".
+-- 14's place is a node all the same ("the node for 14"): it is below n, the number of nodes.
+pub data Free (n : ℕ) (a : Areas) (r : Result) : Type 0 where
+  freelyAccepted : r .verdict ≡ accepted → KeepsRest layout a (r .areas) → Free n a r
+  freelyRefused : r .verdict .number ≡ 14 → r .verdict .place < n → r .areas ≡ a → Free n a r
 
 -- a result keeps a promise: it is the settled one, or it stays within what is free
 abbrev pub Keeps : Promise → Areas → Result → Type 0
 Keeps (settled expected) a r = r ≡ expected
-Keeps free a r = Free a r
+Keeps (free n) a r = Free n a r
 
 -- the batch call's promise
 abbrev pub Applied : Bytes → Bytes → Areas → Result → Type 0

@@ -1,7 +1,7 @@
 -- Records in bytes: document 01, "Records" ("House format, little-endian"), and the rule that 3 and 10 share.
 use mathlib.Core.Bool.{Bool, true, false, _||_, cond}
 use mathlib.Core.List.{List, [], _∷_, _++_}
-use Prim.Native.Nat.{ℕ, zero, suc, _+_, _-_, _*_, _/_, _%_}
+use Prim.Native.Nat.{ℕ, zero, suc, _+_, _-_, _*_, _/_, _%_, _<_}
 use lib.Dec.{leb, ltb, eqb}
 use lib.ListN.{getD, length}
 
@@ -82,6 +82,11 @@ refused number place = record { number = number; place = place }
 -- the number is 0
 abbrev pub isAccepted : Verdict → Bool
 isAccepted v = eqb (v .number) 0
+
+-- a verdict fits an answer of 64 bits: its number is below 27, and its place fits 32 bits
+pub record SmallVerdict (v : Verdict) : Type 0 where
+  pub number : v .number < 27
+  pub place : v .place < 4294967296
 
 -- a rule's number, and whether it is broken
 pub record Rule : Type 0 where

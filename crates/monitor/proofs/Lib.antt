@@ -1,3 +1,4 @@
 pub mod Forms
 pub mod Checks
 pub mod Reported
+pub mod Sizes

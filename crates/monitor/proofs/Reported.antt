@@ -27,7 +27,7 @@ use Rattle.network.specs.declared.Reading.{Reading}
 use Rattle.monitor.proofs.Forms.{or-accepted, or-refused}
 use Rattle.model.specs.Network as model
 
-zip-at : (a b : List Relation) (i : ℕ) → i < length a → i < length b → changeAt (zipWith (λ g l. record { gained = g; lost = l }) a b) i ≡ record { gained = getD a i []; lost = getD b i [] }
+pub zip-at : (a b : List Relation) (i : ℕ) → i < length a → i < length b → changeAt (zipWith (λ g l. record { gained = g; lost = l }) a b) i ≡ record { gained = getD a i []; lost = getD b i [] }
 unfolding zipWith
 zip-at [] b i h g = absurd (not-suc-le-zero h)
 zip-at (x ∷ a) [] i h g = absurd (not-suc-le-zero g)

@@ -1,8 +1,11 @@
 use borrow.Author.Needs.{needs}
-use mathlib.Core.Path.{_∙_, ap}
+use mathlib.Core.Path.{subst}
+use native.Mathlib.Omega.{arith}
 use Rattle.bagwezin.proofs.bagwezin_check.Statement.{statement}
 use Rattle.model.specs.Calls.{CheckAnswer}
-use Rattle.bagwezin.specs.Answers.{packed, bit}
+use Rattle.areas.specs.Lent.{lent}
+use Rattle.bagwezin.specs.Answers.{AnswersCheck}
+use Rattle.bagwezin.proofs.Packed.{check-fits, bit-small}
 use Rattle.bagwezin.proofs.bagwezin_check.Tie as tie
 use Rattle.bagwezin.proofs.bagwezin_check.Reads as reads
 use Rattle.bagwezin.proofs.bagwezin_check.Lts as lts
@@ -16,10 +19,13 @@ cast-pack : tie.Need-cast-pack
 cast-pack c = search needs
 
 pack-requires : tie.Need-pack-requires
-pack-requires c κs = search needs
+pack-requires c κs =
+    let a = c .before .before .before .before .before .before .before .args in
+    let call = c .before in
+    (check-fits (a .net .now) (λ i. omega (arith, c .before .before .before .before .before .before .shared-slice-known .given i)) (lent (a .rows .now) (a .gained .now) (a .lost .now) (a .head .now)) _ (call .check .ensures), bit-small (call .check .result .yes))
 
 returns : tie.Need-returns
-returns c = c .pack .ensures ∙ ap (λ (x : CheckAnswer). packed (x .verdict) (bit (x .yes?))) (c .before .before .check .ensures)
+returns c = subst (λ (x : CheckAnswer). AnswersCheck x (c .pack .result)) (c .before .before .check .ensures) (c .pack .ensures)
 
 pub bagwezin-check-spec : {M : Type 1} → statement M
 bagwezin-check-spec = tie.close (tie.spec check-requires cast-pack pack-requires returns)

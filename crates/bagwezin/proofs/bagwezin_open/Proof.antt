@@ -1,8 +1,12 @@
 use borrow.Author.Needs.{needs}
-use mathlib.Core.Path.{_∙_, ap}
+use mathlib.Core.Path.{ap, subst}
+use native.Mathlib.Omega.{arith}
 use Rattle.bagwezin.proofs.bagwezin_open.Statement.{statement}
 use Rattle.model.specs.Calls.{Result}
-use Rattle.bagwezin.specs.Answers.{packed}
+use Rattle.areas.specs.Lent.{lent}
+use Rattle.batch.specs.Applying.{resultWith}
+use Rattle.bagwezin.specs.Answers.{Answers}
+use Rattle.bagwezin.proofs.Packed.{open-fits}
 use Rattle.bagwezin.proofs.bagwezin_open.Tie as tie
 use Rattle.bagwezin.proofs.bagwezin_open.Reads as reads
 use Rattle.bagwezin.proofs.bagwezin_open.Lts as lts
@@ -13,7 +17,10 @@ open-requires : tie.Need-open-requires
 open-requires c κs = search needs
 
 pack-requires : tie.Need-pack-requires
-pack-requires c κs = search needs
+pack-requires c κs =
+    let a = c .before .before .before .before .before .before .before .before .before .before .before .before .before .before .before .before .before .before .args in
+    let call = c .before .before .before .before .before .before .before .before in
+    (open-fits (a .net .now) (λ i. omega (arith, c .before .before .before .before .before .before .before .before .before .before .before .before .before .before .before .before .before .shared-slice-known .given i)) (lent (a .rows .now) (a .gained .now) (a .lost .now) (a .head .now)) _ (call .«open» .ensures), omega arith)
 
 same-length : tie.Need-same-length
 same-length c = search needs
@@ -28,7 +35,9 @@ same-length-4 : tie.Need-same-length-4
 same-length-4 c = search needs
 
 returns : tie.Need-returns
-returns c = (c .pack .ensures ∙ ap (λ (x : Result). packed (x .verdict) 0) (c .before .before .before .before .before .before .before .before .before .«open» .ensures), ap (λ (x : Result). x .areas) (c .before .before .before .before .before .before .before .before .before .«open» .ensures))
+returns c =
+    let call = c .before .before .before .before .before .before .before .before .before in
+    (subst (λ (x : Result). Answers (x .verdict) 0 (c .pack .result)) (call .«open» .ensures) (c .pack .ensures), ap (λ (x : Result). x .areas) (call .«open» .ensures))
 
 pub bagwezin-open-spec : {M : Type 1} → statement M
 bagwezin-open-spec =
