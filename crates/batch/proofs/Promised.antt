@@ -8,7 +8,6 @@ use lib.ListN.{length, length-append, drop, length-drop}
 use native.Mathlib.Omega.{arith}
 use lib.Seq.{drop-at}
 use borrow.Author.Tests.{eq-eqb, ne-eqb}
-use native.Mathlib.Nat.{zero-add}
 use Rattle.model.specs.Network.{Node, within, AllFit, widths}
 use Rattle.model.specs.Areas.{Areas, holding, layout, coherent, over, stateIn, batchNumber, rowsIn, tablesOf, goodForm, sameRelations, stampAt, headOf, KeepsRest, areaOf}
 use Rattle.model.specs.Station.{Step, State, limit, refusedStep, advance, step, lastNumber, applyEvents}
@@ -21,16 +20,16 @@ use Rattle.areas.specs.Lent.{lent}
 use Rattle.network.specs.Reading.{nodesOf}
 use Rattle.model.specs.Batch.{readBatch}
 use Rattle.states.proofs.Batches.{batch-within}
-use Rattle.propagation.specs.Propagated.{Ready, tablesAfter, newRows, WorkedTo, working}
+use Rattle.propagation.specs.Propagated.{Ready, tablesAfter, newRows, WorkedTo, working, limitVerdict}
 use Rattle.coherence.specs.Held.{rowsHeld}
-use Rattle.model.specs.Evaluation.{overfull, evaluate, rowsAt}
+use Rattle.model.specs.Evaluation.{overfull, evaluate}
 use Rattle.evaluation.proofs.Fresh.{same-eq}
 use Rattle.model.proofs.Sets.{and-second}
-use Rattle.propagation.proofs.News.{new-fresh, new-length}
+use Rattle.propagation.proofs.News.{new-fresh}
 use Rattle.coherence.proofs.Coherent.{nodes-count, rows-length}
-use Rattle.states.proofs.Tables.{first-over, all-under}
+use Rattle.states.proofs.Tables.{all-under}
 use Rattle.states.proofs.Written.{Fitting, area-length}
-use Rattle.propagation.proofs.Network.{new-fits}
+use Rattle.propagation.proofs.Network.{new-fits, new-many as news-many}
 use Rattle.transition.specs.Written.{WorkedOut, nextState, holdingRows}
 use Rattle.areas.proofs.Good.{long-parts}
 use Rattle.transition.proofs.Out.{changes-count, gained-fit, lost-fit}
@@ -69,6 +68,11 @@ limit-over nodes s copy i list = refl
 limit-under : (nodes : List Node) (s : State) (copy : List Relation) → limit nodes s copy [] ≡ record { verdict = accepted; state = advance nodes s copy }
 unfolding limit
 limit-under nodes s copy = refl
+
+-- a refusal names the first of the list
+limit-first : (list : List ℕ) (i : ℕ) → refused 14 i ≡ limitVerdict list → (rest : List ℕ) × (list ≡ i ∷ rest)
+limit-first [] i e = let z : _≡_ {A = ℕ} 14 0 = ap (λ (v : Verdict). v .number) e in absurd (omega arith)
+limit-first (j ∷ list) i e = (list, ap (λ (v : Verdict). v .place ∷ list) (sym e))
 
 or-last : (t : Bool) → (t || true) ≡ true
 or-last true = refl
@@ -152,17 +156,19 @@ module _ (net : Network) (bs : Bytes) (rows gained lost head : List ℕ) (can : 
     now-fresh c = new-fresh (nodesOf net) fit (rowsHeld net rows head) (tablesAfter net rows head bs) (tablesOf (nodesOf net) (rowsHeld net rows head)) (old-fresh c)
 
     new-many : length (newRows net rows head bs) ≡ net .count
-    new-many = new-length (nodesOf net) fit (rowsHeld net rows head) (tablesAfter net rows head bs) ∙ nodes-count net (can .checkable .built)
+    new-many = news-many net rows head bs ready
 
-    -- the lowest node with too many rows
-    pub over-refused : (i : ℕ) → i < net .count → 64 < length (rowsAt (newRows net rows head bs) i) → ((j : ℕ) → j < i → length (rowsAt (newRows net rows head bs) j) ≤ 64) → AppliedTo net bs (lent rows gained lost head) (record { verdict = refused 14 i; areas = lent rows gained lost head })
-    over-refused i h o under = go (coherent layout (nodesOf net) a) refl
+    -- rule 14
+    pub over-refused : (v : Verdict) (i : ℕ) → v ≡ refused 14 i → v ≡ limitVerdict (overfull 0 (newRows net rows head bs)) →
+        AppliedTo net bs (lent rows gained lost head) (record { verdict = v; areas = lent rows gained lost head })
+    over-refused v i e f = rw e (go (coherent layout (nodesOf net) a) refl)
       where
         go : (t : Bool) → coherent layout (nodesOf net) a ≡ t → AppliedTo net bs (lent rows gained lost head) (record { verdict = refused 14 i; areas = lent rows gained lost head })
         go true c =
-            let first : (rest : List ℕ) × (overfull 0 (newRows net rows head bs) ≡ (0 + i) ∷ rest) = first-over 0 (newRows net rows head bs) i (rw new-many h) o under in
-            let list : overfull 0 (evaluate (nodesOf net) (tablesAfter net rows head bs)) ≡ i ∷ first .0 = ap (overfull 0) (sym (now-fresh c)) ∙ first .1 ∙ ap (λ (k : ℕ). k ∷ first .0) (zero-add i) in
-            let is : st ≡ refusedStep (refused 14 i) s = step-is ∙ ap (limit (nodesOf net) s (tablesAfter net rows head bs)) list ∙ limit-over (nodesOf net) s (tablesAfter net rows head bs) i (first .0) in
+            let first : (rest : List ℕ) × (overfull 0 (newRows net rows head bs) ≡ i ∷ rest) = limit-first (overfull 0 (newRows net rows head bs)) i (sym e ∙ f) in
+            let list : overfull 0 (evaluate (nodesOf net) (tablesAfter net rows head bs)) ≡ i ∷ first .0 = ap (overfull 0) (sym (now-fresh c)) ∙ first .1 in
+            let past = limit-over (nodesOf net) s (tablesAfter net rows head bs) i (first .0) in
+            let is : st ≡ refusedStep (refused 14 i) s = step-is ∙ ap (limit (nodesOf net) s (tablesAfter net rows head bs)) list ∙ past in
             settles (nodesOf net) (lent rows gained lost head) st true c refl (record { verdict = refused 14 i; areas = lent rows gained lost head })
             (sym (ap (resultOf (nodesOf net) (lent rows gained lost head)) is ∙ result-refused (nodesOf net) (lent rows gained lost head) (refusedStep (refused 14 i) s) refl))
         go false c = frees (nodesOf net) (lent rows gained lost head) st c number-free (record { verdict = refused 14 i; areas = lent rows gained lost head }) (freelyRefused refl (rw (nodes-count net (can .checkable .built)) h) refl)
@@ -224,8 +230,9 @@ module _ (net : Network) (bs : Bytes) (rows gained lost head : List ℕ) (can : 
       held c =
           ap₂ {A = List Relation} {B = List Relation} {C = Areas} (λ x y. holdingRows y (nextState (nodesOf net) s (tablesAfter net rows head bs) x y) a) (old-fresh c) (now-fresh c)
 
-      pub accepted-kept : (after : Areas) → after ≡ holdingRows (newRows net rows head bs) next (lent rows gained lost head) → AppliedTo net bs (lent rows gained lost head) (record { verdict = accepted; areas = after })
-      accepted-kept after e = rw e (go (coherent layout (nodesOf net) a) refl)
+      pub accepted-kept : (v : Verdict) (after : Areas) → v ≡ accepted → after ≡ holdingRows (newRows net rows head bs) next (lent rows gained lost head) →
+          AppliedTo net bs (lent rows gained lost head) (record { verdict = v; areas = after })
+      accepted-kept v after f e = rw (f, e) (go (coherent layout (nodesOf net) a) refl)
         where
           go : (t : Bool) → coherent layout (nodesOf net) a ≡ t → AppliedTo net bs (lent rows gained lost head) (record { verdict = accepted; areas = holdingRows (newRows net rows head bs) next (lent rows gained lost head) })
           go true c =

@@ -28,19 +28,12 @@ fn advance(
     let mut work = [0u32; AREA];
     let mut counts = [0u32; NODES];
     let mut changed = [false; NODES];
-    match propagation::propagate(net, bytes, rows, head, &mut work, &mut counts, &mut changed) {
-        Propagated::Over(node) => Verdict {
-            number: 14,
-            place: node,
-        },
-        Propagated::All => {
-            transition::write_state(net, &work, &counts, &changed, rows, gained, lost, head);
-            Verdict {
-                number: 0,
-                place: 0,
-            }
-        }
-    }
+    let done = propagation::propagate(net, bytes, rows, head, &mut work, &mut counts, &mut changed);
+    let Propagated::All = done else {
+        return propagation::verdict_of(done);
+    };
+    transition::write_state(net, &work, &counts, &changed, rows, gained, lost, head);
+    propagation::verdict_of(done)
 }
 
 // A batch applied to areas of good form: refusals 9 to 14, or the next state.

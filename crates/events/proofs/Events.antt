@@ -2,6 +2,10 @@
 use mathlib.Core.Bool.{_&&_, Bool, cond, false, not, true, _||_}
 use mathlib.Core.List.{_++_, List, [], _∷_}
 use mathlib.Core.Path.{_≡_, ap, ap₂, refl, sym, _∙_}
+use mathlib.Core.Logic.{inl, inr}
+use denote.Enum.Declared.{tagOf}
+use types.Run.{OneOf}
+use Rattle.events.proofs.EventRecord.{the-type}
 use Prim.Native.Nat.{_*_, _+_, _<_, suc, ℕ, _≤_}
 use native.Mathlib.Omega.{arith}
 use lib.Dec.{eqb, leb, ltb}
@@ -11,7 +15,9 @@ use Rattle.network.specs.Reading.{Built, noSlot, nodesOf, slotNode}
 use Rattle.model.specs.Record.{Bytes, Verdict, accepted, fieldAt, firstBroken, isBroken, kindAt, lengthAt, offsets, refused, rule}
 use Rattle.model.specs.Batch.{Event, eventAt, eventFault, eventFits, maxEvents, readBatch, readEvents}
 use Rattle.records.proofs.Header.{Whole, whole}
-use Rattle.events.specs.Reading.{eventFaultIn, eventFitsIn}
+use Rattle.events.specs.Reading.{ReadsEvent, eventFaultIn, eventFitsIn, numberOf, sizeOf}
+use Rattle.events.specs.declared.EventRecord.{EventRecord}
+use Rattle.events.specs.declared.EventRecord.the-variants.{Event as Brought, Broken, NoEvent, TooMany, Misfit}
 use Rattle.coherence.proofs.Coherent.{level-at, nodes-count, slot-node, width-is}
 use Rattle.records.proofs.Offsets.{remaining, remaining-all, remaining-broken, remaining-none, remaining-whole}
 use Rattle.network.specs.declared.Network.{Network}
@@ -32,25 +38,31 @@ module _ (a b c d : Bool) where
   pub fits-last : a ≡ true → b ≡ true → c ≡ true → d ≡ (a && b && c && d)
   fits-last e f g = rw (e, f, g)
 
-module _ (a b c d : Bool) where
-  -- the number of the first rule broken
-  abbrev first : ℕ
-  first = firstBroken (rule 10 a ∷ rule 11 (not b) ∷ rule 12 c ∷ rule 13 (not d) ∷ [])
+module _ (count : ℕ) (ws ls : List ℕ) (before : ℕ) (bs : Bytes) (at : ℕ) where
+  -- its kind is one of events
+  abbrev pub eventKind : Bool
+  eventKind = eqb (kindAt bs at) 32 || eqb (kindAt bs at) 33
 
-  pub fault-10 : a ≡ true → 10 ≡ first
-  fault-10 e = rw e
+  abbrev Reads : EventRecord → Type 0
+  Reads r = ReadsEvent count ws ls before bs at r
 
-  pub fault-11 : a ≡ false → b ≡ false → 11 ≡ first
-  fault-11 e f = rw (e, f)
+  abbrev Fits : Bool
+  Fits = eventFitsIn count ws ls bs at
 
-  pub fault-12 : a ≡ false → b ≡ true → c ≡ true → 12 ≡ first
-  fault-12 e f g = rw (e, f, g)
+  pub reads-broken : isBroken bs at ≡ true → Reads Broken
+  reads-broken e = record { number = rw e; size = λ z. absurd (omega arith) }
 
-  pub fault-13 : a ≡ false → b ≡ true → c ≡ false → d ≡ false → 13 ≡ first
-  fault-13 e f g h = rw (e, f, g, h)
+  pub reads-no-event : isBroken bs at ≡ false → eventKind ≡ false → Reads NoEvent
+  reads-no-event e f = record { number = rw (e, f); size = λ z. absurd (omega arith) }
 
-  pub fault-none : a ≡ false → b ≡ true → c ≡ false → d ≡ true → 0 ≡ first
-  fault-none e f g h = rw (e, f, g, h)
+  pub reads-too-many : isBroken bs at ≡ false → eventKind ≡ true → leb maxEvents before ≡ true → Reads TooMany
+  reads-too-many e f g = record { number = rw (e, f, g); size = λ z. absurd (omega arith) }
+
+  pub reads-misfit : isBroken bs at ≡ false → eventKind ≡ true → leb maxEvents before ≡ false → Fits ≡ false → Reads Misfit
+  reads-misfit e f g h = record { number = rw (e, f, g, h); size = λ z. absurd (omega arith) }
+
+  pub reads-event : (n : ℕ) → isBroken bs at ≡ false → eventKind ≡ true → leb maxEvents before ≡ false → Fits ≡ true → n ≡ lengthAt bs at → Reads (Brought n)
+  reads-event n e f g h i = record { number = rw (e, f, g, h); size = λ z. i }
 
 -- ---- the network's numbers are those of its nodes
 
@@ -84,9 +96,27 @@ module _ (net : Network) (b : Built net) (bs : Bytes) where
           both true q r s u = refl
           both false q r s u = refl
 
-  pub fault-same : (before at : ℕ) → eventFaultIn (net .count) (net .widths) (net .levels) before bs at ≡ eventFault (nodesOf net) before bs at
+  fault-same : (before at : ℕ) → eventFaultIn (net .count) (net .widths) (net .levels) before bs at ≡ eventFault (nodesOf net) before bs at
   unfolding eventFault
   fault-same before at = ap (λ (f : Bool). firstBroken (rule 10 (isBroken bs at) ∷ rule 11 (not (eqb (kindAt bs at) 32 || eqb (kindAt bs at) 33)) ∷ rule 12 (leb maxEvents before) ∷ rule 13 (not f) ∷ [])) (fits-same at)
+
+  -- a reading by the arrays says what the rules say of the nodes
+  pub reads-number : (before at : ℕ) (r : EventRecord) → ReadsEvent (net .count) (net .widths) (net .levels) before bs at r → numberOf r ≡ eventFault (nodesOf net) before bs at
+  reads-number before at r e = e .number ∙ fault-same before at
+
+  pub reads-size : (before at : ℕ) (r : EventRecord) (n : ℕ) → ReadsEvent (net .count) (net .widths) (net .levels) before bs at r → r ≡ Brought n → n ≡ lengthAt bs at
+  reads-size before at r n e f = sym (ap sizeOf f) ∙ e .size (ap numberOf f)
+
+-- what is no event has a number
+pub refused-number : (r : EventRecord) → OneOf (1 ∷ 2 ∷ 3 ∷ 4 ∷ []) (tagOf the-type r) → numberOf r ≡ 0 → ⊥
+refused-number (Brought n) (inl k) e = omega arith
+refused-number (Brought n) (inr (inl k)) e = omega arith
+refused-number (Brought n) (inr (inr (inl k))) e = omega arith
+refused-number (Brought n) (inr (inr (inr k))) e = omega arith
+refused-number Broken k e = omega arith
+refused-number NoEvent k e = omega arith
+refused-number TooMany k e = omega arith
+refused-number Misfit k e = omega arith
 
 -- ---- record after record
 

@@ -8,7 +8,7 @@ ghost use Rattle.model.specs.Record.{kindAt, isBroken};
 ghost use Rattle.model.specs.Batch.{readBatch};
 ghost use Rattle.nodes.specs.Nodes.{Narrow};
 ghost use Rattle.network.specs.Reading.{verdictOf, nodesOf, Built};
-ghost use Rattle.events.specs.Reading.{eventFitsIn, eventFaultIn};
+ghost use Rattle.events.specs.Reading.{eventFitsIn, ReadsEvent, numberOf};
 use network::Network;
 use network::Verdict;
 
@@ -48,31 +48,53 @@ fn is_event(kind: usize) -> bool
     kind == REMOVE
 }
 
-// The number of the first rule that the record at an offset breaks, 0 if none, after so many events.
-fn event_fault(
+// What reading a batch's record gives: an event of so many bytes, or the first rule that it breaks.
+pub enum EventRecord {
+    Event(usize),
+    Broken,
+    NoEvent,
+    TooMany,
+    Misfit,
+}
+
+// The record at an offset, after so many events: rules 10 to 13 in order.
+fn read_event(
     bytes: &[u8],
     at: usize,
     before: usize,
     count: usize,
     widths: &[usize],
     levels: &[usize],
-) -> usize
+) -> EventRecord
     requires { ⌜ (at < length (now bytes)) × (count ≤ length (now widths)) × (count ≤ length (now levels)) × (count ≤ 32) × Narrow (now widths) ⌝ }
-    ensures { λ r. ⌜ r ≡ eventFaultIn count (now (widths .entry)) (now (levels .entry)) before (now (bytes .entry)) at ⌝ }
+    ensures { λ r. ⌜ ReadsEvent count (now (widths .entry)) (now (levels .entry)) before (now (bytes .entry)) at r ⌝ }
 {
     if records::is_broken(bytes, at) {
-        return 10;
+        return EventRecord::Broken;
     }
     if !is_event(records::u16_at(bytes, at + 2)) {
-        return 11;
+        return EventRecord::NoEvent;
     }
     if MAX_EVENTS <= before {
-        return 12;
+        return EventRecord::TooMany;
     }
     if !event_fits(bytes, at, count, widths, levels) {
-        return 13;
+        return EventRecord::Misfit;
     }
-    0
+    EventRecord::Event(records::u16_at(bytes, at))
+}
+
+// The number of an event's reading.
+fn number_of(reading: EventRecord) -> usize
+    ensures { λ r. ⌜ r ≡ numberOf reading ⌝ }
+{
+    match reading {
+        EventRecord::Event(_) => 0,
+        EventRecord::Broken => 10,
+        EventRecord::NoEvent => 11,
+        EventRecord::TooMany => 12,
+        EventRecord::Misfit => 13,
+    }
 }
 
 // What reading a batch says: refusals 10 to 13, the first record that fails decides.
@@ -86,15 +108,15 @@ pub fn read_batch(net: Network, bytes: &[u8]) -> Verdict
     let mut at = 0;
     while at < bytes.len() {
         let here = at;
-        let fault = event_fault(bytes, here, before, count, &net.widths, &levels);
-        if fault != 0 {
+        let reading = read_event(bytes, here, before, count, &net.widths, &levels);
+        let EventRecord::Event(size) = reading else {
             return Verdict {
-                number: fault,
+                number: number_of(reading),
                 place: here,
             };
-        }
+        };
         before += 1;
-        at = here + records::u16_at(bytes, here);
+        at = here + size;
     }
     Verdict {
         number: 0,

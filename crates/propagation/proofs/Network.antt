@@ -1,5 +1,5 @@
 -- All nodes worked, one after the other, from areas of good form. Assumes nothing.
-use mathlib.Core.List.{List, []}
+use mathlib.Core.List.{List, [], _∷_}
 use Prim.Native.Nat.{ℕ, _<_, _≤_, _+_, zero, suc}
 use lib.ListN.{length, getD, replicate, length-replicate}
 use mathlib.Core.Path.{_≡_, _∙_, refl, sym, ap, ap₂}
@@ -7,24 +7,25 @@ use lib.Dec.{ltb, eqb}
 use mathlib.Core.Bool.{Bool, true, false, not, cond, _||_}
 use borrow.Author.Tests.{ltb-true, ltb-false, eqb-true, eqb-false}
 use native.Mathlib.Omega.{arith}
-use native.Mathlib.Nat.{le-refl, not-suc-le-zero}
+use native.Mathlib.Nat.{le-refl, not-suc-le-zero, zero-add}
 use Rattle.model.specs.Network.{Node, AllFit, widths, nodeAt, isTable, table}
 use Rattle.network.specs.declared.Network.{Network}
-use Rattle.model.specs.Record.{Bytes, offsets}
-use Rattle.propagation.specs.Propagated.{Ready, tablesAfter, newRows, Working, working, Worked, Present, presentRows, presentPlace, changedIn, WorkedTo, Workable, inputChanged, nextRows, WorksNode}
+use Rattle.model.specs.Record.{Bytes, Verdict, refused, offsets}
+use Rattle.propagation.specs.Propagated.{Ready, tablesAfter, newRows, Working, working, Worked, Present, presentRows, presentPlace, changedIn, WorkedTo, Workable, inputChanged, nextRows, WorksNode, limitVerdict, Propagates}
+use Rattle.propagation.specs.declared.Propagated.the-variants.{All, Over}
 use Rattle.network.specs.Reading.{nodesOf, Built, noSlot, slotNode}
 use Rattle.model.specs.Row.{Relation, ascending, sameRows, place}
 use Rattle.coherence.specs.Held.{rowsHeld, Places, heldAt, Derived}
 use Rattle.coherence.proofs.Coherent.{nodes-count, rows-held, width-is, rows-length, slot-node, level-derived, level-table, narrow-widths}
 use Rattle.model.proofs.Fits.{length-widths}
-use Rattle.model.specs.Evaluation.{rowsAt}
+use Rattle.model.specs.Evaluation.{rowsAt, overfull}
 use Rattle.states.proofs.Written.{Fitting, sized}
 use Rattle.rows.proofs.Place.{held-wide}
 use Rattle.model.specs.Areas.{layout, rowCount, tablesOf}
 use Rattle.coherence.proofs.Placed.{rows-few, held-at, place-at}
 use Rattle.algebra.proofs.Places.{place-ascending}
 use Rattle.areas.specs.Lent.{placeAt}
-use Rattle.states.proofs.Tables.{Tables, actAll-tables}
+use Rattle.states.proofs.Tables.{Tables, actAll-tables, all-under, first-over}
 use Rattle.model.specs.Batch.{readBatch}
 use Rattle.states.proofs.Batches.{batch-good}
 use Rattle.states.proofs.Fitted.{tables-fit, only-length}
@@ -67,6 +68,9 @@ module _ (net : Network) (rows head : List ℕ) (bs : Bytes) (ready : Ready net 
 
   count-is : length (nodesOf net) ≡ net .count
   count-is = nodes-count net b
+
+  pub new-many : length (newRows net rows head bs) ≡ net .count
+  new-many = new-length (nodesOf net) fit (rowsHeld net rows head) (tablesAfter net rows head bs) ∙ count-is
 
   widths-size : length (widths (nodesOf net)) ≡ net .count
   widths-size = length-widths (nodesOf net) ∙ count-is
@@ -229,3 +233,17 @@ module _ (net : Network) (rows head : List ℕ) (bs : Bytes) (ready : Ready net 
         unchanged = λ j h. none false j 32;
         uncounted = λ j h. none 0 j 32;
       }
+
+-- ---- the verdict
+
+module _ (head : List ℕ) (new : List Relation) (n : ℕ) (m : Working) (many : length new ≡ n) where
+  pub propagates-over : (i : ℕ) → i < n → 64 < length (rowsAt new i) → ((j : ℕ) → j < i → length (rowsAt new j) ≤ 64) → Propagates head new n m (Over i)
+  propagates-over i h o u =
+      let first : (rest : List ℕ) × (overfull 0 new ≡ (0 + i) ∷ rest) = first-over 0 new i (rw many h) o u in
+      record {
+        verdict = sym (ap limitVerdict (first .1) ∙ ap (refused 14) (zero-add i));
+        worked = λ e. let z : _≡_ {A = ℕ} 14 0 = ap (λ (v : Verdict). v .number) e in absurd (omega arith);
+      }
+
+  pub propagates-all : WorkedTo head new m n → Propagates head new n m All
+  propagates-all w = record { verdict = sym (ap limitVerdict (all-under 0 new (λ i h. w .worked i (rw many at h) .few))); worked = λ e. w }

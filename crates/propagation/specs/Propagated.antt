@@ -1,14 +1,14 @@
 -- The nodes' rows after a batch, as they are worked out: document 000's propagation, with a node's own kind in place of its differentials.
 use mathlib.Core.Path.{_≡_}
 use mathlib.Core.Bool.{Bool, true, false, not, _||_, cond}
-use mathlib.Core.List.{List, []}
+use mathlib.Core.List.{List, [], _∷_}
 use Prim.Native.Nat.{ℕ, _+_, _≤_, _<_}
 use lib.Dec.{eqb}
 use lib.ListN.{getD, length, set}
 use Rattle.model.specs.Row.{Relation, sameRows}
-use Rattle.model.specs.Record.{Bytes, isAccepted, offsets}
+use Rattle.model.specs.Record.{Bytes, Verdict, accepted, refused, isAccepted, offsets}
 use Rattle.model.specs.Network.{Node, build, isTable}
-use Rattle.model.specs.Evaluation.{rowsAt}
+use Rattle.model.specs.Evaluation.{rowsAt, overfull}
 use Rattle.model.specs.Batch.{readBatch, actAll}
 use Rattle.model.specs.Areas.{layout, placeOf, rowCount, tablesOf}
 use Rattle.nodes.specs.Nodes.{Narrow}
@@ -159,7 +159,17 @@ pub record WorkedTo (head : List ℕ) (new : List Relation) (m : Working) (n : �
   pub unchanged : (j : ℕ) → n ≤ j → getD (m .changed) j false ≡ false
   pub uncounted : (j : ℕ) → n ≤ j → getD (m .counts) j 0 ≡ 0
 
--- every node is worked, or the lowest node with more than 64 rows is named
-abbrev pub Propagates : List ℕ → List Relation → ℕ → Working → Propagated → Type 0
-Propagates head new n m All = WorkedTo head new m n
-Propagates head new n m (Over i) = (i < n) × (64 < length (rowsAt new i)) × ((j : ℕ) → j < i → length (rowsAt new j) ≤ 64)
+-- the order's number and place of each case: 14 at the node named
+abbrev pub verdictBy : Propagated → Verdict
+verdictBy All = accepted
+verdictBy (Over i) = refused 14 i
+
+-- rule 14, from the nodes with more than 64 rows: "the lowest such node is named"
+abbrev pub limitVerdict : List ℕ → Verdict
+limitVerdict [] = accepted
+limitVerdict (i ∷ over) = refused 14 i
+
+-- every node is worked, unless rule 14 refuses
+pub record Propagates (head : List ℕ) (new : List Relation) (n : ℕ) (m : Working) (r : Propagated) : Type 0 where
+  pub verdict : verdictBy r ≡ limitVerdict (overfull 0 new)
+  pub worked : verdictBy r ≡ accepted → WorkedTo head new m n

@@ -9,11 +9,11 @@ ghost use Rattle.model.specs.Row.{sameRows};
 ghost use Rattle.model.specs.Record.{offsets};
 ghost use Rattle.model.specs.Areas.{rowCount};
 ghost use Rattle.algebra.specs.Places.{Place, Blank, relationIn, Makes};
-ghost use Rattle.network.specs.Reading.{slotNode, Shaped};
+ghost use Rattle.network.specs.Reading.{slotNode, Shaped, verdictOf};
 ghost use Rattle.areas.specs.Lent.{placeAt};
 ghost use Rattle.evaluation.specs.Derived.{leftOf, rightOf, evaluateOn, fitsOn};
 ghost use Rattle.tables.specs.Fold.{Foldable, foldRows};
-ghost use Rattle.propagation.specs.Propagated.{newRows, Ready, working, Sized, Present, presentRows, inputChanged, mustWork, workedRows, nextRows, Workable, WorksNode, Puts, Propagates};
+ghost use Rattle.propagation.specs.Propagated.{newRows, Ready, working, Sized, Present, presentRows, inputChanged, mustWork, workedRows, nextRows, Workable, WorksNode, Puts, verdictBy, Propagates};
 use algebra::Made;
 use areas::CAPACITY;
 use areas::COUNTS;
@@ -21,6 +21,7 @@ use areas::PLACE;
 use evaluation::Held;
 use network::Network;
 use network::Slot;
+use network::Verdict;
 use rows::STRIDE;
 
 // How many words the rows of a table take at most while a batch is folded: 128 rows.
@@ -212,6 +213,22 @@ fn work_node(
 pub enum Propagated {
     All,
     Over(usize),
+}
+
+// The verdict: refusal 14 names the node with more than 64 rows.
+pub fn verdict_of(done: Propagated) -> Verdict
+    ensures { λ r. ⌜ verdictOf r ≡ verdictBy done ⌝ }
+{
+    match done {
+        Propagated::All => Verdict {
+            number: 0,
+            place: 0,
+        },
+        Propagated::Over(node) => Verdict {
+            number: 14,
+            place: node,
+        },
+    }
 }
 
 // Every node's new rows, worked in number order into working memory that is all 0.

@@ -4,14 +4,14 @@ use mathlib.Core.Path.{_≡_, ap, sym, _∙_, refl, ap₂}
 use mathlib.Core.List.{_++_, _∷_, List, flatMap, map, []}
 use native.Mathlib.Nat.{add-zero, zero-add, le-refl, le-trans}
 use native.Mathlib.Omega.{arith}
-use mathlib.Core.Bool.{Bool, true, false, cond}
+use mathlib.Core.Bool.{Bool, true, false, cond, _&&_}
 use lib.ListN.{length, length-append, getD, replicate, length-replicate, set, drop, take}
-use lib.Seq.{sets, paste, drop-append-add, drop-drop, take-at, take-all, drop-cons, set-at, append-snoc, getD-set-other, getD-set-same}
+use lib.Seq.{sets, paste, drop-append-add, drop-drop, take-at, take-all, drop-cons, set-at, append-snoc, getD-set-other, getD-set-same, ext-getD}
 use lib.Dec.{ltb}
-use borrow.Author.Tests.{ltb-true, ltb-false}
+use borrow.Author.Tests.{lt-ltb, ltb-true, ltb-false}
 use Rattle.model.specs.Row.{countFrom, numbersBelow, keep, keepIf}
 use Rattle.transition.specs.Written.{isOfLevel, levelList, listTo, stampsFrom, headFrom}
-use Rattle.model.proofs.Parts.{sets-more, flat-append, flat-one, sets-first, length-counted}
+use Rattle.model.proofs.Parts.{sets-more, flat-append, flat-one, sets-first, counted-at, length-counted}
 use Rattle.states.proofs.Worked.{at-most-once, length-numbers}
 use Rattle.model.specs.Areas.{padded, stampAt, over}
 use Rattle.rows.proofs.Words.{drop-zeros}
@@ -145,3 +145,35 @@ listed-more f l i x h before e j k = go (ltb j i) refl
     go : (t : Bool) → ltb j i ≡ t → getD (set l i x) j false ≡ f j
     go true g = let n : j < i = ltb-true j i g in getD-set-other l i j x false (λ z. absurd (omega (arith, n, z))) ∙ before j n
     go false g = let n : i ≤ j = ltb-false j i g in let same : j ≡ i = omega arith in rw same (getD-set-same l i x false h ∙ e)
+
+-- no mark past those that are set
+pub unlisted-more : (l : List Bool) (i : ℕ) (x : Bool) → ((j : ℕ) → i ≤ j → j < 32 → getD l j false ≡ false) → (j : ℕ) → i + 1 ≤ j → j < 32 → getD (set l i x) j false ≡ false
+unlisted-more l i x past j h k = getD-set-other l i j x false (λ z. absurd (omega (arith, h, z))) ∙ past j (omega arith) k
+
+-- ---- the marks of 32 nodes, the first n of which are there
+
+module _ (f : ℕ → Bool) (n : ℕ) where
+  abbrev mark : ℕ → Bool
+  mark j = ltb j n && f j
+
+  abbrev marks : List Bool
+  marks = map (λ j. ltb j n && f j) (numbersBelow 32)
+
+  marks-at : (i : ℕ) → i < 32 → getD marks i false ≡ mark i
+  marks-at i h = counted-at false (λ j. ltb j n && f j) 0 32 i h ∙ ap (λ j. ltb j n && f j) (zero-add i)
+
+  pub marks-set : (l : List Bool) → length l ≡ 32 → ((j : ℕ) → j < n → getD l j false ≡ f j) → ((j : ℕ) → n ≤ j → j < 32 → getD l j false ≡ false) → l ≡ marks
+  marks-set l e set past = ext-getD false l marks (e ∙ sym (length-counted (λ j. ltb j n && f j) 0 32)) at
+    where
+      at : (i : ℕ) → i < length l → getD l i false ≡ getD marks i false
+      at i h = go (ltb i n) refl ∙ sym (marks-at i (omega arith))
+        where
+          go : (t : Bool) → ltb i n ≡ t → getD l i false ≡ mark i
+          go true g = rw g (set i (ltb-true i n g))
+          go false g = rw g (past i (ltb-false i n g) (omega arith))
+
+  pub marks-length : (l : List Bool) → l ≡ marks → length l ≡ 32
+  marks-length l e = ap length e ∙ length-counted (λ j. ltb j n && f j) 0 32
+
+  pub marks-listed : (l : List Bool) → l ≡ marks → n ≤ 32 → (i : ℕ) → i < n → getD l i false ≡ f i
+  marks-listed l e few i h = ap (λ (m : List Bool). getD m i false) e ∙ marks-at i (omega arith) ∙ rw (lt-ltb i n h)

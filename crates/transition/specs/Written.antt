@@ -3,7 +3,7 @@ use mathlib.Core.Path.{_≡_}
 use mathlib.Core.Bool.{Bool, true, false, _&&_, cond}
 use mathlib.Core.List.{List, [], _∷_, _++_, map, zipWith, flatMap}
 use Prim.Native.Nat.{ℕ, _+_, _*_, _≤_, _<_}
-use lib.Dec.{eqb}
+use lib.Dec.{eqb, ltb}
 use lib.ListN.{getD, length, take, drop}
 use lib.Seq.{paste}
 use Rattle.model.specs.Row.{Relation, keep, numbersBelow}
@@ -60,6 +60,10 @@ stampsFrom head changed number n = map (λ j. cond (getD changed j false) number
 -- node i is derived and has an input that changed
 abbrev pub listedIn : Network → List Bool → ℕ → Bool
 listedIn net changed i = cond (eqb (getD (net .levels) i 0) 0) false (inputChanged (getD (net .slots) i noSlot) changed)
+
+-- which of 32 nodes are listed: past the last node none
+abbrev pub listedMarks : Network → List Bool → List Bool
+listedMarks net changed = map (λ i. ltb i (net .count) && listedIn net changed i) (numbersBelow 32)
 
 -- a listed node of a level
 abbrev pub isOfLevel : List ℕ → List Bool → ℕ → ℕ → Bool

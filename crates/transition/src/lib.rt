@@ -4,7 +4,7 @@ ghost use mathlib.Core.Bool.{Bool, true, false, cond};
 ghost use mathlib.Core.List.{List, _++_, _∷_, []};
 ghost use Prim.Native.Nat.{ℕ, _+_, _*_, _≤_, _<_};
 ghost use lib.Dec.{eqb};
-ghost use lib.ListN.{length, getD, replicate};
+ghost use lib.ListN.{length, replicate};
 ghost use lib.Seq.{sets};
 ghost use Rattle.model.specs.Row.{Relation, ascending, keepIf};
 ghost use Rattle.model.specs.Network.{AllFit};
@@ -16,7 +16,7 @@ ghost use Rattle.areas.specs.Lent.{lent, placeAt};
 ghost use Rattle.algebra.specs.Places.{Place, relationIn};
 ghost use Rattle.evaluation.specs.Derived.{leftOf, rightOf};
 ghost use Rattle.propagation.specs.Propagated.{inputChanged};
-ghost use Rattle.transition.specs.Written.{isOfLevel, placed, WritesNode, WritesNodes, stampsFrom, listedIn, levelList, listTo, headFrom, nextState, holdingRows, WorkedOut};
+ghost use Rattle.transition.specs.Written.{isOfLevel, placed, WritesNode, WritesNodes, stampsFrom, listedMarks, levelList, listTo, headFrom, nextState, holdingRows, WorkedOut};
 use areas::COUNTS;
 use areas::GAINED;
 use areas::LOST;
@@ -169,10 +169,10 @@ fn is_listed(slot: Slot, level: usize, changed: &[bool]) -> bool
     propagation::input_changed(slot, changed)
 }
 
-// For each node whether it is derived and has an input that changed.
+// For each node whether it is derived and has an input that changed; past the last node none is.
 fn listed_nodes(net: Network, changed: &[bool]) -> [bool; NODES]
     requires { ⌜ Built net × AllFit (nodesOf net) × (length (now changed) ≡ 32) ⌝ }
-    ensures { λ r. ⌜ (length r ≡ 32) × ((i : ℕ) → i < net .count → getD r i false ≡ listedIn net (now (changed .entry)) i) ⌝ }
+    ensures { λ r. ⌜ r ≡ listedMarks net (now (changed .entry)) ⌝ }
 {
     let mut listed = [false; NODES];
     let mut i = 0;

@@ -4,15 +4,16 @@ use native.Mathlib.Omega.{arith}
 use lib.ListN.{length}
 use borrow.Author.Needs.{needs}
 use Rattle.events.proofs.read_batch.Statement.{statement}
-use Rattle.events.proofs.Events.{Left, event-few, event-whole, fault-same, left-end, left-next, left-refused, left-start}
+use Rattle.events.proofs.Events.{Left, event-few, event-whole, left-end, left-next, left-refused, left-start, reads-number, reads-size, refused-number}
 use Rattle.model.specs.Network.{levels}
 use Rattle.network.specs.Reading.{nodesOf}
-use Rattle.model.specs.Record.{refused}
+use Rattle.model.specs.Record.{lengthAt, refused}
+use Rattle.events.specs.Reading.{numberOf}
 use Rattle.events.proofs.read_batch.Tie as tie
 use Rattle.events.proofs.read_batch.Reads as reads
 use Rattle.events.proofs.read_batch.Lts as lts
-use Rattle.events.proofs.event_fault.Reads as event-fault-reads
-use Rattle.records.proofs.u16_at.Reads as u16-at-reads
+use Rattle.events.proofs.read_event.Reads as read-event-reads
+use Rattle.events.proofs.number_of.Reads as number-of-reads
 
 abbrev Inv-loop : tie.InvT-loop
 Inv-loop bytes net count levels before₀ at₀ before at = (count ≡ net .count) × (levels ≡ net .levels) × (before ≤ 64) × Left (nodesOf net) bytes before at
@@ -23,35 +24,84 @@ abbrev μ-loop : tie.MeasureT-loop
 loop-holds : tie.Need-loop-holds Inv-loop μ-loop
 loop-holds c = let a = c .before .before .args in (refl, refl, omega arith, left-start (nodesOf (a .t1)) (a .bytes .now))
 
-slice-aggregate-event-fault : tie.Need-slice-aggregate-event-fault Inv-loop μ-loop
-slice-aggregate-event-fault c = search needs
+slice-aggregate-read-event : tie.Need-slice-aggregate-read-event Inv-loop μ-loop
+slice-aggregate-read-event c = search needs
 
-event-fault-requires : tie.Need-event-fault-requires Inv-loop μ-loop
-event-fault-requires c κs = let a = c .before .before .before .before .before .before .before .before .args in let b = c .before .before .before .before .before .before .before .before .pre in (c .before .before .before .before .loop-test .taken, omega (arith, b .sound .few, b .widths-length), omega (arith, b .sound .few, b .levels-length), b .sound .few, b .narrow)
+read-event-requires : tie.Need-read-event-requires Inv-loop μ-loop
+read-event-requires c κs =
+    let b = c .before .before .before .before .before .before .before .before .pre in
+    (c .before .before .before .before .loop-test .taken, omega (arith, b .sound .few, b .widths-length), omega (arith, b .sound .few, b .levels-length), b .sound .few, b .narrow)
+
+enum-known-reading : tie.Need-enum-known-reading Inv-loop μ-loop
+enum-known-reading c = search needs
+
+number-of-requires : tie.Need-number-of-requires Inv-loop μ-loop
+number-of-requires c κs = search needs
 
 returns : tie.Need-returns Inv-loop μ-loop
-returns c = let a = c .before .before .before .before .before .before .before .before .before .before .args in ap (λ (k : ℕ). refused k (c .before .before .before .before .before .before .before .loop .at)) (c .before .event-fault .ensures ∙ fault-same (a .t1) (c .before .before .before .before .before .before .before .before .before .before .pre) (a .bytes .now) (c .before .before .before .before .before .before .before .loop .before) (c .before .before .before .before .before .before .before .loop .at)) ∙ left-refused (nodesOf (a .t1)) (a .bytes .now) (c .before .before .before .before .before .before .before .loop .before) (c .before .before .before .before .before .before .before .loop .at) (c .before .before .before .before .before .before .before .loop .inv .3) (c .before .before .before .before .before .before .loop-test .taken) (λ z. c .if1 .taken ((c .before .event-fault .ensures ∙ fault-same (a .t1) (c .before .before .before .before .before .before .before .before .before .before .pre) (a .bytes .now) (c .before .before .before .before .before .before .before .loop .before) (c .before .before .before .before .before .before .before .loop .at)) ∙ z))
+returns c =
+    let s = c .before .before .before .before .before .before .before .before .before .before .before in
+    let a = s .args in
+    let l = c .before .before .before .before .before .before .before .before .loop in
+    let e = c .before .before .read-event in
+    let n = reads-number (a .t1) (s .pre) (a .bytes .now) (l .before) (l .at) (e .result) (e .ensures) in
+    ap (λ (k : ℕ). refused k (l .at)) (c .number-of .ensures ∙ n)
+    ∙ left-refused (nodesOf (a .t1)) (a .bytes .now) (l .before) (l .at) (l .inv .3) (c .before .before .before .before .before .before .before .loop-test .taken)
+    (λ z. refused-number (e .result) (c .before .match .keys2) (n ∙ z))
 
 add-before : tie.Need-add-before Inv-loop μ-loop
-add-before c = omega (arith, c .before .before .before .before .before .before .before .loop .inv .2)
-
-u16-at-requires : tie.Need-u16-at-requires Inv-loop μ-loop
-u16-at-requires c κs = let a = c .before .before .before .before .before .before .before .before .before .before .args in let w = event-whole (nodesOf (a .t1)) (a .bytes .now) (c .before .before .before .before .before .before .before .loop .before) (c .before .before .before .before .before .before .before .loop .at) (sym (c .before .event-fault .ensures ∙ fault-same (a .t1) (c .before .before .before .before .before .before .before .before .before .before .pre) (a .bytes .now) (c .before .before .before .before .before .before .before .loop .before) (c .before .before .before .before .before .before .before .loop .at)) ∙ c .if1 .left) in omega (arith, w .header)
+add-before c = omega (arith, c .before .before .before .before .before .before .before .before .before .loop .inv .2)
 
 add-at : tie.Need-add-at Inv-loop μ-loop
-add-at c = let a = c .before .before .before .before .before .before .before .before .before .before .before .args in let w = event-whole (nodesOf (a .t1)) (a .bytes .now) (c .before .before .before .before .before .before .before .before .loop .before) (c .before .before .before .before .before .before .before .before .loop .at) (sym (c .before .before .event-fault .ensures ∙ fault-same (a .t1) (c .before .before .before .before .before .before .before .before .before .before .before .pre) (a .bytes .now) (c .before .before .before .before .before .before .before .before .loop .before) (c .before .before .before .before .before .before .before .before .loop .at)) ∙ c .before .if1 .left) in omega (arith, w .inside, c .u16-at .ensures .is)
+add-at c =
+    let s = c .before .before .before .before .before .before .before .before .before .before .before .before in
+    let a = s .args in
+    let l = c .before .before .before .before .before .before .before .before .before .loop in
+    let e = c .before .before .before .read-event in
+    let n = reads-number (a .t1) (s .pre) (a .bytes .now) (l .before) (l .at) (e .result) (e .ensures) in
+    let g = c .before .reading .given in
+    let z = sym n ∙ ap numberOf (g .1) in
+    let size : g .0 .0 ≡ lengthAt (a .bytes .now) (l .at) = reads-size (a .t1) (s .pre) (a .bytes .now) (l .before) (l .at) (e .result) _ (e .ensures) (g .1) in
+    let w = event-whole (nodesOf (a .t1)) (a .bytes .now) (l .before) (l .at) z in
+    omega (arith, w .inside, size)
 
 loop-less : tie.Need-loop-less Inv-loop μ-loop
-loop-less c = let a = c .before .before .before .before .before .before .before .before .before .before .before .args in let w = event-whole (nodesOf (a .t1)) (a .bytes .now) (c .before .before .before .before .before .before .before .before .loop .before) (c .before .before .before .before .before .before .before .before .loop .at) (sym (c .before .before .event-fault .ensures ∙ fault-same (a .t1) (c .before .before .before .before .before .before .before .before .before .before .before .pre) (a .bytes .now) (c .before .before .before .before .before .before .before .before .loop .before) (c .before .before .before .before .before .before .before .before .loop .at)) ∙ c .before .if1 .left) in omega (arith, w .least, c .u16-at .ensures .is, c .before .before .before .before .before .before .before .loop-test .taken)
+loop-less c =
+    let s = c .before .before .before .before .before .before .before .before .before .before .before .before in
+    let a = s .args in
+    let l = c .before .before .before .before .before .before .before .before .before .loop in
+    let e = c .before .before .before .read-event in
+    let n = reads-number (a .t1) (s .pre) (a .bytes .now) (l .before) (l .at) (e .result) (e .ensures) in
+    let g = c .before .reading .given in
+    let z = sym n ∙ ap numberOf (g .1) in
+    let size : g .0 .0 ≡ lengthAt (a .bytes .now) (l .at) = reads-size (a .t1) (s .pre) (a .bytes .now) (l .before) (l .at) (e .result) _ (e .ensures) (g .1) in
+    let w = event-whole (nodesOf (a .t1)) (a .bytes .now) (l .before) (l .at) z in
+    omega (arith, w .least, size, c .before .before .before .before .before .before .before .before .loop-test .taken)
 
 loop-again : tie.Need-loop-again Inv-loop μ-loop
 loop-again c =
-    let a = c .before .before .before .before .before .before .before .before .before .before .before .args in
-    let z = sym (c .before .before .event-fault .ensures ∙ fault-same (a .t1) (c .before .before .before .before .before .before .before .before .before .before .before .pre) (a .bytes .now) (c .before .before .before .before .before .before .before .before .loop .before) (c .before .before .before .before .before .before .before .before .loop .at)) ∙ c .before .if1 .left in
-    (c .before .before .before .before .before .before .before .before .loop .inv .0, c .before .before .before .before .before .before .before .before .loop .inv .1, event-few (nodesOf (a .t1)) (a .bytes .now) (c .before .before .before .before .before .before .before .before .loop .before) (c .before .before .before .before .before .before .before .before .loop .at) z, left-next (nodesOf (a .t1)) (a .bytes .now) (c .before .before .before .before .before .before .before .before .loop .before) (c .before .before .before .before .before .before .before .before .loop .at) (c .before .before .before .before .before .before .before .before .loop .at + c .u16-at .result) (c .before .before .before .before .before .before .before .before .loop .inv .3) (c .before .before .before .before .before .before .before .loop-test .taken) z (ap (λ (n : ℕ). c .before .before .before .before .before .before .before .before .loop .at + n) (c .u16-at .ensures .is)))
+    let s = c .before .before .before .before .before .before .before .before .before .before .before .before in
+    let a = s .args in
+    let l = c .before .before .before .before .before .before .before .before .before .loop in
+    let e = c .before .before .before .read-event in
+    let n = reads-number (a .t1) (s .pre) (a .bytes .now) (l .before) (l .at) (e .result) (e .ensures) in
+    let g = c .before .reading .given in
+    let z = sym n ∙ ap numberOf (g .1) in
+    let size : g .0 .0 ≡ lengthAt (a .bytes .now) (l .at) = reads-size (a .t1) (s .pre) (a .bytes .now) (l .before) (l .at) (e .result) _ (e .ensures) (g .1) in
+    let w = event-whole (nodesOf (a .t1)) (a .bytes .now) (l .before) (l .at) z in
+    let few = event-few (nodesOf (a .t1)) (a .bytes .now) (l .before) (l .at) z in
+    let size-added = ap (λ (n : ℕ). l .at + n) size in (
+      l .inv .0,
+      l .inv .1,
+      few,
+      left-next (nodesOf (a .t1)) (a .bytes .now) (l .before) (l .at) _ (l .inv .3)
+          (c .before .before .before .before .before .before .before .before .loop-test .taken) z size-added,
+    )
 
 returns-2 : tie.Need-returns-2 Inv-loop μ-loop
-returns-2 c = let a = c .before .before .before .before .args in left-end (nodesOf (a .t1)) (a .bytes .now) (c .before .loop .before) (c .before .loop .at) (c .before .loop .inv .3) (omega (arith, c .loop-test .left))
+returns-2 c =
+    let a = c .before .before .before .before .args in
+    left-end (nodesOf (a .t1)) (a .bytes .now) (c .before .loop .before) (c .before .loop .at) (c .before .loop .inv .3) (omega (arith, c .loop-test .left))
 
 pub read-batch-spec : {M : Type 1} → statement M
 read-batch-spec =
@@ -60,11 +110,12 @@ read-batch-spec =
     Inv-loop
     μ-loop
     loop-holds
-    slice-aggregate-event-fault
-    event-fault-requires
+    slice-aggregate-read-event
+    read-event-requires
+    enum-known-reading
+    number-of-requires
     returns
     add-before
-    u16-at-requires
     add-at
     loop-less
     loop-again

@@ -5,7 +5,7 @@ use lib.ListN.{length}
 use borrow.Author.Tests.{not-true, not-false}
 use Rattle.propagation.proofs.propagate.Statement.{statement}
 use Rattle.propagation.specs.Propagated.{WorkedTo, newRows, working}
-use Rattle.propagation.proofs.Network.{worked-none, can-work, next-is, worked-more}
+use Rattle.propagation.proofs.Network.{new-many, worked-none, can-work, next-is, worked-more, propagates-over, propagates-all}
 use Rattle.propagation.proofs.propagate.Tie as tie
 use Rattle.propagation.proofs.propagate.Reads as reads
 use Rattle.propagation.proofs.propagate.Lts as lts
@@ -45,7 +45,17 @@ same-length-3 : tie.Need-same-length-3 Inv-loop μ-loop
 same-length-3 c = omega (arith, ap length (c .before .before .before .before .before .before .before .before .before .before .before .before .before .before .before .before .before .before .before .before .before .before .before .before .pre .3))
 
 returns : tie.Need-returns Inv-loop μ-loop
-returns c = let a = (c .before .before .before .before .before .before .before .before .before .before .before .before .before .before .before .before .before .before .before .before .before .before .before .before .args) in let o = rw (not-true (c .before .before .before .before .before .before .before .work-node .result) (c .if1 .taken)) at (c .before .before .before .before .before .before .before .work-node .ensures) in (c .before .before .before .before .before .before .before .before .before .before .before .before .before .before .before .before .loop-test .taken, rw (← next-is (a .t1) (a .rows .now) (a .head .now) (a .bytes .now) (c .before .before .before .before .before .before .before .before .before .before .before .before .before .before .before .before .before .before .before .before .before .before .before .before .pre .0) (c .before .before .before .before .before .before .before .before .before .before .before .before .before .before .before .before .before .loop .work) (c .before .before .before .before .before .before .before .before .before .before .before .before .before .before .before .before .before .loop .counts) (c .before .before .before .before .before .before .before .before .before .before .before .before .before .before .before .before .before .loop .changed) (c .before .before .before .before .before .before .before .before .before .before .before .before .before .before .before .before .before .loop .i) (c .before .before .before .before .before .before .before .before .before .before .before .before .before .before .before .before .loop-test .taken) (c .before .before .before .before .before .before .before .before .before .before .before .before .before .before .before .before .before .loop .inv .1)) o, λ j h. c .before .before .before .before .before .before .before .before .before .before .before .before .before .before .before .before .before .loop .inv .1 .worked j h .few)
+returns c =
+    let s = c .before .before .before .before .before .before .before .before .before .before .before .before .before .before .before .before .before .before .before .before .before .before .before .before in
+    let a = s .args in
+    let l = c .before .before .before .before .before .before .before .before .before .before .before .before .before .before .before .before .before .loop in
+    let w = c .before .before .before .before .before .before .before .work-node in
+    let h = c .before .before .before .before .before .before .before .before .before .before .before .before .before .before .before .before .loop-test .taken in
+    let o = rw (not-true (w .result) (c .if1 .taken)) at (w .ensures) in
+    let many = new-many (a .t1) (a .rows .now) (a .head .now) (a .bytes .now) (s .pre .0) in
+    propagates-over (a .head .now) (newRows (a .t1) (a .rows .now) (a .head .now) (a .bytes .now)) (a .t1 .count) _ many (l .i) h
+    (rw (← next-is (a .t1) (a .rows .now) (a .head .now) (a .bytes .now) (s .pre .0) (l .work) (l .counts) (l .changed) (l .i) h (l .inv .1)) o)
+    (λ j k. l .inv .1 .worked j k .few)
 
 add-i : tie.Need-add-i Inv-loop μ-loop
 add-i c = omega (arith, c .before .before .before .before .before .before .before .before .before .before .before .before .before .before .before .before .loop-test .taken, c .before .before .before .before .before .before .before .before .before .before .before .before .before .before .before .before .before .before .before .before .before .before .before .before .pre .0 .checkable .built .sound .few)
@@ -66,7 +76,12 @@ same-length-6 : tie.Need-same-length-6 Inv-loop μ-loop
 same-length-6 c = omega (arith, ap length (c .before .before .before .before .before .before .before .before .pre .3), c .before .loop .inv .1 .sized .changed)
 
 returns-2 : tie.Need-returns-2 Inv-loop μ-loop
-returns-2 c = let a = (c .before .before .before .before .before .before .before .before .args) in let e : c .before .loop .i ≡ a .t1 .count = omega (arith, c .before .loop .inv .0, c .loop-test .left) in rw e at (c .before .loop .inv .1)
+returns-2 c =
+    let s = c .before .before .before .before .before .before .before .before in
+    let a = s .args in
+    let e : c .before .loop .i ≡ a .t1 .count = omega (arith, c .before .loop .inv .0, c .loop-test .left) in
+    let many = new-many (a .t1) (a .rows .now) (a .head .now) (a .bytes .now) (s .pre .0) in
+    propagates-all (a .head .now) (newRows (a .t1) (a .rows .now) (a .head .now) (a .bytes .now)) (a .t1 .count) _ many (rw e at (c .before .loop .inv .1))
 
 pub propagate-spec : {M : Type 1} → statement M
 propagate-spec =

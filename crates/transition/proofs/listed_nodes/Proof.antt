@@ -1,5 +1,5 @@
 use Prim.Native.Nat.{_≤_, ℕ, _<_, _-_, zero-le}
-use lib.ListN.{length, getD, length-replicate, length-set}
+use lib.ListN.{length, getD, length-replicate, getD-replicate, length-set}
 use mathlib.Core.Path.{_≡_, _∙_}
 use mathlib.Core.Bool.{false, Bool}
 use native.Mathlib.Nat.{not-suc-le-zero}
@@ -7,20 +7,20 @@ use native.Mathlib.Omega.{arith}
 use Rattle.transition.proofs.listed_nodes.Statement.{statement}
 use Rattle.transition.specs.Written.{listedIn}
 use Rattle.coherence.proofs.Coherent.{level-derived}
-use Rattle.transition.proofs.Listing.{listed-more}
+use Rattle.transition.proofs.Listing.{listed-more, unlisted-more, marks-set}
 use Rattle.transition.proofs.listed_nodes.Tie as tie
 use Rattle.transition.proofs.listed_nodes.Reads as reads
 use Rattle.transition.proofs.listed_nodes.Lts as lts
 use Rattle.transition.proofs.is_listed.Reads as is-listed-reads
 
 abbrev Inv-loop : tie.InvT-loop
-Inv-loop changed net listed₀ i₀ listed i = (i ≤ net .count) × (length listed ≡ 32) × ((j : ℕ) → j < i → getD listed j false ≡ listedIn net changed j)
+Inv-loop changed net listed₀ i₀ listed i = (i ≤ net .count) × (length listed ≡ 32) × ((j : ℕ) → j < i → getD listed j false ≡ listedIn net changed j) × ((j : ℕ) → i ≤ j → j < 32 → getD listed j false ≡ false)
 
 abbrev μ-loop : tie.MeasureT-loop
 μ-loop changed net listed₀ i₀ listed i = net .count - i
 
 loop-holds : tie.Need-loop-holds Inv-loop μ-loop
-loop-holds c = (zero-le, length-replicate {A = Bool} 32 false, λ j h. absurd (not-suc-le-zero h))
+loop-holds c = (zero-le, length-replicate {A = Bool} 32 false, (λ j h. absurd (not-suc-le-zero h)), λ j h k. getD-replicate {A = Bool} 32 j false false k)
 
 mul-slot : tie.Need-mul-slot Inv-loop μ-loop
 mul-slot c = omega (arith, c .loop-test .taken, c .before .before .before .pre .0 .sound .few)
@@ -47,10 +47,23 @@ loop-less : tie.Need-loop-less Inv-loop μ-loop
 loop-less c = omega (arith, c .before .before .before .loop-test .taken)
 
 loop-again : tie.Need-loop-again Inv-loop μ-loop
-loop-again c = let a = (c .before .before .before .before .before .before .args) in (omega (arith, c .before .before .before .loop-test .taken), length-set (c .before .before .before .before .loop .listed) (c .before .before .before .before .loop .i) (c .is-listed .result) ∙ c .before .before .before .before .loop .inv .1, listed-more (listedIn (a .t1) (a .changed .now)) (c .before .before .before .before .loop .listed) (c .before .before .before .before .loop .i) (c .is-listed .result) (omega (arith, c .before .before .before .loop-test .taken, c .before .before .before .before .before .before .pre .0 .sound .few, c .before .before .before .before .loop .inv .1)) (c .before .before .before .before .loop .inv .2) (c .is-listed .ensures))
+loop-again c =
+    let s = c .before .before .before .before .before .before in
+    let a = s .args in
+    let l = c .before .before .before .before .loop in
+    let t = c .before .before .before .loop-test .taken in (
+      omega (arith, t),
+      length-set (l .listed) (l .i) (c .is-listed .result) ∙ l .inv .1,
+      listed-more (listedIn (a .t1) (a .changed .now)) (l .listed) (l .i) (c .is-listed .result) (omega (arith, t, s .pre .0 .sound .few, l .inv .1)) (l .inv .2) (c .is-listed .ensures),
+      unlisted-more (l .listed) (l .i) (c .is-listed .result) (l .inv .3),
+    )
 
 returns : tie.Need-returns Inv-loop μ-loop
-returns c = let a = (c .before .before .before .args) in let e : c .before .loop .i ≡ a .t1 .count = omega (arith, c .before .loop .inv .0, c .loop-test .left) in (c .before .loop .inv .1, rw e at (c .before .loop .inv .2))
+returns c =
+    let a = c .before .before .before .args in
+    let l = c .before .loop in
+    let e : l .i ≡ a .t1 .count = omega (arith, l .inv .0, c .loop-test .left) in
+    marks-set (listedIn (a .t1) (a .changed .now)) (a .t1 .count) (l .listed) (l .inv .1) (rw e at (l .inv .2)) (rw e at (l .inv .3))
 
 pub listed-nodes-spec : {M : Type 1} → statement M
 listed-nodes-spec =

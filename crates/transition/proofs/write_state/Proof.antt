@@ -7,7 +7,8 @@ use Prim.Native.Nat.{_≤_, _+_}
 use mathlib.Core.Bool.{cond, false}
 use Rattle.transition.proofs.write_state.Statement.{statement}
 use Rattle.transition.proofs.Out.{head-long, writes-lengths}
-use Rattle.transition.specs.Written.{listTo, stampsFrom}
+use Rattle.transition.specs.Written.{listTo, listedIn, stampsFrom}
+use Rattle.transition.proofs.Listing.{marks-length, marks-listed}
 use Rattle.states.proofs.Head.{padded-length}
 use Rattle.model.proofs.Parts.{length-counted}
 use Rattle.model.specs.Areas.{stampAt}
@@ -52,7 +53,7 @@ slice-aggregate-list-worked-3 : tie.Need-slice-aggregate-list-worked-3
 slice-aggregate-list-worked-3 c = search needs
 
 list-worked-requires : tie.Need-list-worked-requires
-list-worked-requires c κs = (omega (arith, c .before .before .before .before .before .before .before .before .before .before .before .before .before .before .before .before .before .before .before .before .before .before .before .before .before .before .before .before .before .before .pre .0 .built .sound .few, c .before .before .before .before .before .before .before .before .before .before .before .before .before .before .before .before .before .before .before .before .before .before .before .before .before .before .before .before .before .before .pre .0 .built .levels-length), omega (arith, c .before .before .before .before .before .before .before .before .before .before .before .before .before .before .before .before .before .before .before .before .before .before .before .before .before .before .before .before .before .before .pre .0 .built .sound .few, c .before .before .before .listed-nodes .ensures .0), c .before .before .before .before .before .before .before .before .before .before .before .before .before .before .before .before .before .before .before .before .before .before .before .before .before .before .before .before .before .before .pre .0 .built .sound .few, refl)
+list-worked-requires c κs = (omega (arith, c .before .before .before .before .before .before .before .before .before .before .before .before .before .before .before .before .before .before .before .before .before .before .before .before .before .before .before .before .before .before .pre .0 .built .sound .few, c .before .before .before .before .before .before .before .before .before .before .before .before .before .before .before .before .before .before .before .before .before .before .before .before .before .before .before .before .before .before .pre .0 .built .levels-length), omega (arith, c .before .before .before .before .before .before .before .before .before .before .before .before .before .before .before .before .before .before .before .before .before .before .before .before .before .before .before .before .before .before .pre .0 .built .sound .few, marks-length (listedIn (c .before .before .before .before .before .before .before .before .before .before .before .before .before .before .before .before .before .before .before .before .before .before .before .before .before .before .before .before .before .before .args .net) (c .before .before .before .before .before .before .before .before .before .before .before .before .before .before .before .before .before .before .before .before .before .before .before .before .before .before .before .before .before .before .args .changed .now)) (c .before .before .before .before .before .before .before .before .before .before .before .before .before .before .before .before .before .before .before .before .before .before .before .before .before .before .before .before .before .before .args .net .count) _ (c .before .before .before .listed-nodes .ensures)), c .before .before .before .before .before .before .before .before .before .before .before .before .before .before .before .before .before .before .before .before .before .before .before .before .before .before .before .before .before .before .pre .0 .built .sound .few, refl)
 
 slice-aggregate-write-head : tie.Need-slice-aggregate-write-head
 slice-aggregate-write-head c = search needs
@@ -82,7 +83,7 @@ same-length-4 : tie.Need-same-length-4
 same-length-4 c = search needs
 
 returns : tie.Need-returns
-returns c = let a = (c .before .before .before .before .before .before .before .before .before .before .before .before .before .before .before .before .before .before .before .before .before .before .before .before .before .before .before .before .before .before .before .before .before .before .before .before .before .before .before .before .args) in λ o copy. state-written (a .net) (a .rows .now) (a .gained .now) (a .lost .now) (a .head .now) (a .work .now) (a .counts .now) (a .changed .now) o (c .before .before .before .before .before .before .before .before .before .before .before .before .before .before .before .before .before .before .before .before .before .before .before .before .before .before .before .before .before .before .before .before .before .before .before .before .before .before .before .before .pre .1) (c .before .before .before .before .before .before .before .before .before .before .before .before .before .before .before .before .before .before .before .before .before .before .before .before .write-nodes .last .1 .1 .1 .1 .0) (c .before .before .before .before .before .before .before .before .before .before .before .before .before .before .before .before .before .before .before .before .before .before .before .before .write-nodes .last .1 .1 .1 .1 .1 .0) (c .before .before .before .before .before .before .before .before .before .before .before .before .before .before .before .before .before .before .before .before .before .before .before .before .write-nodes .last .1 .1 .1 .1 .1 .1 .0) (c .before .before .write-head .last .0) (c .before .before .before .before .before .before .before .before .before .before .before .before .before .before .before .before .before .before .before .before .before .before .before .before .write-nodes .last .1 .1 .1 .1 .1 .1 .1 .1 .0) (c .before .before .before .before .before .before .before .before .before .before .before .before .before .before .before .before .before .before .before .before .before .before .before .before .write-nodes .last .1 .1 .1 .1 .1 .1 .1 .1 .1 .0) (c .before .before .before .before .before .before .before .before .before .before .before .before .before .before .new-stamps .result) (c .before .before .before .before .before .before .before .before .before .list-worked .last .1 .1 .1 .0) (c .before .before .before .before .before .before .before .before .before .before .before .before .before .listed-nodes .result) (getD (a .head .now) 0 0 + 1) (c .before .before .before .before .before .before .before .before .before .list-worked .result) copy refl (c .before .before .before .before .before .before .before .before .before .before .before .before .before .before .before .before .before .before .before .before .before .before .before .before .write-nodes .ensures o) (c .before .before .before .before .before .before .before .before .before .before .before .before .before .before .new-stamps .ensures) (c .before .before .before .before .before .before .before .before .before .before .before .before .before .listed-nodes .ensures .1) (c .before .before .before .before .before .before .before .before .before .list-worked .ensures .0) (c .before .before .before .before .before .before .before .before .before .list-worked .ensures .1) (c .before .before .write-head .ensures)
+returns c = let a = (c .before .before .before .before .before .before .before .before .before .before .before .before .before .before .before .before .before .before .before .before .before .before .before .before .before .before .before .before .before .before .before .before .before .before .before .before .before .before .before .before .args) in λ o copy. state-written (a .net) (a .rows .now) (a .gained .now) (a .lost .now) (a .head .now) (a .work .now) (a .counts .now) (a .changed .now) o (c .before .before .before .before .before .before .before .before .before .before .before .before .before .before .before .before .before .before .before .before .before .before .before .before .before .before .before .before .before .before .before .before .before .before .before .before .before .before .before .before .pre .1) (c .before .before .before .before .before .before .before .before .before .before .before .before .before .before .before .before .before .before .before .before .before .before .before .before .write-nodes .last .1 .1 .1 .1 .0) (c .before .before .before .before .before .before .before .before .before .before .before .before .before .before .before .before .before .before .before .before .before .before .before .before .write-nodes .last .1 .1 .1 .1 .1 .0) (c .before .before .before .before .before .before .before .before .before .before .before .before .before .before .before .before .before .before .before .before .before .before .before .before .write-nodes .last .1 .1 .1 .1 .1 .1 .0) (c .before .before .write-head .last .0) (c .before .before .before .before .before .before .before .before .before .before .before .before .before .before .before .before .before .before .before .before .before .before .before .before .write-nodes .last .1 .1 .1 .1 .1 .1 .1 .1 .0) (c .before .before .before .before .before .before .before .before .before .before .before .before .before .before .before .before .before .before .before .before .before .before .before .before .write-nodes .last .1 .1 .1 .1 .1 .1 .1 .1 .1 .0) (c .before .before .before .before .before .before .before .before .before .before .before .before .before .before .new-stamps .result) (c .before .before .before .before .before .before .before .before .before .list-worked .last .1 .1 .1 .0) (c .before .before .before .before .before .before .before .before .before .before .before .before .before .listed-nodes .result) (getD (a .head .now) 0 0 + 1) (c .before .before .before .before .before .before .before .before .before .list-worked .result) copy refl (c .before .before .before .before .before .before .before .before .before .before .before .before .before .before .before .before .before .before .before .before .before .before .before .before .write-nodes .ensures o) (c .before .before .before .before .before .before .before .before .before .before .before .before .before .before .new-stamps .ensures) (marks-listed (listedIn (a .net) (a .changed .now)) (a .net .count) _ (c .before .before .before .before .before .before .before .before .before .before .before .before .before .listed-nodes .ensures) (c .before .before .before .before .before .before .before .before .before .before .before .before .before .before .before .before .before .before .before .before .before .before .before .before .before .before .before .before .before .before .before .before .before .before .before .before .before .before .before .before .pre .0 .built .sound .few)) (c .before .before .before .before .before .before .before .before .before .list-worked .ensures .0) (c .before .before .before .before .before .before .before .before .before .list-worked .ensures .1) (c .before .before .write-head .ensures)
 
 pub write-state-spec : {M : Type 1} → statement M
 write-state-spec =
