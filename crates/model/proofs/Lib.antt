@@ -3,6 +3,7 @@ pub mod Sets
 pub mod Algebra
 pub mod Build
 pub mod Delta
+pub mod Folded
 pub mod Fits
 pub mod Parts
 pub mod Events
