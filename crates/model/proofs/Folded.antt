@@ -114,7 +114,8 @@ module _ (t : ℕ) where
   unfolding changeBy
   turn e tables h a = rw (after e tables h) (go (eqb (tableOf e) t))
     where
-      go : (b : Bool) → Ascending (cond b (acted e (rowsAt tables t)) (rowsAt tables t)) × (cond b (oneRowChange e (rowsAt tables t)) noChange ≡ netChange (rowsAt tables t) (cond b (acted e (rowsAt tables t)) (rowsAt tables t)))
+      go : (b : Bool) → Ascending (cond b (acted e (rowsAt tables t)) (rowsAt tables t))
+          × (cond b (oneRowChange e (rowsAt tables t)) noChange ≡ netChange (rowsAt tables t) (cond b (acted e (rowsAt tables t)) (rowsAt tables t)))
       go true = (asc-acted e (rowsAt tables t) a, one-row e (rowsAt tables t) a)
       go false = (a, unchanged (rowsAt tables t) a)
 

@@ -7,3 +7,8 @@ pub mod Folded
 pub mod Fits
 pub mod Parts
 pub mod Events
+pub mod ReadExamples
+pub mod StationExamples
+pub mod AreaExamples
+pub mod CallExamples
+pub mod TextExamples
