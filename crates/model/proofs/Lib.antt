@@ -3,7 +3,13 @@ pub mod Sets
 pub mod Algebra
 pub mod Build
 pub mod Delta
+pub mod Folded
 pub mod Fits
 pub mod Parts
 pub mod Events
 pub mod Bounds
+pub mod ReadExamples
+pub mod StationExamples
+pub mod AreaExamples
+pub mod CallExamples
+pub mod TextExamples

@@ -4,9 +4,10 @@ use mathlib.Core.List.{List, [], _∷_, _++_}
 use Prim.Native.Nat.{ℕ, zero, suc, _+_, _*_}
 use lib.Dec.{leb, ltb, eqb}
 use lib.ListN.{getD, length, set}
-use Rattle.model.specs.Row.{Row, Relation, maxRows, insertRow, deleteRow}
+use Rattle.model.specs.Row.{Row, Relation, maxRows, member, insertRow, deleteRow}
 use Rattle.model.specs.Record.{Bytes, u32, lengthAt, kindAt, fieldAt, isBroken, offsets, Verdict, accepted, refused, rule, firstBroken}
 use Rattle.model.specs.Network.{Node, isTable, widths, nodeAt}
+use Rattle.model.specs.Delta.{Change, noChange, deltaUnion}
 
 -- "kind 32 puts a row, 33 removes one": table and row
 pub data Event : Type 0 where
@@ -85,3 +86,26 @@ unfoldable pub actAll : List Event → List Relation → List Relation
 unfolding act
 actAll [] tables = tables
 actAll (e ∷ events) tables = actAll events (act e tables)
+
+-- ---- the changes that events make
+
+-- the table that an event names
+abbrev pub tableOf : Event → ℕ
+tableOf (put t r) = t
+tableOf (remove t r) = t
+
+-- the one-row change of an event on its table's rows: the row put that was not there, or the row removed that was; else nothing
+unfoldable pub oneRowChange : Event → Relation → Change
+oneRowChange (put t r) rel = cond (member r rel) noChange (record { gained = r ∷ []; lost = [] })
+oneRowChange (remove t r) rel = cond (member r rel) (record { gained = []; lost = r ∷ [] }) noChange
+
+-- what an event changes of table t at its turn: nothing if it names another table
+unfoldable pub changeBy : ℕ → Event → List Relation → Change
+unfolding oneRowChange
+changeBy t e tables = cond (eqb (tableOf e) t) (oneRowChange e (getD tables t [])) noChange
+
+-- a change of table t, and then those of some events, each at its turn: folded by delta-union
+unfoldable pub foldChanges : ℕ → Change → List Event → List Relation → Change
+unfolding deltaUnion changeBy act
+foldChanges t done [] tables = done
+foldChanges t done (e ∷ events) tables = foldChanges t (deltaUnion done (changeBy t e tables)) events (act e tables)

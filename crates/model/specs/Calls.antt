@@ -156,12 +156,15 @@ reportOf net node a = reportBytes (signOf net node) node (changeAt (changesIn la
 abbrev pub isWatched : Network → ℕ → Bool
 isWatched net node = ltb node (length (net .nodes)) && not (eqb (signOf net node) 0)
 
+-- 15, then 16: a node, the length of its report, and how many bytes are lent
+abbrev pub reportRule : Network → ℕ → ℕ → ℕ → Verdict
+reportRule net node size lent = orElse (unless (isWatched net node) 15) (unless (leb size lent) 16)
+
 -- 1 to 8, then 15, then 16
 unfoldable pub reportVerdict : Bytes → ℕ → Areas → Bytes → Verdict
 unfolding formVerdict reportOf readNetwork
 reportVerdict net node a out =
-    orElse (formVerdict net a)
-    (orElse (unless (isWatched (readNetwork net .network) node) 15) (unless (leb (length (reportOf (readNetwork net .network) node a)) (length out)) 16))
+    orElse (formVerdict net a) (reportRule (readNetwork net .network) node (length (reportOf (readNetwork net .network) node a)) (length out))
 
 -- a verdict, the report's length (0 beside a refusal), and the lent bytes afterwards
 pub record ReportAnswer : Type 0 where

@@ -66,7 +66,7 @@ offsets bs = offsetsFrom (length bs) bs 0
 
 -- ---- refusals
 
--- "A refusal returns its number and a place. A call not refused has number 0 and place 0"
+-- "A refusal returns its number and a place"; "A call not refused has number 0 and place 0"
 pub record Verdict : Type 0 where
   pub number : ℕ
   pub place : ℕ

@@ -1,4 +1,4 @@
--- The plain station: document 01, the section of that name. "Plain station" is that paper's own term.
+-- "The plain station": document 01, the section of that name, and its own term.
 use mathlib.Core.Bool.{Bool, true, false, not, _&&_, cond}
 use mathlib.Core.List.{List, [], _∷_, _++_, zipWith, flatMap}
 use Prim.Native.Nat.{ℕ, zero, suc, _+_}

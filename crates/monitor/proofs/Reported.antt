@@ -16,7 +16,7 @@ use Rattle.model.specs.Record.{Bytes, accepted, isAccepted, refused, Verdict}
 use Rattle.model.specs.Delta.{Change, changeAt}
 use Rattle.monitor.specs.Promises.{Forms, changeIn, reportIn}
 use Rattle.model.specs.Row.{Relation}
-use Rattle.model.specs.Calls.{allowsGained, allowsLost, formVerdict, isWatched, reportBytes, reportCall, reportOf, reportVerdict, writtenTo, ReportAnswer, orElse, unless}
+use Rattle.model.specs.Calls.{allowsGained, allowsLost, formVerdict, isWatched, reportBytes, reportCall, reportOf, reportRule, reportVerdict, writtenTo, ReportAnswer, orElse}
 use Rattle.monitor.proofs.Checks.{form-accepted}
 use Rattle.coherence.proofs.Coherent.{nodes-count, width-is, relation-at, relations-length}
 use Rattle.model.proofs.Fits.{length-widths}
@@ -114,8 +114,7 @@ module _ (net : Bytes) (node : ℕ) (rows gained lost head out : List ℕ) (r : 
 
   -- 15 and 16
   later : Verdict
-  later =
-      orElse (unless (isWatched (readNetwork net .network) node) 15) (unless (leb (length (reportOf (readNetwork net .network) node (lent rows gained lost head))) (length out)) 16)
+  later = reportRule (readNetwork net .network) node (length (reportOf (readNetwork net .network) node (lent rows gained lost head))) (length out)
 
   -- what a verdict leaves
   answer : Verdict → ReportAnswer

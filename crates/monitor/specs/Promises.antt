@@ -4,12 +4,11 @@ use mathlib.Core.Bool.{Bool, true, cond}
 use mathlib.Core.List.{List, []}
 use Prim.Native.Nat.{ℕ, _<_, _≤_}
 use lib.ListN.{getD, length}
-use lib.Dec.{leb}
 use Rattle.model.specs.Record.{Bytes, isAccepted}
 use Rattle.network.specs.declared.Network.{Network}
 use Rattle.model.specs.Network.{readNetwork}
 use Rattle.model.specs.Areas.{Areas, layout, longEnough, goodForm, gainedCount, heldIn, lostCount}
-use Rattle.model.specs.Calls.{CheckAnswer, ReportAnswer, formVerdict, isWatched, orElse, reportOf, unless, writtenTo}
+use Rattle.model.specs.Calls.{CheckAnswer, ReportAnswer, formVerdict, reportOf, reportRule, writtenTo}
 use Rattle.network.specs.Reading.{verdictOf, networkOf, nodesOf, Built}
 use Rattle.model.specs.Delta.{Change}
 use Rattle.network.specs.declared.Reading.{Reading}
@@ -31,7 +30,7 @@ reportAnswerOf r out = record { verdict = record { number = r .number; place = r
 unfoldable pub reportIn : model.Network → ℕ → Areas → Bytes → ReportAnswer
 unfolding reportOf
 reportIn net node a out =
-    let v : modelRecord.Verdict = orElse (unless (isWatched net node) 15) (unless (leb (length (reportOf net node a)) (length out)) 16) in
+    let v : modelRecord.Verdict = reportRule net node (length (reportOf net node a)) (length out) in
     let text : Bytes = cond (isAccepted v) (reportOf net node a) [] in
     record { verdict = v; size = length text; out = writtenTo out text }
 
