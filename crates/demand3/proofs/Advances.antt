@@ -1,5 +1,5 @@
 -- What an accepted batch leaves in the areas, by node: changes, rows, stamps and the worked list. Assumes nothing.
-use mathlib.Core.Bool.{_&&_, Bool, cond, false, not, true, true≢false}
+use mathlib.Core.Bool.{Bool, cond, false, not, true, true≢false}
 use mathlib.Core.List.{_++_, List, [], flatMap, _∷_}
 use mathlib.Core.Path.{_≡_, ap, ap₂, refl, sym, _∙_}
 use Prim.Native.Nat.{_+_, _<_, suc, zero, ℕ, _≤_, zero-le}
@@ -9,9 +9,9 @@ use lib.Dec.{ltb}
 use lib.ListN.{getD, length, take, List·getD-eq-default}
 use lib.Seq.{getD-take, length-take-le}
 use borrow.Author.Tests.{ltb-true, ltb-false}
-use Rattle.model.specs.Network.{Node, AllFit, nodeAt, isTable, inputsOf, build, join, project, select, setOperation, table, highest, levelOf, levels, widths}
+use Rattle.model.specs.Network.{Node, AllFit, nodeAt, isTable, inputsOf, build, join, project, select, setOperation, table, highest, levelOf, levels}
 use Rattle.model.specs.Areas.{Areas, batchNumber, changesIn, holding, layout, rowsIn, stampAt, stateIn, tablesOf}
-use Rattle.model.specs.Delta.{Change, changeAt, isChanged, netChange, netChanges, noChange}
+use Rattle.model.specs.Delta.{Change, changeAt, isChanged, netChange, netChanges}
 use Rattle.model.specs.Row.{Relation, allOf, sameRows}
 use Rattle.model.specs.Station.{State, advance, stampOf, hasChangedInput, workedList}
 use Rattle.model.specs.Evaluation.{builtOn, evaluate, rowsAt}
@@ -42,12 +42,16 @@ module _ (nodes : List Node) (fit : AllFit nodes) (old new : List Relation) wher
   abbrev Same : ℕ → Type 0
   Same t = rowsAt (evaluate nodes old) t ≡ rowsAt (evaluate nodes new) t
 
-  built-at : (i : ℕ) → i < length nodes → getD (builtOn nodes) i [] ≡ cond (isTable (nodeAt nodes i)) (i ∷ []) (flatMap (λ j. getD (take i (builtOn nodes)) j []) (inputsOf (nodeAt nodes i)))
+  built-at : (i : ℕ) → i < length nodes → getD (builtOn nodes) i []
+      ≡ cond (isTable (nodeAt nodes i)) (i ∷ []) (flatMap (λ j. getD (take i (builtOn nodes)) j []) (inputsOf (nodeAt nodes i)))
   unfolding builtOn
   built-at i h =
       build-at (λ n done. cond (isTable n) (length done ∷ []) (flatMap (λ j. getD done j []) (inputsOf n))) i nodes [] h
-      ∙ ap (λ (k : ℕ). cond (isTable (nodeAt nodes i)) (k ∷ []) (flatMap (λ j. getD (take i (build (λ n done. cond (isTable n) (length done ∷ []) (flatMap (λ l. getD done l []) (inputsOf n))) nodes)) j []) (inputsOf (nodeAt nodes i))))
-      (length-take-le i (build (λ n done. cond (isTable n) (length done ∷ []) (flatMap (λ j. getD done j []) (inputsOf n))) nodes) (rw (length-build (λ n done. cond (isTable n) (length done ∷ []) (flatMap (λ j. getD done j []) (inputsOf n))) nodes) (omega arith)))
+      ∙ ap (λ (k : ℕ). cond (isTable (nodeAt nodes i)) (k ∷ [])
+      (flatMap (λ j. getD (take i (build (λ n done. cond (isTable n) (length done ∷ []) (flatMap (λ l. getD done l []) (inputsOf n))) nodes)) j [])
+      (inputsOf (nodeAt nodes i))))
+      (length-take-le i (build (λ n done. cond (isTable n) (length done ∷ []) (flatMap (λ j. getD done j []) (inputsOf n))) nodes)
+      (rw (length-build (λ n done. cond (isTable n) (length done ∷ []) (flatMap (λ j. getD done j []) (inputsOf n))) nodes) (omega arith)))
 
   -- both inputs of a derived node are among its inputs
   inputs-each : (n : Node) (p : ℕ → Type 0) (f : ℕ → List ℕ) → isTable n ≡ false → Each p (flatMap f (inputsOf n)) → Each p (f (leftOf n)) × Each p (f (rightOf n))
@@ -65,18 +69,23 @@ module _ (nodes : List Node) (fit : AllFit nodes) (old new : List Relation) wher
       inside : i < length nodes
       inside = omega arith
 
-      go : (t : Bool) → isTable (nodeAt nodes i) ≡ t → ((j : ℕ) → j < k → Each Same (getD (builtOn nodes) j []) → rowsAt (evaluate nodes old) j ≡ rowsAt (evaluate nodes new) j) → rowsAt (evaluate nodes old) i ≡ rowsAt (evaluate nodes new) i
+      go : (t : Bool) → isTable (nodeAt nodes i) ≡ t → ((j : ℕ) → j < k → Each Same (getD (builtOn nodes) j []) → rowsAt (evaluate nodes old) j ≡ rowsAt (evaluate nodes new) j) →
+          rowsAt (evaluate nodes old) i ≡ rowsAt (evaluate nodes new) i
       go true b ih =
-          let own : Each Same (i ∷ []) = rw (built-at i inside ∙ ap (λ (t : Bool). cond t (i ∷ []) (flatMap (λ j. getD (take i (builtOn nodes)) j []) (inputsOf (nodeAt nodes i)))) b) at e in
+          let own : Each Same (i ∷ []) =
+          rw (built-at i inside ∙ ap (λ (t : Bool). cond t (i ∷ []) (flatMap (λ j. getD (take i (builtOn nodes)) j []) (inputsOf (nodeAt nodes i)))) b) at e in
           own .0
       go false b ih =
           let before : (leftOf (nodeAt nodes i) < i) × (rightOf (nodeAt nodes i) < i) = inputs-before nodes fit i inside b in
-          let both : Each Same (flatMap (λ j. getD (take i (builtOn nodes)) j []) (inputsOf (nodeAt nodes i))) = rw (built-at i inside ∙ ap (λ (t : Bool). cond t (i ∷ []) (flatMap (λ j. getD (take i (builtOn nodes)) j []) (inputsOf (nodeAt nodes i)))) b) at e in
-          let parts : Each Same (getD (take i (builtOn nodes)) (leftOf (nodeAt nodes i)) []) × Each Same (getD (take i (builtOn nodes)) (rightOf (nodeAt nodes i)) []) = inputs-each (nodeAt nodes i) Same (λ j. getD (take i (builtOn nodes)) j []) b both in
+          let both : Each Same (flatMap (λ j. getD (take i (builtOn nodes)) j []) (inputsOf (nodeAt nodes i))) =
+          rw (built-at i inside ∙ ap (λ (t : Bool). cond t (i ∷ []) (flatMap (λ j. getD (take i (builtOn nodes)) j []) (inputsOf (nodeAt nodes i)))) b) at e in
+          let parts : Each Same (getD (take i (builtOn nodes)) (leftOf (nodeAt nodes i)) []) × Each Same (getD (take i (builtOn nodes)) (rightOf (nodeAt nodes i)) []) = inputs-each
+          (nodeAt nodes i) Same (λ j. getD (take i (builtOn nodes)) j []) b both in
           let left : Each Same (getD (builtOn nodes) (leftOf (nodeAt nodes i)) []) = rw (getD-take i (builtOn nodes) (leftOf (nodeAt nodes i)) [] (before .0)) at (parts .0) in
           let right : Each Same (getD (builtOn nodes) (rightOf (nodeAt nodes i)) []) = rw (getD-take i (builtOn nodes) (rightOf (nodeAt nodes i)) [] (before .1)) at (parts .1) in
           fresh-derived nodes fit old i inside b
-          ∙ ap₂ {A = Relation} {B = Relation} {C = Relation} (λ x y. evaluateOn (nodeAt nodes i) x y) (ih (leftOf (nodeAt nodes i)) (omega (arith, before .0)) left) (ih (rightOf (nodeAt nodes i)) (omega (arith, before .1)) right)
+          ∙ ap₂ {A = Relation} {B = Relation} {C = Relation} (λ x y. evaluateOn (nodeAt nodes i) x y) (ih (leftOf (nodeAt nodes i)) (omega (arith, before .0)) left)
+          (ih (rightOf (nodeAt nodes i)) (omega (arith, before .1)) right)
           ∙ sym (fresh-derived nodes fit new i inside b)
 
   -- it keeps its rows
@@ -105,8 +114,10 @@ module _ (nodes : List Node) (fit : AllFit nodes) where
       go true e ih = rw (build-at levelOf i nodes 0 inside, e) zero-le
       go false e ih =
           let b : (leftOf (nodeAt nodes i) < i) × (rightOf (nodeAt nodes i) < i) = inputs-before nodes fit i inside e in
-          let l : getD (take i (build levelOf nodes)) (leftOf (nodeAt nodes i)) 0 < i = rw (getD-take i (build levelOf nodes) (leftOf (nodeAt nodes i)) 0 (b .0)) (omega (arith, b .0, ih (leftOf (nodeAt nodes i)) (omega (arith, b .0)))) in
-          let r : getD (take i (build levelOf nodes)) (rightOf (nodeAt nodes i)) 0 < i = rw (getD-take i (build levelOf nodes) (rightOf (nodeAt nodes i)) 0 (b .1)) (omega (arith, b .1, ih (rightOf (nodeAt nodes i)) (omega (arith, b .1)))) in
+          let l : getD (take i (build levelOf nodes)) (leftOf (nodeAt nodes i)) 0 < i = rw (getD-take i (build levelOf nodes) (leftOf (nodeAt nodes i)) 0 (b .0))
+          (omega (arith, b .0, ih (leftOf (nodeAt nodes i)) (omega (arith, b .0)))) in
+          let r : getD (take i (build levelOf nodes)) (rightOf (nodeAt nodes i)) 0 < i = rw (getD-take i (build levelOf nodes) (rightOf (nodeAt nodes i)) 0 (b .1))
+          (omega (arith, b .1, ih (rightOf (nodeAt nodes i)) (omega (arith, b .1)))) in
           rw (build-at levelOf i nodes 0 inside, e) (two-high (take i (build levelOf nodes)) (nodeAt nodes i) i e l r)
 
   -- the worked list is just the derived nodes with a changed input: a table has no input
@@ -138,10 +149,13 @@ says nodes fit s p before =
     }
 
 -- a property of each table that a node is built on
-each-of : (cs : List Change) (p : ℕ → Type 0) → ((t : ℕ) → isChanged (changeAt cs t) ≡ false → p t) → (l : List ℕ) → allOf (λ t. not (isChanged (changeAt cs t))) l ≡ true → Each p l
+each-of : (cs : List Change) (p : ℕ → Type 0) → ((t : ℕ) → isChanged (changeAt cs t) ≡ false → p t) → (l : List ℕ) → allOf (λ t. not (isChanged (changeAt cs t))) l ≡ true →
+    Each p l
 each-of cs p f [] e = tt
-each-of cs p f (t ∷ l) e =
-    (f t (flip (isChanged (changeAt cs t)) (and-first (not (isChanged (changeAt cs t))) (allOf (λ x. not (isChanged (changeAt cs x))) l) e)), each-of cs p f l (and-second (not (isChanged (changeAt cs t))) (allOf (λ x. not (isChanged (changeAt cs x))) l) e))
+each-of cs p f (t ∷ l) e = (
+  f t (flip (isChanged (changeAt cs t)) (and-first (not (isChanged (changeAt cs t))) (allOf (λ x. not (isChanged (changeAt cs x))) l) e)),
+  each-of cs p f l (and-second (not (isChanged (changeAt cs t))) (allOf (λ x. not (isChanged (changeAt cs x))) l) e),
+)
   where
     flip : (b : Bool) → not b ≡ true → b ≡ false
     flip true g = absurd (true≢false (sym g))
@@ -179,7 +193,8 @@ module _ (nodes : List Node) (fit : AllFit nodes) (s : State) (p : Proper nodes 
       go true f =
           let h : t < length nodes = ltb-true t (length nodes) f in
           let is : not (sameRows (rowsAt (evaluate nodes copy) t) (rowsAt (evaluate nodes (s .tables)) t)) ≡ false =
-          sym (changed-is (rowsAt old t) (rowsAt new t) (ascending-holds (rowsAt old t) (p .rows .asc t (rw (length-widths nodes) h))) (new-asc t h)) ∙ ap isChanged (sym (change-at t h)) ∙ e in
+          sym (changed-is (rowsAt old t) (rowsAt new t) (ascending-holds (rowsAt old t) (p .rows .asc t (rw (length-widths nodes) h))) (new-asc t h))
+          ∙ ap isChanged (sym (change-at t h)) ∙ e in
           sym (sameRows-eq (rowsAt new t) (rowsAt old t) (yes (sameRows (rowsAt new t) (rowsAt old t)) is))
         where
           yes : (b : Bool) → not b ≡ false → b ≡ true
@@ -189,7 +204,8 @@ module _ (nodes : List Node) (fit : AllFit nodes) (s : State) (p : Proper nodes 
           let h : length nodes ≤ t = ltb-false t (length nodes) f in
           List·getD-eq-default old [] {n = t} (rw (length-evaluate nodes (s .tables)) h) ∙ sym (List·getD-eq-default new [] {n = t} (rw (length-evaluate nodes copy) h))
 
-  kept : (i : ℕ) → i < length nodes → allOf (λ t. not (isChanged (changeAt (advance nodes s copy .changes) t))) (getD (builtOn nodes) i []) ≡ true → rowsAt (evaluate nodes (s .tables)) i ≡ rowsAt (evaluate nodes copy) i
+  kept : (i : ℕ) → i < length nodes → allOf (λ t. not (isChanged (changeAt (advance nodes s copy .changes) t))) (getD (builtOn nodes) i []) ≡ true →
+      rowsAt (evaluate nodes (s .tables)) i ≡ rowsAt (evaluate nodes copy) i
   kept i h e = rows-same nodes fit (s .tables) copy i h (each-of (advance nodes s copy .changes) (λ t. rowsAt old t ≡ rowsAt new t) unchanged-same (getD (builtOn nodes) i []) e)
 
   stamp-next : (i : ℕ) → i < length nodes → getD (advance nodes s copy .stamps) i 0 ≡ stampOf (s .number + 1) (changeAt (advance nodes s copy .changes) i) (getD (s .stamps) i 0)
@@ -243,11 +259,13 @@ module _ (nodes : List Node) (fit : AllFit nodes) (s : State) (p : Proper nodes 
           worked-list = worked-after;
           number-is = y .number ∙ number-next ∙ ap (λ (n : ℕ). n + 1) (sym (x .number));
           rows-kept = λ i h e. rows-after i ∙ sym (untouched i h e) ∙ sym (rows-before i);
-          stamp-kept = λ i h e. stamp-after i h ∙ ap (λ (c : Change). stampOf (batchNumber (b .head)) c (stampAt (a .head) i)) (change-after i h ∙ ap (λ (r : Relation). netChange r (rowsAt new i)) (untouched i h e) ∙ no-change (rowsAt new i));
+          stamp-kept = λ i h e. stamp-after i h ∙ ap (λ (c : Change). stampOf (batchNumber (b .head)) c (stampAt (a .head) i))
+              (change-after i h ∙ ap (λ (r : Relation). netChange r (rowsAt new i)) (untouched i h e) ∙ no-change (rowsAt new i));
           stamp-is = stamp-after;
         }
 
 -- an accepted batch, from areas with one state in their named words to areas with the next
-pub advances-held : (nodes : List Node) (fit : AllFit nodes) (s : State) (copy : List Relation) → Proper nodes s → Proper nodes (advance nodes s copy) → (x y : Areas) → Advances nodes (holding layout nodes s x) (holding layout nodes (advance nodes s copy) y)
+pub advances-held : (nodes : List Node) (fit : AllFit nodes) (s : State) (copy : List Relation) → Proper nodes s → Proper nodes (advance nodes s copy) → (x y : Areas) →
+    Advances nodes (holding layout nodes s x) (holding layout nodes (advance nodes s copy) y)
 advances-held nodes fit s copy p q x y =
     advances nodes fit s p copy q (holding layout nodes s x) (holding layout nodes (advance nodes s copy) y) (says nodes fit s p x) (says nodes fit (advance nodes s copy) q y)

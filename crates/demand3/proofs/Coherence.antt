@@ -10,7 +10,8 @@ use lib.Dec.{eqb, leb, ltb}
 use borrow.Author.Tests.{leb-true, lt-ltb, ltb-false, ltb-true}
 use Rattle.model.specs.Network.{Node, widths}
 use Rattle.rows.proofs.Place.{all-below}
-use Rattle.model.specs.Areas.{Areas, batchNumber, changesIn, coherent, gainedCount, goodArea, goodForm, goodStamps, goodWorked, holding, layout, longEnough, lostCount, relationsIn, rowCount, rowsIn, sameRelations, stampAt, stateIn, tablesOf, workedAt, workedCount}
+use Rattle.model.specs.Areas.{Areas, batchNumber, changesIn, coherent, gainedCount, goodArea, goodForm, goodStamps, goodWorked, layout, lostCount, relationsIn, rowCount, rowsIn}
+use Rattle.model.specs.Areas.{sameRelations, stampAt, stateIn, tablesOf, workedAt, workedCount}
 use Rattle.states.proofs.Written.{Fitting}
 use Rattle.demand3.proofs.Holds.{Proper}
 use Rattle.model.specs.Row.{allOf, numbersBelow}
@@ -28,12 +29,14 @@ module _ (nodes : List Node) (small : Small nodes) (a : Areas) (c : coherent lay
 
   pub fresh : rowsIn layout nodes a ≡ evaluate nodes (tablesOf nodes (rowsIn layout nodes a))
   unfolding coherent
-  fresh = same-eq (rowsIn layout nodes a) (evaluate nodes (tablesOf nodes (rowsIn layout nodes a))) (and-second (goodForm layout nodes a) (sameRelations (rowsIn layout nodes a) (evaluate nodes (tablesOf nodes (rowsIn layout nodes a)))) c)
+  fresh = same-eq (rowsIn layout nodes a) (evaluate nodes (tablesOf nodes (rowsIn layout nodes a)))
+      (and-second (goodForm layout nodes a) (sameRelations (rowsIn layout nodes a) (evaluate nodes (tablesOf nodes (rowsIn layout nodes a)))) c)
 
   pub few : length (widths nodes) ≤ 32
   few = omega (arith, small .few, length-widths nodes)
 
-  pub parts : (goodArea layout (widths nodes) (rowCount (a .head)) (a .rows) ≡ true) × (goodArea layout (widths nodes) (gainedCount (a .head)) (a .gained) ≡ true) × (goodArea layout (widths nodes) (lostCount (a .head)) (a .lost) ≡ true) × (goodStamps (length nodes) (a .head) ≡ true) × (goodWorked (length nodes) (a .head) ≡ true)
+  pub parts : (goodArea layout (widths nodes) (rowCount (a .head)) (a .rows) ≡ true) × (goodArea layout (widths nodes) (gainedCount (a .head)) (a .gained) ≡ true) ×
+      (goodArea layout (widths nodes) (lostCount (a .head)) (a .lost) ≡ true) × (goodStamps (length nodes) (a .head) ≡ true) × (goodWorked (length nodes) (a .head) ≡ true)
   parts = form-parts nodes a form
 
   worked : goodWorked (length nodes) (a .head) ≡ true
@@ -57,19 +60,28 @@ module _ (nodes : List Node) (small : Small nodes) (a : Areas) (c : coherent lay
 
   worked-few-here : workedCount (a .head) ≤ length nodes
   unfolding goodWorked
-  worked-few-here = leb-true (workedCount (a .head)) (length nodes) (and-first (leb (workedCount (a .head)) (length nodes)) (allOf (λ k. cond (ltb k (workedCount (a .head))) (ltb (workedAt (a .head) k) (length nodes)) (eqb (workedAt (a .head) k) 0)) (numbersBelow 32)) worked)
+  worked-few-here = leb-true (workedCount (a .head)) (length nodes)
+      (and-first (leb (workedCount (a .head)) (length nodes))
+      (allOf (λ k. cond (ltb k (workedCount (a .head))) (ltb (workedAt (a .head) k) (length nodes)) (eqb (workedAt (a .head) k) 0)) (numbersBelow 32)) worked)
 
   worked-at : (k : ℕ) → k < workedCount (a .head) → workedAt (a .head) k < length nodes
   unfolding goodWorked
   worked-at k h =
-      let all : allOf (λ j. cond (ltb j (workedCount (a .head))) (ltb (workedAt (a .head) j) (length nodes)) (eqb (workedAt (a .head) j) 0)) (numbersBelow 32) ≡ true = and-second (leb (workedCount (a .head)) (length nodes)) (allOf (λ j. cond (ltb j (workedCount (a .head))) (ltb (workedAt (a .head) j) (length nodes)) (eqb (workedAt (a .head) j) 0)) (numbersBelow 32)) worked in
-      let here : cond (ltb k (workedCount (a .head))) (ltb (workedAt (a .head) k) (length nodes)) (eqb (workedAt (a .head) k) 0) ≡ true = ap (λ (j : ℕ). cond (ltb j (workedCount (a .head))) (ltb (workedAt (a .head) j) (length nodes)) (eqb (workedAt (a .head) j) 0)) (sym (zero-add k)) ∙ all-below (λ j. cond (ltb j (workedCount (a .head))) (ltb (workedAt (a .head) j) (length nodes)) (eqb (workedAt (a .head) j) 0)) 0 32 all k (omega (arith, worked-few-here, small .few)) in
+      let all : allOf (λ j. cond (ltb j (workedCount (a .head))) (ltb (workedAt (a .head) j) (length nodes)) (eqb (workedAt (a .head) j) 0)) (numbersBelow 32)
+      ≡ true = and-second (leb (workedCount (a .head)) (length nodes))
+      (allOf (λ j. cond (ltb j (workedCount (a .head))) (ltb (workedAt (a .head) j) (length nodes)) (eqb (workedAt (a .head) j) 0)) (numbersBelow 32)) worked in
+      let here : cond (ltb k (workedCount (a .head))) (ltb (workedAt (a .head) k) (length nodes)) (eqb (workedAt (a .head) k) 0)
+      ≡ true = ap (λ (j : ℕ). cond (ltb j (workedCount (a .head))) (ltb (workedAt (a .head) j) (length nodes)) (eqb (workedAt (a .head) j) 0)) (sym (zero-add k))
+      ∙ all-below (λ j. cond (ltb j (workedCount (a .head))) (ltb (workedAt (a .head) j) (length nodes)) (eqb (workedAt (a .head) j) 0)) 0 32 all k
+      (omega (arith, worked-few-here, small .few)) in
       ltb-true (workedAt (a .head) k) (length nodes) (rw (lt-ltb k (workedCount (a .head)) h) at here)
 
   stamp-low : (i : ℕ) → i < length nodes → stampAt (a .head) i ≤ batchNumber (a .head)
   unfolding goodStamps
   stamp-low i h =
-      let here : leb (stampAt (a .head) i) (cond (ltb i (length nodes)) (batchNumber (a .head)) 0) ≡ true = ap (λ (j : ℕ). leb (stampAt (a .head) j) (cond (ltb j (length nodes)) (batchNumber (a .head)) 0)) (sym (zero-add i)) ∙ all-below (λ j. leb (stampAt (a .head) j) (cond (ltb j (length nodes)) (batchNumber (a .head)) 0)) 0 32 stamps i (omega (arith, small .few)) in
+      let here : leb (stampAt (a .head) i) (cond (ltb i (length nodes)) (batchNumber (a .head)) 0)
+      ≡ true = ap (λ (j : ℕ). leb (stampAt (a .head) j) (cond (ltb j (length nodes)) (batchNumber (a .head)) 0)) (sym (zero-add i))
+      ∙ all-below (λ j. leb (stampAt (a .head) j) (cond (ltb j (length nodes)) (batchNumber (a .head)) 0)) 0 32 stamps i (omega (arith, small .few)) in
       leb-true (stampAt (a .head) i) (batchNumber (a .head)) (rw (lt-ltb i (length nodes) h) at here)
 
   -- the state that coherent areas hold
@@ -81,14 +93,18 @@ module _ (nodes : List Node) (small : Small nodes) (a : Areas) (c : coherent lay
         tables-size = only-length nodes (rowsIn layout nodes a) size;
         tables-only = only-twice nodes (rowsIn layout nodes a);
         rows = rw (← fresh) rows-fit;
-        gained = rw (map-gained (relationsIn layout (widths nodes) (gainedCount (a .head)) (a .gained)) (relationsIn layout (widths nodes) (lostCount (a .head)) (a .lost)) same-length) gained-fit;
-        lost = rw (map-lost (relationsIn layout (widths nodes) (gainedCount (a .head)) (a .gained)) (relationsIn layout (widths nodes) (lostCount (a .head)) (a .lost)) same-length) lost-fit;
+        gained = rw (map-gained (relationsIn layout (widths nodes) (gainedCount (a .head)) (a .gained)) (relationsIn layout (widths nodes) (lostCount (a .head)) (a .lost))
+            same-length) gained-fit;
+        lost = rw (map-lost (relationsIn layout (widths nodes) (gainedCount (a .head)) (a .gained)) (relationsIn layout (widths nodes) (lostCount (a .head)) (a .lost)) same-length)
+            lost-fit;
         stamps-size = length-counted (stampAt (a .head)) 0 (length nodes);
         stamps-low = λ i. go i (ltb i (length nodes)) refl;
         worked-few = rw (length-counted (workedAt (a .head)) 0 (workedCount (a .head))) worked-few-here;
-        worked-low = λ k h. let b : k < workedCount (a .head) = rw (length-counted (workedAt (a .head)) 0 (workedCount (a .head))) at h in rw (counted-at 0 (workedAt (a .head)) 0 (workedCount (a .head)) k b, zero-add k) (worked-at k b);
+        worked-low = λ k h. let b : k < workedCount (a .head) = rw (length-counted (workedAt (a .head)) 0 (workedCount (a .head))) at h
+            in rw (counted-at 0 (workedAt (a .head)) 0 (workedCount (a .head)) k b, zero-add k) (worked-at k b);
       }
     where
       go : (i : ℕ) (t : Bool) → ltb i (length nodes) ≡ t → getD (map (stampAt (a .head)) (numbersBelow (length nodes))) i 0 ≤ batchNumber (a .head)
       go i true e = let b : i < length nodes = ltb-true i (length nodes) e in rw (counted-at 0 (stampAt (a .head)) 0 (length nodes) i b, zero-add i) (stamp-low i b)
-      go i false e = rw (List·getD-eq-default (map (stampAt (a .head)) (numbersBelow (length nodes))) 0 {n = i} (rw (length-counted (stampAt (a .head)) 0 (length nodes)) (ltb-false i (length nodes) e))) zero-le
+      go i false e = rw (List·getD-eq-default (map (stampAt (a .head)) (numbersBelow (length nodes))) 0 {n = i}
+          (rw (length-counted (stampAt (a .head)) 0 (length nodes)) (ltb-false i (length nodes) e))) zero-le

@@ -8,38 +8,44 @@ use native.Mathlib.Omega.{arith}
 use lib.Dec.{leb, ltb, eqb}
 use lib.ListN.{getD, length, take, drop, replicate, length-append, length-drop, length-replicate, getD-replicate, take-append-drop}
 use lib.Seq.{drop-at, ext-getD, take-add, drop-drop, getD-drop, length-take-le}
-use borrow.Author.Tests.{eqb-true, leb-true, le-ltb, lt-ltb, ltb-false, ltb-true}
+use borrow.Author.Tests.{eqb-true, leb-true, le-ltb, ltb-false, ltb-true}
 use Rattle.model.specs.Row.{Relation, allOf, numbersBelow}
 use Rattle.model.specs.Network.{Node, widths}
 use Rattle.model.specs.Evaluation.{evaluate}
 use Rattle.model.specs.Delta.{Change}
 use Rattle.model.specs.Station.{State}
-use Rattle.model.specs.Areas.{Areas, areaOf, batchNumber, changesIn, coherent, emptyPlace, gainedCount, goodArea, goodPlace, goodStamps, goodWorked, headOf, heldIn, holding, layout, longEnough, lostCount, over, placeOf, relationsIn, rowCount, rowsIn, stampAt, stateIn, unusedZero, workedAt, workedCount}
+use Rattle.model.specs.Areas.{Areas, areaOf, batchNumber, changesIn, coherent, emptyPlace, gainedCount, goodArea, goodPlace, goodStamps, goodWorked, headOf, holding, layout}
+use Rattle.model.specs.Areas.{longEnough, lostCount, over, placeOf, relationsIn, rowCount, rowsIn, stampAt, stateIn, unusedZero, workedAt, workedCount}
 use Rattle.model.proofs.Sets.{and-first, and-second}
 use Rattle.model.proofs.Parts.{length-counted, counted-at}
-use Rattle.model.proofs.Fits.{Small, length-widths}
+use Rattle.model.proofs.Fits.{Small}
 use Rattle.rows.proofs.Place.{all-below, length-held}
 use Rattle.algebra.proofs.Places.{place-is}
 use Rattle.areas.specs.Lent.{placeAt}
 use Rattle.areas.proofs.Good.{long-parts}
 use Rattle.coherence.proofs.Coherent.{relation-at, relations-length}
-use Rattle.states.proofs.Written.{Fitting, area-length, flat-none, place-none}
+use Rattle.states.proofs.Written.{area-length, flat-none, place-none}
 use Rattle.states.proofs.Fitted.{area-place, area-empty, area-fits, map-gained, map-lost}
-use Rattle.demand3.proofs.Holds.{Proper, gained-count, gained-none, head-words, lost-count, lost-none, number-is, padded-at, rows-count, rows-none, stamp-word, worked-is, worked-word}
+use Rattle.demand3.proofs.Holds.{Proper, gained-count, gained-none, head-words, lost-count, lost-none, number-is, padded-at, rows-count, rows-none, stamp-word, worked-is}
+use Rattle.demand3.proofs.Holds.{worked-word}
 use Rattle.states.proofs.Head.{padded-zero}
 use Rattle.demand3.proofs.Coherence.{few, fresh, parts, state-proper}
 
 -- ---- rows, gained and lost
 
 -- the places of some relations, one after the other, are the words of an area from a node on
-places-are : (area : List ℕ) (rels : List Relation) (from : ℕ) → ((j : ℕ) → j < length rels → placeAt area (from + j) ≡ placeOf layout (getD rels j [])) → flatMap (placeOf layout) rels ≡ take (256 * length rels) (drop (from * 256) area)
+places-are : (area : List ℕ) (rels : List Relation) (from : ℕ) → ((j : ℕ) → j < length rels → placeAt area (from + j) ≡ placeOf layout (getD rels j [])) →
+    flatMap (placeOf layout) rels ≡ take (256 * length rels) (drop (from * 256) area)
 unfolding flatMap
 places-are area [] from h = refl
 places-are area (r ∷ rels) from h =
     let here : from + 0 ≡ from = add-zero from in
-    let first : placeOf layout r ≡ take 256 (drop (from * 256) area) = sym (h 0 (suc-le-suc zero-le)) ∙ ap (placeAt area) here ∙ ap (λ (k : ℕ). take k (drop (from * 256) area)) (let e : from * 256 + 256 - from * 256 ≡ 256 = omega arith in e) in
-    let rest : flatMap (placeOf layout) rels ≡ take (256 * length rels) (drop (suc from * 256) area) = places-are area rels (suc from) (λ j b. ap (placeAt area) (let e : suc from + j ≡ from + suc j = omega arith in e) ∙ h (suc j) (suc-le-suc b)) in
-    let on : drop (suc from * 256) area ≡ drop 256 (drop (from * 256) area) = ap (λ (k : ℕ). drop k area) (let e : suc from * 256 ≡ from * 256 + 256 = omega arith in e) ∙ sym (drop-drop 256 (from * 256) area) in
+    let first : placeOf layout r ≡ take 256 (drop (from * 256) area) = sym (h 0 (suc-le-suc zero-le)) ∙ ap (placeAt area) here
+    ∙ ap (λ (k : ℕ). take k (drop (from * 256) area)) (let e : from * 256 + 256 - from * 256 ≡ 256 = omega arith in e) in
+    let rest : flatMap (placeOf layout) rels ≡ take (256 * length rels) (drop (suc from * 256) area) = places-are area rels (suc from)
+    (λ j b. ap (placeAt area) (let e : suc from + j ≡ from + suc j = omega arith in e) ∙ h (suc j) (suc-le-suc b)) in
+    let on : drop (suc from * 256) area ≡ drop 256 (drop (from * 256) area) = ap (λ (k : ℕ). drop k area) (let e : suc from * 256 ≡ from * 256 + 256 = omega arith in e)
+    ∙ sym (drop-drop 256 (from * 256) area) in
     ap₂ {A = List ℕ} {B = List ℕ} {C = List ℕ} (λ x y. x ++ y) first (rest ∙ ap (take (256 * length rels)) on)
     ∙ sym (take-add 256 (256 * length rels) (drop (from * 256) area))
     ∙ ap (λ (k : ℕ). take k (drop (from * 256) area)) (let e : 256 + 256 * length rels ≡ 256 * suc (length rels) = omega arith in e)
@@ -64,15 +70,23 @@ module _ (ws : List ℕ) (few : length ws ≤ 32) (narrow : (i : ℕ) → getD w
       let rels : List Relation = relationsIn layout ws count area in
       let size : length (relationsIn layout ws count area) ≡ length ws = relations-length ws count area in
       let first : flatMap (placeOf layout) (relationsIn layout ws count area) ≡ take (256 * length (relationsIn layout ws count area)) area =
-      places-are area rels 0 (λ j b. let k : j < length ws = rw size at b in ap (placeAt area) (zero-add j) ∙ place-is (getD ws j 0) (placeAt area j) (count j) (area-place ws few narrow count area g long j k .0) ∙ ap (placeOf layout) (area-place ws few narrow count area g long j k .1)) in
+      places-are area rels 0
+      (λ j b. let k : j < length ws = rw size at b in ap (placeAt area) (zero-add j)
+      ∙ place-is (getD ws j 0) (placeAt area j) (count j) (area-place ws few narrow count area g long j k .0)
+      ∙ ap (placeOf layout) (area-place ws few narrow count area g long j k .1)) in
       let rest : replicate (256 * (32 - length ws)) 0 ≡ take (256 * (32 - length ws)) (drop (length ws * 256) area) =
       sym (flat-none (32 - length ws))
-      ∙ places-are area (replicate (32 - length ws) []) (length ws) (λ j b. let k : j < 32 - length ws = rw (length-replicate {A = Relation} (32 - length ws) []) at b in area-empty ws few narrow count area g long (length ws + j) (omega arith) (omega arith) ∙ place-none ∙ ap (placeOf layout) (sym (getD-replicate {A = Relation} (32 - length ws) j [] [] k)))
+      ∙ places-are area (replicate (32 - length ws) []) (length ws)
+      (λ j b. let k : j < 32 - length ws = rw (length-replicate {A = Relation} (32 - length ws) []) at b in area-empty ws few narrow count area g long (length ws + j)
+      (omega arith) (omega arith) ∙ place-none ∙ ap (placeOf layout) (sym (getD-replicate {A = Relation} (32 - length ws) j [] [] k)))
       ∙ ap (λ (n : ℕ). take (256 * n) (drop (length ws * 256) area)) (length-replicate {A = Relation} (32 - length ws) []) in
-      let part : length (take (256 * length (relationsIn layout ws count area)) area) ≡ 256 * length ws = length-take-le (256 * length rels) area (omega (arith, size)) ∙ ap (λ (n : ℕ). 256 * n) size in
-      let left : 8192 - length (flatMap (placeOf layout) (relationsIn layout ws count area)) ≡ 256 * (32 - length ws) = ap (λ (l : List ℕ). 8192 - length l) first ∙ omega (arith, part) in
+      let part : length (take (256 * length (relationsIn layout ws count area)) area) ≡ 256 * length ws = length-take-le (256 * length rels) area (omega (arith, size))
+      ∙ ap (λ (n : ℕ). 256 * n) size in
+      let left : 8192 - length (flatMap (placeOf layout) (relationsIn layout ws count area)) ≡ 256 * (32 - length ws) = ap (λ (l : List ℕ). 8192 - length l) first
+      ∙ omega (arith, part) in
       ap₂ {A = List ℕ} {B = ℕ} {C = List ℕ} (λ x n. x ++ replicate n 0) (first ∙ ap (λ (n : ℕ). take (256 * n) area) size) left
-      ∙ ap (λ (l : List ℕ). take (256 * length ws) area ++ l) (rest ∙ ap (λ (n : ℕ). take (256 * (32 - length ws)) (drop n area)) (let e : length ws * 256 ≡ 256 * length ws = omega arith in e))
+      ∙ ap (λ (l : List ℕ). take (256 * length ws) area ++ l)
+      (rest ∙ ap (λ (n : ℕ). take (256 * (32 - length ws)) (drop n area)) (let e : length ws * 256 ≡ 256 * length ws = omega arith in e))
       ∙ sym (take-add (256 * length ws) (256 * (32 - length ws)) area)
       ∙ ap (λ (n : ℕ). take n area) (let e : 256 * length ws + 256 * (32 - length ws) ≡ 8192 = omega arith in e)
 
@@ -98,7 +112,9 @@ agree-more x y from n h g k b = go (ltb k from) refl
         rw same at (g (k - from) (omega arith))
 
 -- two heads with the same named words, and the same words past them
-head-ext : (x y : List ℕ) → 162 ≤ length x → length x ≡ length y → batchNumber x ≡ batchNumber y → ((i : ℕ) → i < 32 → rowCount x i ≡ rowCount y i) → ((i : ℕ) → i < 32 → stampAt x i ≡ stampAt y i) → ((i : ℕ) → i < 32 → gainedCount x i ≡ gainedCount y i) → ((i : ℕ) → i < 32 → lostCount x i ≡ lostCount y i) → workedCount x ≡ workedCount y → ((k : ℕ) → k < 32 → workedAt x k ≡ workedAt y k) → drop 162 x ≡ drop 162 y → x ≡ y
+head-ext : (x y : List ℕ) → 162 ≤ length x → length x ≡ length y → batchNumber x ≡ batchNumber y → ((i : ℕ) → i < 32 → rowCount x i ≡ rowCount y i) →
+    ((i : ℕ) → i < 32 → stampAt x i ≡ stampAt y i) → ((i : ℕ) → i < 32 → gainedCount x i ≡ gainedCount y i) → ((i : ℕ) → i < 32 → lostCount x i ≡ lostCount y i) →
+    workedCount x ≡ workedCount y → ((k : ℕ) → k < 32 → workedAt x k ≡ workedAt y k) → drop 162 x ≡ drop 162 y → x ≡ y
 head-ext x y long size number rows stamps gained lost worked entries rest = ext-getD 0 x y size (λ k b. go k (ltb k 162) refl)
   where
     one : (at : ℕ) → getD x at 0 ≡ getD y at 0 → (i : ℕ) → i < 1 → getD x (at + i) 0 ≡ getD y (at + i) 0
@@ -107,7 +123,10 @@ head-ext x y long size number rows stamps gained lost worked entries rest = ext-
     named : Agree x y 162
     named =
         agree-more x y 130 32
-        (agree-more x y 129 1 (agree-more x y 97 32 (agree-more x y 65 32 (agree-more x y 33 32 (agree-more x y 1 32 (agree-more x y 0 1 (λ k b. absurd (not-suc-le-zero b)) (one 0 number)) rows) stamps) gained) lost) (one 129 worked))
+        (agree-more x y 129 1
+        (agree-more x y 97 32
+        (agree-more x y 65 32 (agree-more x y 33 32 (agree-more x y 1 32 (agree-more x y 0 1 (λ k b. absurd (not-suc-le-zero b)) (one 0 number)) rows) stamps) gained) lost)
+        (one 129 worked))
         entries
 
     go : (k : ℕ) (t : Bool) → ltb k 162 ≡ t → getD x k 0 ≡ getD y k 0
@@ -157,12 +176,16 @@ module _ (nodes : List Node) (small : Small nodes) (a : Areas) (c : coherent lay
   rows-same = refl
 
   -- a count of the head: of a node as many as its rows, past the last 0
-  counts : (count written : ℕ → ℕ) (area : List ℕ) → goodArea layout (widths nodes) count area ≡ true → (rels : List Relation) → rels ≡ relationsIn layout (widths nodes) count area → ((i : ℕ) → i < length (widths nodes) → written i ≡ length (getD rels i [])) → ((i : ℕ) → length (widths nodes) ≤ i → i < 32 → written i ≡ 0) → (i : ℕ) → i < 32 → written i ≡ count i
+  counts : (count written : ℕ → ℕ) (area : List ℕ) → goodArea layout (widths nodes) count area ≡ true → (rels : List Relation) →
+      rels ≡ relationsIn layout (widths nodes) count area → ((i : ℕ) → i < length (widths nodes) → written i ≡ length (getD rels i [])) →
+      ((i : ℕ) → length (widths nodes) ≤ i → i < 32 → written i ≡ 0) → (i : ℕ) → i < 32 → written i ≡ count i
   counts count written area g rels e some none i b = go (ltb i (length (widths nodes))) refl
     where
       go : (t : Bool) → ltb i (length (widths nodes)) ≡ t → written i ≡ count i
-      go true f = let k : i < length (widths nodes) = ltb-true i (length (widths nodes)) f in some i k ∙ ap (λ (l : List Relation). length (getD l i [])) e ∙ sym (count-is (widths nodes) ws-few (small .narrow) count area g i k)
-      go false f = let k : length (widths nodes) ≤ i = ltb-false i (length (widths nodes)) f in none i k b ∙ sym (count-none (widths nodes) ws-few (small .narrow) count area g i k b)
+      go true f = let k : i < length (widths nodes) = ltb-true i (length (widths nodes)) f in some i k ∙ ap (λ (l : List Relation). length (getD l i [])) e
+          ∙ sym (count-is (widths nodes) ws-few (small .narrow) count area g i k)
+      go false f = let k : length (widths nodes) ≤ i = ltb-false i (length (widths nodes)) f in none i k b
+          ∙ sym (count-none (widths nodes) ws-few (small .narrow) count area g i k b)
 
   stamps-same : (i : ℕ) → i < 32 → stampAt (holding layout nodes (stateIn layout nodes a) a .head) i ≡ stampAt (a .head) i
   unfolding stateIn goodStamps
@@ -177,7 +200,8 @@ module _ (nodes : List Node) (small : Small nodes) (a : Areas) (c : coherent lay
       go : (t : Bool) → ltb i (length nodes) ≡ t → getD (stateIn layout nodes a .stamps ++ replicate (32 - length (stateIn layout nodes a .stamps)) 0) i 0 ≡ stampAt (a .head) i
       go true e =
           let k : i < length nodes = ltb-true i (length nodes) e in
-          padded-at (map (stampAt (a .head)) (numbersBelow (length nodes))) i (rw size k) ∙ counted-at 0 (stampAt (a .head)) 0 (length nodes) i k ∙ ap (stampAt (a .head)) (zero-add i)
+          padded-at (map (stampAt (a .head)) (numbersBelow (length nodes))) i (rw size k) ∙ counted-at 0 (stampAt (a .head)) 0 (length nodes) i k
+          ∙ ap (stampAt (a .head)) (zero-add i)
       go false e =
           let k : length nodes ≤ i = ltb-false i (length nodes) e in
           let zero : leb (stampAt (a .head) i) 0 ≡ true = rw (zero-add i, e) at low in
@@ -191,15 +215,19 @@ module _ (nodes : List Node) (small : Small nodes) (a : Areas) (c : coherent lay
       size = length-counted (workedAt (a .head)) 0 (workedCount (a .head))
 
       all : allOf (λ j. cond (ltb j (workedCount (a .head))) (ltb (workedAt (a .head) j) (length nodes)) (eqb (workedAt (a .head) j) 0)) (numbersBelow 32) ≡ true
-      all = and-second (leb (workedCount (a .head)) (length nodes)) (allOf (λ j. cond (ltb j (workedCount (a .head))) (ltb (workedAt (a .head) j) (length nodes)) (eqb (workedAt (a .head) j) 0)) (numbersBelow 32)) (parts nodes small a c .4)
+      all = and-second (leb (workedCount (a .head)) (length nodes))
+          (allOf (λ j. cond (ltb j (workedCount (a .head))) (ltb (workedAt (a .head) j) (length nodes)) (eqb (workedAt (a .head) j) 0)) (numbersBelow 32))
+          (parts nodes small a c .4)
 
       at : cond (ltb (0 + k) (workedCount (a .head))) (ltb (workedAt (a .head) (0 + k)) (length nodes)) (eqb (workedAt (a .head) (0 + k)) 0) ≡ true
       at = all-below (λ j. cond (ltb j (workedCount (a .head))) (ltb (workedAt (a .head) j) (length nodes)) (eqb (workedAt (a .head) j) 0)) 0 32 all k b
 
-      go : (t : Bool) → ltb k (workedCount (a .head)) ≡ t → getD (stateIn layout nodes a .worked ++ replicate (32 - length (stateIn layout nodes a .worked)) 0) k 0 ≡ workedAt (a .head) k
+      go : (t : Bool) → ltb k (workedCount (a .head)) ≡ t → getD (stateIn layout nodes a .worked ++ replicate (32 - length (stateIn layout nodes a .worked)) 0) k 0
+          ≡ workedAt (a .head) k
       go true e =
           let i : k < workedCount (a .head) = ltb-true k (workedCount (a .head)) e in
-          padded-at (map (workedAt (a .head)) (numbersBelow (workedCount (a .head)))) k (rw size i) ∙ counted-at 0 (workedAt (a .head)) 0 (workedCount (a .head)) k i ∙ ap (workedAt (a .head)) (zero-add k)
+          padded-at (map (workedAt (a .head)) (numbersBelow (workedCount (a .head)))) k (rw size i) ∙ counted-at 0 (workedAt (a .head)) 0 (workedCount (a .head)) k i
+          ∙ ap (workedAt (a .head)) (zero-add k)
       go false e =
           let i : workedCount (a .head) ≤ k = ltb-false k (workedCount (a .head)) e in
           let zero : eqb (workedAt (a .head) k) 0 ≡ true = rw (zero-add k, e) at at in
@@ -233,10 +261,13 @@ module _ (nodes : List Node) (small : Small nodes) (a : Areas) (c : coherent lay
   head-same : holding layout nodes (stateIn layout nodes a) a .head ≡ a .head
   head-same =
       head-ext (holding layout nodes s a .head) (a .head) (omega (arith, head-length, sizes .3)) head-length (number-is nodes s p a ∙ number-same)
-      (counts (rowCount (a .head)) (rowCount (holding layout nodes s a .head)) (a .rows) (parts nodes small a c .0) (evaluate nodes (stateIn layout nodes a .tables)) (rows-fresh ∙ rows-same) (rows-count nodes s p a) (rows-none nodes s p a))
+      (counts (rowCount (a .head)) (rowCount (holding layout nodes s a .head)) (a .rows) (parts nodes small a c .0) (evaluate nodes (stateIn layout nodes a .tables))
+      (rows-fresh ∙ rows-same) (rows-count nodes s p a) (rows-none nodes s p a))
       stamps-same
-      (counts (gainedCount (a .head)) (gainedCount (holding layout nodes s a .head)) (a .gained) (parts nodes small a c .1) (map (λ (x : Change). x .gained) (stateIn layout nodes a .changes)) gained-is (gained-count nodes s p a) (gained-none nodes s p a))
-      (counts (lostCount (a .head)) (lostCount (holding layout nodes s a .head)) (a .lost) (parts nodes small a c .2) (map (λ (x : Change). x .lost) (stateIn layout nodes a .changes)) lost-is (lost-count nodes s p a) (lost-none nodes s p a))
+      (counts (gainedCount (a .head)) (gainedCount (holding layout nodes s a .head)) (a .gained) (parts nodes small a c .1)
+      (map (λ (x : Change). x .gained) (stateIn layout nodes a .changes)) gained-is (gained-count nodes s p a) (gained-none nodes s p a))
+      (counts (lostCount (a .head)) (lostCount (holding layout nodes s a .head)) (a .lost) (parts nodes small a c .2)
+      (map (λ (x : Change). x .lost) (stateIn layout nodes a .changes)) lost-is (lost-count nodes s p a) (lost-none nodes s p a))
       (worked-is nodes s p a ∙ worked-size)
       worked-same
       head-rest
@@ -246,9 +277,12 @@ module _ (nodes : List Node) (small : Small nodes) (a : Areas) (c : coherent lay
   unfolding holding
   own-words =
       let rows : over (areaOf layout (evaluate nodes (stateIn layout nodes a .tables))) (a .rows) ≡ a .rows =
-      ap (λ (r : List Relation). over (areaOf layout r) (a .rows)) (rows-fresh ∙ rows-same) ∙ area-own (widths nodes) ws-few (small .narrow) (rowCount (a .head)) (a .rows) (parts nodes small a c .0) (sizes .0) in
+      ap (λ (r : List Relation). over (areaOf layout r) (a .rows)) (rows-fresh ∙ rows-same) ∙ area-own (widths nodes) ws-few (small .narrow) (rowCount (a .head)) (a .rows)
+      (parts nodes small a c .0) (sizes .0) in
       let gained : over (areaOf layout (map (λ (x : Change). x .gained) (stateIn layout nodes a .changes))) (a .gained) ≡ a .gained =
-      ap (λ (r : List Relation). over (areaOf layout r) (a .gained)) gained-is ∙ area-own (widths nodes) ws-few (small .narrow) (gainedCount (a .head)) (a .gained) (parts nodes small a c .1) (sizes .1) in
+      ap (λ (r : List Relation). over (areaOf layout r) (a .gained)) gained-is ∙ area-own (widths nodes) ws-few (small .narrow) (gainedCount (a .head)) (a .gained)
+      (parts nodes small a c .1) (sizes .1) in
       let lost : over (areaOf layout (map (λ (x : Change). x .lost) (stateIn layout nodes a .changes))) (a .lost) ≡ a .lost =
-      ap (λ (r : List Relation). over (areaOf layout r) (a .lost)) lost-is ∙ area-own (widths nodes) ws-few (small .narrow) (lostCount (a .head)) (a .lost) (parts nodes small a c .2) (sizes .2) in
+      ap (λ (r : List Relation). over (areaOf layout r) (a .lost)) lost-is ∙ area-own (widths nodes) ws-few (small .narrow) (lostCount (a .head)) (a .lost)
+      (parts nodes small a c .2) (sizes .2) in
       λ i. record { rows = sym rows i; gained = sym gained i; lost = sym lost i; head = sym head-same i }

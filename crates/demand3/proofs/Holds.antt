@@ -12,7 +12,8 @@ use lib.Seq.{ext-getD, drop-at}
 use borrow.Author.Tests.{le-leb, lt-ltb, ltb-false, ltb-true}
 use Rattle.model.specs.Network.{Node, AllFit, widths, isTable, nodeAt}
 use Rattle.rows.proofs.Place.{below-all}
-use Rattle.model.specs.Areas.{Areas, batchNumber, changesIn, gainedCount, goodArea, goodForm, goodStamps, goodWorked, headOf, holding, layout, longEnough, lostCount, padded, rowCount, rowsIn, stampAt, tablesOf, workedAt, workedCount, HoldsState, coherent, sameRelations, stateIn, over, areaOf}
+use Rattle.model.specs.Areas.{Areas, batchNumber, changesIn, gainedCount, goodArea, goodForm, goodStamps, goodWorked, headOf, holding, layout, longEnough, lostCount, padded}
+use Rattle.model.specs.Areas.{rowCount, rowsIn, stampAt, tablesOf, workedAt, workedCount, HoldsState, coherent, sameRelations, stateIn, over, areaOf}
 use Rattle.model.specs.Delta.{Change}
 use Rattle.states.proofs.Written.{Fitting, written-back, written-good, written-long, area-length}
 use Rattle.model.specs.Row.{Relation, allOf, countFrom, numbersBelow}
@@ -57,7 +58,8 @@ pub padded-at : (l : List ℕ) (i : ℕ) → i < length l → getD (padded 32 l)
 padded-at l i h = List·getD-append l (replicate (32 - length l) 0) 0 i h
 
 -- evaluation leaves the tables as they are
-pub tables-back : (nodes : List Node) (tables : List Relation) → length tables ≡ length nodes → tablesOf nodes tables ≡ tables → AllFit nodes → tablesOf nodes (evaluate nodes tables) ≡ tables
+pub tables-back : (nodes : List Node) (tables : List Relation) → length tables ≡ length nodes → tablesOf nodes tables ≡ tables → AllFit nodes →
+    tablesOf nodes (evaluate nodes tables) ≡ tables
 tables-back nodes tables tables-size tables-only fit =
     let long : length (evaluate nodes tables) ≡ length nodes = length-evaluate nodes tables in
     let size : length (tablesOf nodes (evaluate nodes tables)) ≡ length nodes = only-length nodes (evaluate nodes tables) long in
@@ -67,7 +69,8 @@ tables-back nodes tables tables-size tables-only fit =
     tables-at nodes (evaluate nodes tables) i long k ∙ go i k (isTable (nodeAt nodes i)) refl ∙ sym (tables-at nodes tables i tables-size k))
     ∙ tables-only
   where
-    go : (i : ℕ) → i < length nodes → (t : Bool) → isTable (nodeAt nodes i) ≡ t → cond (isTable (nodeAt nodes i)) (rowsAt (evaluate nodes tables) i) [] ≡ cond (isTable (nodeAt nodes i)) (rowsAt tables i) []
+    go : (i : ℕ) → i < length nodes → (t : Bool) → isTable (nodeAt nodes i) ≡ t → cond (isTable (nodeAt nodes i)) (rowsAt (evaluate nodes tables) i) []
+        ≡ cond (isTable (nodeAt nodes i)) (rowsAt tables i) []
     go i k true e = ap (λ (r : Relation). cond (isTable (nodeAt nodes i)) r []) (fresh-table nodes fit tables i k e)
     go i k false e = rw e
 
@@ -168,13 +171,16 @@ module _ (nodes : List Node) (s : State) (p : Proper nodes s) (before : Areas) w
   -- ---- counts
 
   pub rows-count : (i : ℕ) → i < length (widths nodes) → rowCount (holding layout nodes s before .head) i ≡ length (getD (evaluate nodes (s .tables)) i [])
-  rows-count i b = count-word i (omega (arith, ws-size, few)) ∙ padded-at (map length (evaluate nodes (s .tables))) i (omega (arith, n1, ws-size)) ∙ lengths-at (evaluate nodes (s .tables)) i
+  rows-count i b = count-word i (omega (arith, ws-size, few)) ∙ padded-at (map length (evaluate nodes (s .tables))) i (omega (arith, n1, ws-size))
+      ∙ lengths-at (evaluate nodes (s .tables)) i
 
   pub rows-none : (i : ℕ) → length (widths nodes) ≤ i → i < 32 → rowCount (holding layout nodes s before .head) i ≡ 0
   rows-none i b k = count-word i k ∙ padded-zero 32 (map length (evaluate nodes (s .tables))) i (omega (arith, n1, ws-size)) k
 
-  change-count : (g : Change → Relation) (i : ℕ) → length (map (λ c. length (g c)) (s .changes)) ≡ length nodes → i < length (widths nodes) → getD (padded 32 (map (λ c. length (g c)) (s .changes))) i 0 ≡ length (getD (map g (s .changes)) i [])
-  change-count g i n b = padded-at (map (λ c. length (g c)) (s .changes)) i (omega (arith, n, ws-size)) ∙ ap (λ (l : List ℕ). getD l i 0) (map-twice g (s .changes)) ∙ lengths-at (map g (s .changes)) i
+  change-count : (g : Change → Relation) (i : ℕ) → length (map (λ c. length (g c)) (s .changes)) ≡ length nodes → i < length (widths nodes) →
+      getD (padded 32 (map (λ c. length (g c)) (s .changes))) i 0 ≡ length (getD (map g (s .changes)) i [])
+  change-count g i n b = padded-at (map (λ c. length (g c)) (s .changes)) i (omega (arith, n, ws-size)) ∙ ap (λ (l : List ℕ). getD l i 0) (map-twice g (s .changes))
+      ∙ lengths-at (map g (s .changes)) i
 
   pub gained-count : (i : ℕ) → i < length (widths nodes) → gainedCount (holding layout nodes s before .head) i ≡ length (getD (map (λ c. c .gained) (s .changes)) i [])
   gained-count i b = gained-word i (omega (arith, ws-size, few)) ∙ change-count (λ c. c .gained) i n3 b
@@ -192,9 +198,11 @@ module _ (nodes : List Node) (s : State) (p : Proper nodes s) (before : Areas) w
 
   good-stamps : goodStamps (length nodes) (holding layout nodes s before .head) ≡ true
   unfolding goodStamps
-  good-stamps = below-all (λ i. leb (stampAt (holding layout nodes s before .head) i) (cond (ltb i (length nodes)) (batchNumber (holding layout nodes s before .head)) 0)) 0 32 (λ i b. rw (zero-add i) (go i b (ltb i (length nodes)) refl))
+  good-stamps = below-all (λ i. leb (stampAt (holding layout nodes s before .head) i) (cond (ltb i (length nodes)) (batchNumber (holding layout nodes s before .head)) 0)) 0 32
+      (λ i b. rw (zero-add i) (go i b (ltb i (length nodes)) refl))
     where
-      go : (i : ℕ) → i < 32 → (t : Bool) → ltb i (length nodes) ≡ t → leb (stampAt (holding layout nodes s before .head) i) (cond t (batchNumber (holding layout nodes s before .head)) 0) ≡ true
+      go : (i : ℕ) → i < 32 → (t : Bool) → ltb i (length nodes) ≡ t →
+          leb (stampAt (holding layout nodes s before .head) i) (cond t (batchNumber (holding layout nodes s before .head)) 0) ≡ true
       go i b true e =
           let k : i < length nodes = ltb-true i (length nodes) e in
           rw (stamp-word i b ∙ padded-at (s .stamps) i (rw (p .stamps-size) k), number-is) (le-leb (getD (s .stamps) i 0) (s .number) (p .stamps-low i))
@@ -203,11 +211,15 @@ module _ (nodes : List Node) (s : State) (p : Proper nodes s) (before : Areas) w
   good-worked : goodWorked (length nodes) (holding layout nodes s before .head) ≡ true
   unfolding goodWorked
   good-worked =
-      and-both (leb (workedCount (holding layout nodes s before .head)) (length nodes)) (allOf (λ k. cond (ltb k (workedCount (holding layout nodes s before .head))) (ltb (workedAt (holding layout nodes s before .head) k) (length nodes)) (eqb (workedAt (holding layout nodes s before .head) k) 0)) (numbersBelow 32))
+      and-both (leb (workedCount (holding layout nodes s before .head)) (length nodes))
+      (allOf (λ k. cond (ltb k (workedCount (holding layout nodes s before .head))) (ltb (workedAt (holding layout nodes s before .head) k) (length nodes))
+      (eqb (workedAt (holding layout nodes s before .head) k) 0)) (numbersBelow 32))
       (rw worked-is (le-leb (length (s .worked)) (length nodes) (p .worked-few)))
-      (below-all (λ k. cond (ltb k (workedCount (holding layout nodes s before .head))) (ltb (workedAt (holding layout nodes s before .head) k) (length nodes)) (eqb (workedAt (holding layout nodes s before .head) k) 0)) 0 32 (λ k b. rw (zero-add k, worked-is) (go k b (ltb k (length (s .worked))) refl)))
+      (below-all (λ k. cond (ltb k (workedCount (holding layout nodes s before .head))) (ltb (workedAt (holding layout nodes s before .head) k) (length nodes))
+      (eqb (workedAt (holding layout nodes s before .head) k) 0)) 0 32 (λ k b. rw (zero-add k, worked-is) (go k b (ltb k (length (s .worked))) refl)))
     where
-      go : (k : ℕ) → k < 32 → (t : Bool) → ltb k (length (s .worked)) ≡ t → cond t (ltb (workedAt (holding layout nodes s before .head) k) (length nodes)) (eqb (workedAt (holding layout nodes s before .head) k) 0) ≡ true
+      go : (k : ℕ) → k < 32 → (t : Bool) → ltb k (length (s .worked)) ≡ t →
+          cond t (ltb (workedAt (holding layout nodes s before .head) k) (length nodes)) (eqb (workedAt (holding layout nodes s before .head) k) 0) ≡ true
       go k b true e =
           let i : k < length (s .worked) = ltb-true k (length (s .worked)) e in
           rw (worked-word k b ∙ padded-at (s .worked) k i) (lt-ltb (getD (s .worked) k 0) (length nodes) (p .worked-low k i))
@@ -216,20 +228,33 @@ module _ (nodes : List Node) (s : State) (p : Proper nodes s) (before : Areas) w
   pub holding-good : goodForm layout nodes (holding layout nodes s before) ≡ true
   unfolding goodForm holding
   holding-good =
-      let r : goodArea layout (widths nodes) (rowCount (holding layout nodes s before .head)) (holding layout nodes s before .rows) ≡ true = written-good (widths nodes) (evaluate nodes (s .tables)) (p .rows) (before .rows) (rowCount (holding layout nodes s before .head)) rows-count rows-none in
-      let g : goodArea layout (widths nodes) (gainedCount (holding layout nodes s before .head)) (holding layout nodes s before .gained) ≡ true = written-good (widths nodes) (map (λ c. c .gained) (s .changes)) (p .gained) (before .gained) (gainedCount (holding layout nodes s before .head)) gained-count gained-none in
-      let l : goodArea layout (widths nodes) (lostCount (holding layout nodes s before .head)) (holding layout nodes s before .lost) ≡ true = written-good (widths nodes) (map (λ c. c .lost) (s .changes)) (p .lost) (before .lost) (lostCount (holding layout nodes s before .head)) lost-count lost-none in
-      form-last (goodArea layout (widths nodes) (rowCount (holding layout nodes s before .head)) (holding layout nodes s before .rows)) (goodArea layout (widths nodes) (gainedCount (holding layout nodes s before .head)) (holding layout nodes s before .gained)) (goodArea layout (widths nodes) (lostCount (holding layout nodes s before .head)) (holding layout nodes s before .lost)) (goodStamps (length nodes) (holding layout nodes s before .head)) (goodWorked (length nodes) (holding layout nodes s before .head)) r g l good-stamps
+      let r : goodArea layout (widths nodes) (rowCount (holding layout nodes s before .head)) (holding layout nodes s before .rows)
+      ≡ true = written-good (widths nodes) (evaluate nodes (s .tables)) (p .rows) (before .rows) (rowCount (holding layout nodes s before .head)) rows-count rows-none in
+      let g : goodArea layout (widths nodes) (gainedCount (holding layout nodes s before .head)) (holding layout nodes s before .gained)
+      ≡ true = written-good (widths nodes) (map (λ c. c .gained) (s .changes)) (p .gained) (before .gained) (gainedCount (holding layout nodes s before .head)) gained-count
+      gained-none in
+      let l : goodArea layout (widths nodes) (lostCount (holding layout nodes s before .head)) (holding layout nodes s before .lost)
+      ≡ true = written-good (widths nodes) (map (λ c. c .lost) (s .changes)) (p .lost) (before .lost) (lostCount (holding layout nodes s before .head)) lost-count lost-none in
+      form-last (goodArea layout (widths nodes) (rowCount (holding layout nodes s before .head)) (holding layout nodes s before .rows))
+      (goodArea layout (widths nodes) (gainedCount (holding layout nodes s before .head)) (holding layout nodes s before .gained))
+      (goodArea layout (widths nodes) (lostCount (holding layout nodes s before .head)) (holding layout nodes s before .lost))
+      (goodStamps (length nodes) (holding layout nodes s before .head)) (goodWorked (length nodes) (holding layout nodes s before .head)) r g l good-stamps
       ∙ good-worked
 
   pub holding-long : longEnough layout (holding layout nodes s before) ≡ true
   unfolding longEnough holding headOf
   holding-long =
-      long-last (leb 8192 (length (holding layout nodes s before .rows))) (leb 8192 (length (holding layout nodes s before .gained))) (leb 8192 (length (holding layout nodes s before .lost))) (leb 162 (length (holding layout nodes s before .head)))
+      long-last (leb 8192 (length (holding layout nodes s before .rows))) (leb 8192 (length (holding layout nodes s before .gained)))
+      (leb 8192 (length (holding layout nodes s before .lost))) (leb 162 (length (holding layout nodes s before .head)))
       (le-leb 8192 (length (holding layout nodes s before .rows)) (written-long (widths nodes) (evaluate nodes (s .tables)) (p .rows) (before .rows)))
       (le-leb 8192 (length (holding layout nodes s before .gained)) (written-long (widths nodes) (map (λ c. c .gained) (s .changes)) (p .gained) (before .gained)))
       (le-leb 8192 (length (holding layout nodes s before .lost)) (written-long (widths nodes) (map (λ c. c .lost) (s .changes)) (p .lost) (before .lost)))
-      ∙ le-leb 162 (length (holding layout nodes s before .head)) (omega (arith, head-length (s .number ∷ []) c1 c2 c3 c4 (length (s .worked) ∷ []) c5 rest refl k1 k2 k3 k4 refl k5, length-append (headOf (evaluate nodes (s .tables)) s) rest))
+      ∙ le-leb 162 (length (holding layout nodes s before .head))
+      (omega (
+        arith,
+        head-length (s .number ∷ []) c1 c2 c3 c4 (length (s .worked) ∷ []) c5 rest refl k1 k2 k3 k4 refl k5,
+        length-append (headOf (evaluate nodes (s .tables)) s) rest,
+      ))
 
   -- ---- the state that they hold
 
@@ -248,12 +273,14 @@ module _ (nodes : List Node) (s : State) (p : Proper nodes s) (before : Areas) w
   holding-stamps : map (stampAt (holding layout nodes s before .head)) (numbersBelow (length nodes)) ≡ s .stamps
   holding-stamps =
       ap (λ (n : ℕ). map (stampAt (holding layout nodes s before .head)) (numbersBelow n)) (sym (p .stamps-size))
-      ∙ map-getD (stampAt (holding layout nodes s before .head)) 0 (s .stamps) (λ k b. ap (stampAt (holding layout nodes s before .head)) (zero-add k) ∙ stamp-word k (omega (arith, p .stamps-size, few)) ∙ padded-at (s .stamps) k b)
+      ∙ map-getD (stampAt (holding layout nodes s before .head)) 0 (s .stamps)
+      (λ k b. ap (stampAt (holding layout nodes s before .head)) (zero-add k) ∙ stamp-word k (omega (arith, p .stamps-size, few)) ∙ padded-at (s .stamps) k b)
 
   holding-worked : map (workedAt (holding layout nodes s before .head)) (numbersBelow (workedCount (holding layout nodes s before .head))) ≡ s .worked
   holding-worked =
       ap (λ (n : ℕ). map (workedAt (holding layout nodes s before .head)) (numbersBelow n)) worked-is
-      ∙ map-getD (workedAt (holding layout nodes s before .head)) 0 (s .worked) (λ k b. ap (workedAt (holding layout nodes s before .head)) (zero-add k) ∙ worked-word k (omega (arith, p .worked-few, few)) ∙ padded-at (s .worked) k b)
+      ∙ map-getD (workedAt (holding layout nodes s before .head)) 0 (s .worked)
+      (λ k b. ap (workedAt (holding layout nodes s before .head)) (zero-add k) ∙ worked-word k (omega (arith, p .worked-few, few)) ∙ padded-at (s .worked) k b)
 
   -- ---- the tables
 
@@ -270,8 +297,10 @@ module _ (nodes : List Node) (s : State) (p : Proper nodes s) (before : Areas) w
   pub holding-coherent : AllFit nodes → coherent layout nodes (holding layout nodes s before) ≡ true
   unfolding coherent
   holding-coherent fit =
-      let fresh : evaluate nodes (tablesOf nodes (rowsIn layout nodes (holding layout nodes s before))) ≡ evaluate nodes (s .tables) = ap (evaluate nodes) (ap (tablesOf nodes) holding-rows ∙ fresh-tables fit) in
-      and-both (goodForm layout nodes (holding layout nodes s before)) (sameRelations (rowsIn layout nodes (holding layout nodes s before)) (evaluate nodes (tablesOf nodes (rowsIn layout nodes (holding layout nodes s before))))) holding-good
+      let fresh : evaluate nodes (tablesOf nodes (rowsIn layout nodes (holding layout nodes s before)))
+      ≡ evaluate nodes (s .tables) = ap (evaluate nodes) (ap (tablesOf nodes) holding-rows ∙ fresh-tables fit) in
+      and-both (goodForm layout nodes (holding layout nodes s before))
+      (sameRelations (rowsIn layout nodes (holding layout nodes s before)) (evaluate nodes (tablesOf nodes (rowsIn layout nodes (holding layout nodes s before))))) holding-good
       (ap₂ {A = List Relation} {B = List Relation} {C = Bool} (λ x y. sameRelations x y) holding-rows fresh ∙ same-refl (evaluate nodes (s .tables)))
 
   -- "the areas hold the plain station's state"
@@ -298,16 +327,21 @@ module _ (nodes : List Node) (s : State) (p : Proper nodes s) where
   head-words =
       let few : length nodes ≤ 32 = omega (arith, p .rows .few, length-widths nodes) in
       let changes : length (s .changes) ≡ length nodes = sym (length-map (s .changes) (λ c. c .gained)) ∙ p .gained .size ∙ length-widths nodes in
-      head-size (evaluate nodes (s .tables)) s (omega (arith, p .rows .size, p .rows .few)) (omega (arith, p .stamps-size, few)) (omega (arith, changes, few)) (omega (arith, p .worked-few, few))
+      head-size (evaluate nodes (s .tables)) s (omega (arith, p .rows .size, p .rows .few)) (omega (arith, p .stamps-size, few)) (omega (arith, changes, few))
+      (omega (arith, p .worked-few, few))
 
 -- a state written over another leaves nothing of it
-pub holding-again : (nodes : List Node) (s t : State) → Proper nodes s → Proper nodes t → (before : Areas) → holding layout nodes t (holding layout nodes s before) ≡ holding layout nodes t before
+pub holding-again : (nodes : List Node) (s t : State) → Proper nodes s → Proper nodes t → (before : Areas) → holding layout nodes t (holding layout nodes s before)
+    ≡ holding layout nodes t before
 unfolding holding
 holding-again nodes s t p q before =
     λ i.
     record {
-      rows = over-over (areaOf layout (evaluate nodes (s .tables))) (areaOf layout (evaluate nodes (t .tables))) (before .rows) 8192 (area-length (widths nodes) (evaluate nodes (s .tables)) (p .rows)) (area-length (widths nodes) (evaluate nodes (t .tables)) (q .rows)) i;
-      gained = over-over (areaOf layout (map (λ c. c .gained) (s .changes))) (areaOf layout (map (λ c. c .gained) (t .changes))) (before .gained) 8192 (area-length (widths nodes) (map (λ c. c .gained) (s .changes)) (p .gained)) (area-length (widths nodes) (map (λ c. c .gained) (t .changes)) (q .gained)) i;
-      lost = over-over (areaOf layout (map (λ c. c .lost) (s .changes))) (areaOf layout (map (λ c. c .lost) (t .changes))) (before .lost) 8192 (area-length (widths nodes) (map (λ c. c .lost) (s .changes)) (p .lost)) (area-length (widths nodes) (map (λ c. c .lost) (t .changes)) (q .lost)) i;
+      rows = over-over (areaOf layout (evaluate nodes (s .tables))) (areaOf layout (evaluate nodes (t .tables))) (before .rows) 8192
+          (area-length (widths nodes) (evaluate nodes (s .tables)) (p .rows)) (area-length (widths nodes) (evaluate nodes (t .tables)) (q .rows)) i;
+      gained = over-over (areaOf layout (map (λ c. c .gained) (s .changes))) (areaOf layout (map (λ c. c .gained) (t .changes))) (before .gained) 8192
+          (area-length (widths nodes) (map (λ c. c .gained) (s .changes)) (p .gained)) (area-length (widths nodes) (map (λ c. c .gained) (t .changes)) (q .gained)) i;
+      lost = over-over (areaOf layout (map (λ c. c .lost) (s .changes))) (areaOf layout (map (λ c. c .lost) (t .changes))) (before .lost) 8192
+          (area-length (widths nodes) (map (λ c. c .lost) (s .changes)) (p .lost)) (area-length (widths nodes) (map (λ c. c .lost) (t .changes)) (q .lost)) i;
       head = over-over (headOf (evaluate nodes (s .tables)) s) (headOf (evaluate nodes (t .tables)) t) (before .head) 162 (head-words nodes s p) (head-words nodes t q) i;
     }

@@ -7,8 +7,9 @@ use native.Mathlib.Omega.{arith}
 use native.Mathlib.Nat.{le-refl, not-suc-le-zero}
 use lib.Seq.{ext-getD}
 use lib.ListN.{getD, length, length-replicate, replicate, replicate-append-replicate}
-use Rattle.model.specs.Network.{Node, AllFit, widths, nodeAt, isTable, Operand, SetOperation, column, constant, difference, intersection, join, project, select, setOperation, table, union}
-use Rattle.model.specs.Areas.{Areas, areaOf, cleared, headOf, holding, layout, over, padded, placeOf, tablesOf}
+use Rattle.model.specs.Network.{Node, AllFit, widths, nodeAt, isTable, Operand, SetOperation, column, constant, difference, intersection, join, project, select, setOperation}
+use Rattle.model.specs.Network.{table, union}
+use Rattle.model.specs.Areas.{Areas, areaOf, cleared, headOf, holding, layout, over, padded, tablesOf}
 use Rattle.model.specs.Delta.{Change, noChange}
 use Rattle.states.proofs.Written.{Fitting, flat-none}
 use Rattle.demand3.proofs.Holds.{Proper}
@@ -53,12 +54,14 @@ module _ (nodes : List Node) (fit : AllFit nodes) where
   none-to zero g i h = absurd (not-suc-le-zero h)
   none-to (suc k) g i h = go (isTable (nodeAt nodes i)) refl (none-to k (omega arith))
     where
-      go : (t : Bool) → isTable (nodeAt nodes i) ≡ t → ((j : ℕ) → j < k → rowsAt (evaluate nodes (replicate (length nodes) [])) j ≡ []) → rowsAt (evaluate nodes (replicate (length nodes) [])) i ≡ []
+      go : (t : Bool) → isTable (nodeAt nodes i) ≡ t → ((j : ℕ) → j < k → rowsAt (evaluate nodes (replicate (length nodes) [])) j ≡ []) →
+          rowsAt (evaluate nodes (replicate (length nodes) [])) i ≡ []
       go true e ih = fresh-table nodes fit (replicate (length nodes) []) i (omega arith) e ∙ none-at (length nodes) i
       go false e ih =
           let b : (leftOf (nodeAt nodes i) < i) × (rightOf (nodeAt nodes i) < i) = inputs-before nodes fit i (omega arith) e in
           fresh-derived nodes fit (replicate (length nodes) []) i (omega arith) e
-          ∙ ap₂ {A = Relation} {B = Relation} {C = Relation} (λ x y. evaluateOn (nodeAt nodes i) x y) (ih (leftOf (nodeAt nodes i)) (omega (arith, b .0))) (ih (rightOf (nodeAt nodes i)) (omega (arith, b .1)))
+          ∙ ap₂ {A = Relation} {B = Relation} {C = Relation} (λ x y. evaluateOn (nodeAt nodes i) x y) (ih (leftOf (nodeAt nodes i)) (omega (arith, b .0)))
+          (ih (rightOf (nodeAt nodes i)) (omega (arith, b .1)))
           ∙ on-none (nodeAt nodes i)
 
   fresh-none : evaluate nodes (replicate (length nodes) []) ≡ replicate (length nodes) []
@@ -128,14 +131,16 @@ module _ (nodes : List Node) (fit : AllFit nodes) (small : Small nodes) where
   unfolding areaOf
   area-none =
       let size : 256 * length nodes + (8192 - 256 * length nodes) ≡ 8192 = omega (arith, small .few) in
-      ap₂ {A = List ℕ} {B = ℕ} {C = List ℕ} (λ a n. a ++ replicate (8192 - n) 0) (flat-none (length nodes)) (ap length (flat-none (length nodes)) ∙ length-replicate {A = ℕ} (256 * length nodes) 0)
+      ap₂ {A = List ℕ} {B = ℕ} {C = List ℕ} (λ a n. a ++ replicate (8192 - n) 0) (flat-none (length nodes))
+      (ap length (flat-none (length nodes)) ∙ length-replicate {A = ℕ} (256 * length nodes) 0)
       ∙ replicate-append-replicate {A = ℕ} (256 * length nodes) (8192 - 256 * length nodes) 0
       ∙ ap (λ (k : ℕ). replicate {A = ℕ} k 0) size
 
   padded-none : (n : ℕ) → n ≤ 32 → padded 32 (replicate n 0) ≡ replicate 32 0
   padded-none n h =
       let size : n + (32 - n) ≡ 32 = omega arith in
-      ap (λ (k : ℕ). replicate {A = ℕ} n 0 ++ replicate (32 - k) 0) (length-replicate {A = ℕ} n 0) ∙ replicate-append-replicate {A = ℕ} n (32 - n) 0 ∙ ap (λ (k : ℕ). replicate {A = ℕ} k 0) size
+      ap (λ (k : ℕ). replicate {A = ℕ} n 0 ++ replicate (32 - k) 0) (length-replicate {A = ℕ} n 0) ∙ replicate-append-replicate {A = ℕ} n (32 - n) 0
+      ∙ ap (λ (k : ℕ). replicate {A = ℕ} k 0) size
 
   lengths-none : (n : ℕ) → map length (replicate {A = Relation} n []) ≡ replicate n 0
   lengths-none zero = refl
@@ -148,14 +153,18 @@ module _ (nodes : List Node) (fit : AllFit nodes) (small : Small nodes) where
   head-none : headOf (replicate (length nodes) []) (opened nodes) ≡ replicate 162 0
   unfolding headOf opened
   head-none =
-      rw (lengths-none (length nodes), counts-none (λ c. c .gained) (length nodes) refl, counts-none (λ c. c .lost) (length nodes) refl, padded-none (length nodes) (small .few)) refl
+      rw (lengths-none (length nodes), counts-none (λ c. c .gained) (length nodes) refl, counts-none (λ c. c .lost) (length nodes) refl, padded-none (length nodes) (small .few))
+      refl
 
   -- "Opening sets all named words to 0": they hold the opened state
   pub cleared-holds : (a : Areas) → cleared layout a ≡ holding layout nodes (opened nodes) a
   unfolding cleared holding opened
   cleared-holds a =
       let rows : areaOf layout (evaluate nodes (replicate (length nodes) [])) ≡ replicate 8192 0 = ap (areaOf layout) (fresh-none nodes fit) ∙ area-none in
-      let gained : areaOf layout (map (λ c. c .gained) (replicate (length nodes) noChange)) ≡ replicate 8192 0 = ap (areaOf layout) (map-none (λ c. c .gained) (length nodes) refl) ∙ area-none in
-      let lost : areaOf layout (map (λ c. c .lost) (replicate (length nodes) noChange)) ≡ replicate 8192 0 = ap (areaOf layout) (map-none (λ c. c .lost) (length nodes) refl) ∙ area-none in
-      let head : headOf (evaluate nodes (replicate (length nodes) [])) (opened nodes) ≡ replicate 162 0 = ap (λ (r : List Relation). headOf r (opened nodes)) (fresh-none nodes fit) ∙ head-none in
+      let gained : areaOf layout (map (λ c. c .gained) (replicate (length nodes) noChange)) ≡ replicate 8192 0 = ap (areaOf layout) (map-none (λ c. c .gained) (length nodes) refl)
+      ∙ area-none in
+      let lost : areaOf layout (map (λ c. c .lost) (replicate (length nodes) noChange)) ≡ replicate 8192 0 = ap (areaOf layout) (map-none (λ c. c .lost) (length nodes) refl)
+      ∙ area-none in
+      let head : headOf (evaluate nodes (replicate (length nodes) [])) (opened nodes) ≡ replicate 162 0 = ap (λ (r : List Relation). headOf r (opened nodes)) (fresh-none nodes fit)
+      ∙ head-none in
       λ i. record { rows = over (sym rows i) (a .rows); gained = over (sym gained i) (a .gained); lost = over (sym lost i) (a .lost); head = over (sym head i) (a .head) }

@@ -11,12 +11,14 @@ use Rattle.model.specs.Station.{Step, step}
 use Rattle.model.specs.Areas.{Areas, coherent, holding, layout, stateIn}
 use Rattle.model.specs.Calls.{Applied, Keeps, Promise, Result, applyPromise, formVerdict, free, freelyAccepted, freelyRefused, promiseOf, resultOf, settled}
 
-keeps-refused : (p : Promise) (a : Areas) (r : Result) → ((x : Result) → p ≡ settled x → isAccepted (x .verdict) ≡ false → x .areas ≡ a) → Keeps p a r → isAccepted (r .verdict) ≡ false → r .areas ≡ a
+keeps-refused : (p : Promise) (a : Areas) (r : Result) → ((x : Result) → p ≡ settled x → isAccepted (x .verdict) ≡ false → x .areas ≡ a) → Keeps p a r → isAccepted (r .verdict)
+    ≡ false → r .areas ≡ a
 keeps-refused (settled x) a r h k e = ap (λ (y : Result). y .areas) k ∙ h x refl (ap (λ (y : Result). isAccepted (y .verdict)) (sym k) ∙ e)
 keeps-refused (free n) a r h (freelyAccepted v rest) e = absurd (true≢false (sym (ap isAccepted v) ∙ e))
 keeps-refused (free n) a r h (freelyRefused v inside same) e = same
 
-settled-refused : (nodes : List Node) (a : Areas) (st : Step) (t : Bool) (x : Result) → cond t (settled (resultOf nodes a st)) (free (length nodes)) ≡ settled x → isAccepted (x .verdict) ≡ false → x .areas ≡ a
+settled-refused : (nodes : List Node) (a : Areas) (st : Step) (t : Bool) (x : Result) → cond t (settled (resultOf nodes a st)) (free (length nodes)) ≡ settled x →
+    isAccepted (x .verdict) ≡ false → x .areas ≡ a
 unfolding resultOf
 settled-refused nodes a st true x e f =
     let same : resultOf nodes a st ≡ x = ap result e in
@@ -31,8 +33,10 @@ pub refused-keeps : (net batch : Bytes) (a : Areas) (r : Result) → Applied net
 unfolding applyPromise promiseOf
 refused-keeps net batch a r m e = keeps-refused (applyPromise net batch a) a r go m e
   where
-    part : (t : Bool) (x : Result) → cond t (promiseOf (nodesIn net) a (step (nodesIn net) (stateIn layout (nodesIn net) a) batch)) (settled (record { verdict = formVerdict net a; areas = a })) ≡ settled x → isAccepted (x .verdict) ≡ false → x .areas ≡ a
-    part true x f g = settled-refused (nodesIn net) a (step (nodesIn net) (stateIn layout (nodesIn net) a) batch) (coherent layout (nodesIn net) a || within 9 13 (step (nodesIn net) (stateIn layout (nodesIn net) a) batch .verdict .number)) x f g
+    part : (t : Bool) (x : Result) → cond t (promiseOf (nodesIn net) a (step (nodesIn net) (stateIn layout (nodesIn net) a) batch))
+        (settled (record { verdict = formVerdict net a; areas = a })) ≡ settled x → isAccepted (x .verdict) ≡ false → x .areas ≡ a
+    part true x f g = settled-refused (nodesIn net) a (step (nodesIn net) (stateIn layout (nodesIn net) a) batch)
+        (coherent layout (nodesIn net) a || within 9 13 (step (nodesIn net) (stateIn layout (nodesIn net) a) batch .verdict .number)) x f g
     part false x f g = ap areas-of (sym f)
       where
         areas-of : Promise → Areas

@@ -42,7 +42,8 @@ module _ (nodes : List Node) (fit : AllFit nodes) where
       inside i h = rw (length-widths nodes) h
 
       none : (i : ℕ) → i < length nodes → isTable (nodeAt nodes i) ≡ false → getD (s .tables) i [] ≡ []
-      none i h e = ap (λ (l : List Relation). getD l i []) (sym (p .tables-only)) ∙ tables-at nodes (s .tables) i (p .tables-size) h ∙ ap (λ (t : Bool). cond t (rowsAt (s .tables) i) []) e
+      none i h e = ap (λ (l : List Relation). getD l i []) (sym (p .tables-only)) ∙ tables-at nodes (s .tables) i (p .tables-size) h
+          ∙ ap (λ (t : Bool). cond t (rowsAt (s .tables) i) []) e
 
       go-wide : (i : ℕ) → i < length nodes → (t : Bool) → isTable (nodeAt nodes i) ≡ t → Wide (getD (widths nodes) i 0) (getD (s .tables) i [])
       go-wide i h true e = rw (← fresh-table nodes fit (s .tables) i h e) (p .rows .wide i (inside i h))
@@ -53,7 +54,8 @@ module _ (nodes : List Node) (fit : AllFit nodes) where
       go-asc i h false e = rw (none i h e) tt
 
   -- fresh evaluation within the limit
-  pub fresh-fits : (tables : List Relation) → Tables nodes tables → length (widths nodes) ≤ 32 → ((i : ℕ) → getD (widths nodes) i 0 ≤ 4) → overfull 0 (evaluate nodes tables) ≡ [] → Fitting (widths nodes) (evaluate nodes tables)
+  pub fresh-fits : (tables : List Relation) → Tables nodes tables → length (widths nodes) ≤ 32 → ((i : ℕ) → getD (widths nodes) i 0 ≤ 4) → overfull 0 (evaluate nodes tables) ≡ [] →
+      Fitting (widths nodes) (evaluate nodes tables)
   fresh-fits tables t few narrow o =
       let size : length (evaluate nodes tables) ≡ length (widths nodes) = length-evaluate nodes tables ∙ sym (length-widths nodes) in
       record {
@@ -69,7 +71,8 @@ module _ (nodes : List Node) (fit : AllFit nodes) where
   unfolding advance
   advance-proper s copy p t o =
       let new : Fitting (widths nodes) (evaluate nodes copy) = fresh-fits copy t (p .rows .few) (p .rows .narrow) o in
-      let size : length (netChanges (evaluate nodes (s .tables)) (evaluate nodes copy)) ≡ length (s .stamps) = changes-size (widths nodes) (evaluate nodes (s .tables)) (evaluate nodes copy) (p .rows) new ∙ length-widths nodes ∙ sym (p .stamps-size) in
+      let size : length (netChanges (evaluate nodes (s .tables)) (evaluate nodes copy)) ≡ length (s .stamps) = changes-size (widths nodes) (evaluate nodes (s .tables))
+      (evaluate nodes copy) (p .rows) new ∙ length-widths nodes ∙ sym (p .stamps-size) in
       record {
         tables-size = t .size;
         tables-only = t .only;
@@ -101,7 +104,10 @@ module _ (nodes : List Node) (fit : AllFit nodes) where
         tables : Tables nodes (actAll (readBatch nodes b .events) (s .tables))
         tables = actAll-tables nodes (readBatch nodes b .events) (s .tables) (batch-good nodes b) (proper-tables s p)
 
-        go : (t u : Bool) → isAccepted (readBatch nodes b .verdict) ≡ u → Sound nodes s (cond t (refusedStep (refused 9 0) s) (cond u (limit nodes s (actAll (readBatch nodes b .events) (s .tables)) (overfull 0 (evaluate nodes (actAll (readBatch nodes b .events) (s .tables))))) (refusedStep (readBatch nodes b .verdict) s)))
+        go : (t u : Bool) → isAccepted (readBatch nodes b .verdict) ≡ u →
+            Sound nodes s (cond t (refusedStep (refused 9 0) s)
+            (cond u (limit nodes s (actAll (readBatch nodes b .events) (s .tables)) (overfull 0 (evaluate nodes (actAll (readBatch nodes b .events) (s .tables)))))
+            (refusedStep (readBatch nodes b .verdict) s)))
         go true u e = refused-sound 9 0 refl (λ z. absurd (omega arith))
         go false true e = limit-sound (actAll (readBatch nodes b .events) (s .tables)) tables (overfull 0 (evaluate nodes (actAll (readBatch nodes b .events) (s .tables)))) refl
         go false false e = record { proper = p; kept = λ f. refl; advanced = λ f. absurd (true≢false (sym f ∙ e)); high = batch-high nodes b }

@@ -3,10 +3,9 @@
 use mathlib.Core.Bool.{Bool, cond, false, not, true, _||_}
 use mathlib.Core.List.{List, [], map, _∷_}
 use mathlib.Core.Path.{ap, ap₂, refl, subst, sym, _∙_, _≡_}
-use Prim.Native.Nat.{ℕ}
 use native.Mathlib.Omega.{arith}
 use lib.Dec.{eqb}
-use lib.ListN.{drop, length}
+use lib.ListN.{length}
 use borrow.Author.Tests.{eq-eqb, ne-eqb}
 use Rattle.model.specs.Record.{Bytes, Verdict, accepted, isAccepted}
 use Rattle.model.specs.Row.{Relation}
@@ -14,7 +13,7 @@ use Rattle.model.specs.Network.{Node, AllFit, nodesIn, readNetwork, within}
 use Rattle.model.specs.Evaluation.{evaluate}
 use Rattle.model.specs.Station.{Call, State, advance, apply, opened, stateAfter, step, stepOf, verdicts}
 use Rattle.model.specs.Areas.{Areas, HoldsState, cleared, coherent, goodForm, holding, layout, longEnough, rowsIn, sameRelations, stateIn, tablesOf}
-use Rattle.model.specs.Calls.{Applied, Keeps, Promise, Result, applyPromise, formVerdict, free, freelyAccepted, openCall, openVerdict, orElse, promiseOf, resultOf, settled, unless}
+use Rattle.model.specs.Calls.{Keeps, Promise, Result, applyPromise, formVerdict, free, freelyAccepted, openCall, openVerdict, orElse, promiseOf, resultOf, settled, unless}
 use Rattle.model.proofs.Fits.{read-fits, read-small}
 use Rattle.model.proofs.Sets.{and-both, and-first}
 use Rattle.evaluation.proofs.Fresh.{same-refl}
@@ -49,14 +48,16 @@ module _ (net : Bytes) (accepts : readNetwork net .verdict .number ≡ 0) where
   form-passes a l g = rw (l, g, eq-eqb (readNetwork net .verdict .number) 0 accepts)
 
   -- on coherent areas all is settled
-  pub settled-on : (a : Areas) (b : Bytes) → longEnough layout a ≡ true → coherent layout (nodesIn net) a ≡ true → applyPromise net b a ≡ settled (resultOf (nodesIn net) a (step (nodesIn net) (stateIn layout (nodesIn net) a) b))
+  pub settled-on : (a : Areas) (b : Bytes) → longEnough layout a ≡ true → coherent layout (nodesIn net) a ≡ true → applyPromise net b a
+      ≡ settled (resultOf (nodesIn net) a (step (nodesIn net) (stateIn layout (nodesIn net) a) b))
   unfolding applyPromise promiseOf coherent
   settled-on a b l c =
       let ns : List Node = nodesIn net in
       let g : goodForm layout (nodesIn net) a ≡ true = and-first (goodForm layout ns a) (sameRelations (rowsIn layout ns a) (evaluate ns (tablesOf ns (rowsIn layout ns a)))) c in
       let ok : isAccepted (formVerdict net a) ≡ true = ap isAccepted (form-passes a l g) in
       ap (λ (t : Bool). cond t (promiseOf ns a (step ns (stateIn layout ns a) b)) (settled (record { verdict = formVerdict net a; areas = a }))) ok
-      ∙ ap (λ (t : Bool). cond (t || within 9 13 (step ns (stateIn layout ns a) b .verdict .number)) (settled (resultOf ns a (step ns (stateIn layout ns a) b))) (free (length ns))) c
+      ∙ ap (λ (t : Bool). cond (t || within 9 13 (step ns (stateIn layout ns a) b .verdict .number)) (settled (resultOf ns a (step ns (stateIn layout ns a) b))) (free (length ns)))
+      c
 
   module _ (s : State) (before a : Areas) (h : Held (nodesIn net) s before a) where
     long : longEnough layout a ≡ true
@@ -73,7 +74,8 @@ module _ (net : Bytes) (accepts : readNetwork net .verdict .number ≡ 0) where
     unfolding stepOf
     met (apply b) r m = keeps (settled-on a b long whole ∙ ap (λ (x : State). settled (resultOf (nodesIn net) a (step (nodesIn net) x b))) state) m
       where
-        keeps : applyPromise net b a ≡ settled (resultOf (nodesIn net) a (step (nodesIn net) s b)) → Keeps (applyPromise net b a) a r → r ≡ resultOf (nodesIn net) a (step (nodesIn net) s b)
+        keeps : applyPromise net b a ≡ settled (resultOf (nodesIn net) a (step (nodesIn net) s b)) → Keeps (applyPromise net b a) a r →
+            r ≡ resultOf (nodesIn net) a (step (nodesIn net) s b)
         keeps e k = rw e at k
 
     module _ (c : Call) (r : Result) (m : Meets net c a r) where
@@ -98,7 +100,8 @@ module _ (net : Bytes) (accepts : readNetwork net .verdict .number ≡ 0) where
           go : (t : Bool) → isAccepted (stepOf (nodesIn net) s c .verdict) ≡ t → Held (nodesIn net) (stepOf (nodesIn net) s c .state) before (r .areas)
           go true e =
               record {
-                is = areas-are true e ∙ ap (holding layout (nodesIn net) (stepOf (nodesIn net) s c .state)) (h .is) ∙ holding-again (nodesIn net) s (stepOf (nodesIn net) s c .state) (h .proper) (sound .proper) before;
+                is = areas-are true e ∙ ap (holding layout (nodesIn net) (stepOf (nodesIn net) s c .state)) (h .is)
+                    ∙ holding-again (nodesIn net) s (stepOf (nodesIn net) s c .state) (h .proper) (sound .proper) before;
                 proper = sound .proper;
               }
           go false e = record { is = areas-are false e ∙ h .is ∙ ap (λ (x : State). holding layout (nodesIn net) x before) (sym (sound .kept e)); proper = sound .proper }
@@ -107,13 +110,15 @@ module _ (net : Bytes) (accepts : readNetwork net .verdict .number ≡ 0) where
       words-are : r .areas ≡ holding layout (nodesIn net) (stepOf (nodesIn net) s c .state) a
       words-are =
           next-held .is
-          ∙ sym (ap (holding layout (nodesIn net) (stepOf (nodesIn net) s c .state)) (h .is) ∙ holding-again (nodesIn net) s (stepOf (nodesIn net) s c .state) (h .proper) (sound .proper) before)
+          ∙ sym (ap (holding layout (nodesIn net) (stepOf (nodesIn net) s c .state)) (h .is) ∙ holding-again (nodesIn net) s (stepOf (nodesIn net) s c .state) (h .proper)
+          (sound .proper) before)
 
       advances : isAccepted (r .verdict) ≡ true → Advances (nodesIn net) a (r .areas)
       advances e =
           let step-is : (copy : List Relation) × (stepOf (nodesIn net) s c .state ≡ advance (nodesIn net) s copy) = sound .advanced (accepted-is true e) in
           let proper : Proper (nodesIn net) (advance (nodesIn net) s (step-is .0)) = rw (step-is .1) at (sound .proper) in
-          let after : r .areas ≡ holding layout (nodesIn net) (advance (nodesIn net) s (step-is .0)) before = next-held .is ∙ ap (λ (x : State). holding layout (nodesIn net) x before) (step-is .1) in
+          let after : r .areas ≡ holding layout (nodesIn net) (advance (nodesIn net) s (step-is .0)) before = next-held .is
+          ∙ ap (λ (x : State). holding layout (nodesIn net) x before) (step-is .1) in
           rw (h .is, after) (advances-held (nodesIn net) fit s (step-is .0) (h .proper) proper before before)
 
       answers : Answers (nodesIn net) s c a r
@@ -132,7 +137,8 @@ module _ (net : Bytes) (accepts : readNetwork net .verdict .number ≡ 0) where
 
   -- ---- a list of calls
 
-  run-verdicts : (s : State) (before a : Areas) (calls : List Call) (results : List Result) → Held (nodesIn net) s before a → Runs net a calls results → map (λ r. r .verdict) results ≡ verdicts (nodesIn net) s calls
+  run-verdicts : (s : State) (before a : Areas) (calls : List Call) (results : List Result) → Held (nodesIn net) s before a → Runs net a calls results →
+      map (λ r. r .verdict) results ≡ verdicts (nodesIn net) s calls
   unfolding verdicts
   run-verdicts s before a [] [] h run = refl
   run-verdicts s before a [] (r ∷ results) h run = absurd run
@@ -141,7 +147,8 @@ module _ (net : Bytes) (accepts : readNetwork net .verdict .number ≡ 0) where
       ap₂ {A = Verdict} {B = List Verdict} {C = List Verdict} (λ x y. x ∷ y) (verdict-is s before a h c r (run .0))
       (run-verdicts (stepOf (nodesIn net) s c .state) before (r .areas) calls results (next-held s before a h c r (run .0)) (run .1))
 
-  run-held : (s : State) (before a : Areas) (calls : List Call) (results : List Result) → Held (nodesIn net) s before a → Runs net a calls results → Held (nodesIn net) (stateAfter (nodesIn net) s calls) before (endOf a results)
+  run-held : (s : State) (before a : Areas) (calls : List Call) (results : List Result) → Held (nodesIn net) s before a → Runs net a calls results →
+      Held (nodesIn net) (stateAfter (nodesIn net) s calls) before (endOf a results)
   unfolding stateAfter
   run-held s before a [] [] h run = h
   run-held s before a [] (r ∷ results) h run = absurd run
@@ -156,7 +163,8 @@ module _ (net : Bytes) (accepts : readNetwork net .verdict .number ≡ 0) where
       and-both (not (eqb (r .verdict .number) 8)) (neverEight results) (ap not (not-eight s before a h c r (run .0)))
       (run-eight (stepOf (nodesIn net) s c .state) before (r .areas) calls results (next-held s before a h c r (run .0)) (run .1))
 
-  run-throughout : (s : State) (before a : Areas) (calls : List Call) (results : List Result) → Held (nodesIn net) s before a → Runs net a calls results → Throughout (nodesIn net) s a calls results
+  run-throughout : (s : State) (before a : Areas) (calls : List Call) (results : List Result) → Held (nodesIn net) s before a → Runs net a calls results →
+      Throughout (nodesIn net) s a calls results
   run-throughout s before a [] [] h run = tt
   run-throughout s before a [] (r ∷ results) h run = absurd run
   run-throughout s before a (c ∷ calls) [] h run = absurd run
@@ -184,7 +192,8 @@ module _ (net : Bytes) (accepts : readNetwork net .verdict .number ≡ 0) where
     stands-coherent : coherent layout (nodesIn net) a ≡ true
     unfolding coherent
     stands-coherent =
-        and-both (goodForm layout (nodesIn net) a) (sameRelations (rowsIn layout (nodesIn net) a) (evaluate (nodesIn net) (tablesOf (nodesIn net) (rowsIn layout (nodesIn net) a)))) (k .holds .form)
+        and-both (goodForm layout (nodesIn net) a) (sameRelations (rowsIn layout (nodesIn net) a) (evaluate (nodesIn net) (tablesOf (nodesIn net) (rowsIn layout (nodesIn net) a))))
+        (k .holds .form)
         (ap (sameRelations (rowsIn layout (nodesIn net) a)) (ap (evaluate (nodesIn net)) tables-held ∙ sym (k .holds .rows)) ∙ same-refl (rowsIn layout (nodesIn net) a))
 
     stands-state : stateIn layout (nodesIn net) a ≡ s
@@ -199,7 +208,8 @@ module _ (net : Bytes) (accepts : readNetwork net .verdict .number ≡ 0) where
         }
 
 -- demand 3 from any areas that hold a state: every network that the reader accepts, every list of calls, refused ones included
-pub demand-3-from : (net : Bytes) (s : State) (a : Areas) (calls : List Call) (results : List Result) → readNetwork net .verdict .number ≡ 0 → Stands (nodesIn net) s a → Runs net a calls results → Demand3 (nodesIn net) s a calls results
+pub demand-3-from : (net : Bytes) (s : State) (a : Areas) (calls : List Call) (results : List Result) → readNetwork net .verdict .number ≡ 0 → Stands (nodesIn net) s a →
+    Runs net a calls results → Demand3 (nodesIn net) s a calls results
 demand-3-from net s a calls results accepts k run = run-demand net accepts s a calls results (stands-held net accepts s a k) run
 
 -- coherent areas hold the state that is in their words
@@ -208,7 +218,8 @@ coherent-stands net a long c =
     let p : Proper (nodesIn net) (stateIn layout (nodesIn net) a) = state-proper (nodesIn net) (read-small net) a c in
     record {
       long = long;
-      holds = subst (λ (x : Areas). HoldsState layout (nodesIn net) x (stateIn layout (nodesIn net) a)) (sym (own-words (nodesIn net) (read-small net) a c long)) (holds-state (nodesIn net) (stateIn layout (nodesIn net) a) p a (read-fits net));
+      holds = subst (λ (x : Areas). HoldsState layout (nodesIn net) x (stateIn layout (nodesIn net) a)) (sym (own-words (nodesIn net) (read-small net) a c long))
+          (holds-state (nodesIn net) (stateIn layout (nodesIn net) a) p a (read-fits net));
       tables-size = p .tables-size;
       tables-only = p .tables-only;
     }
@@ -253,12 +264,14 @@ opened-stands net a z =
 -- ---- the theorem
 
 -- demand 3: every network that opening accepts, every list of calls, refused ones included
-pub demand-3 : (net : Bytes) (a : Areas) (calls : List Call) (results : List Result) → openCall net a .verdict .number ≡ 0 → Runs net (openCall net a .areas) calls results → Demand3 (nodesIn net) (opened (nodesIn net)) (openCall net a .areas) calls results
+pub demand-3 : (net : Bytes) (a : Areas) (calls : List Call) (results : List Result) → openCall net a .verdict .number ≡ 0 → Runs net (openCall net a .areas) calls results →
+    Demand3 (nodesIn net) (opened (nodesIn net)) (openCall net a .areas) calls results
 demand-3 net a calls results z run =
     demand-3-from net (opened (nodesIn net)) (openCall net a .areas) calls results (open-accepts net a z .1) (opened-stands net a z) run
 
 -- the words after the list, from the areas as they were before opening
-pub demand-words : (net : Bytes) (a : Areas) (calls : List Call) (results : List Result) → openCall net a .verdict .number ≡ 0 → Runs net (openCall net a .areas) calls results → endOf (openCall net a .areas) results ≡ holding layout (nodesIn net) (stateAfter (nodesIn net) (opened (nodesIn net)) calls) a
+pub demand-words : (net : Bytes) (a : Areas) (calls : List Call) (results : List Result) → openCall net a .verdict .number ≡ 0 → Runs net (openCall net a .areas) calls results →
+    endOf (openCall net a .areas) results ≡ holding layout (nodesIn net) (stateAfter (nodesIn net) (opened (nodesIn net)) calls) a
 demand-words net a calls results z run =
     run-held net (open-accepts net a z .1) (opened (nodesIn net)) a (openCall net a .areas) calls results (opened-held net a z) run .is
 
@@ -267,8 +280,10 @@ demand-words net a calls results z run =
 -- some result keeps a promise
 keeps-some : (p : Promise) (a : Areas) → (r : Result) × Keeps p a r
 keeps-some (settled x) a = (x, refl)
-keeps-some (free n) a =
-    (record { verdict = accepted; areas = a }, freelyAccepted refl (record { rows-length = refl; rows = refl; gained-length = refl; gained = refl; lost-length = refl; lost = refl; head-length = refl; head = refl }))
+keeps-some (free n) a = (
+  record { verdict = accepted; areas = a },
+  freelyAccepted refl (record { rows-length = refl; rows = refl; gained-length = refl; gained = refl; lost-length = refl; lost = refl; head-length = refl; head = refl }),
+)
 
 meets-some : (net : Bytes) (c : Call) (a : Areas) → (r : Result) × Meets net c a r
 meets-some net (apply b) a = keeps-some (applyPromise net b a) a

@@ -11,7 +11,8 @@ use Rattle.model.specs.Network.{Node}
 use Rattle.model.specs.Evaluation.{evaluate, rowsAt, builtOn}
 use Rattle.model.specs.Delta.{Change, changeAt, netChange, isChanged}
 use Rattle.model.specs.Station.{State, Call, stepOf, verdicts, stateAfter, stampOf, hasChangedInput, workedList}
-use Rattle.model.specs.Areas.{Areas, layout, longEnough, coherent, rowsIn, changesIn, tablesOf, batchNumber, stampAt, stateIn, holding, HoldsState}
+use Rattle.model.specs.Areas.{Areas, layout, longEnough, coherent, rowsIn, changesIn, tablesOf, batchNumber, stampAt, stateIn, holding}
+use Rattle.model.specs.Areas.{HoldsState}
 use Rattle.model.specs.Calls.{Result}
 use Rattle.demand3.specs.Runs.{endOf, neverEight}
 
@@ -42,13 +43,15 @@ isUntouched nodes a i = allOf (λ t. not (isChanged (changeOf nodes a t))) (getD
 -- an accepted batch, from the areas before it to those after it
 pub record Advances (nodes : List Node) (before after : Areas) : Type 0 where
   -- "each node's gained and lost rows share no row"
-  pub share-no-row : (i : ℕ) (r : Row) → i < length nodes → (member r (changeOf nodes after i .gained) && member r (changeOf nodes after i .lost)) ≡ false
+  pub share-no-row : (i : ℕ) (r : Row) → i < length nodes →
+      (member r (changeOf nodes after i .gained) && member r (changeOf nodes after i .lost)) ≡ false
   -- "and equal the differences between fresh evaluations before and after it"
   pub change-is : (i : ℕ) → i < length nodes → changeOf nodes after i ≡ netChange (freshOf nodes before i) (freshOf nodes after i)
   -- each node's rows are its fresh evaluation
   pub rows-are : (i : ℕ) → i < length nodes → rowsOf nodes after i ≡ freshOf nodes after i
   -- "the nodes listed as worked on are just those with a changed input"
-  pub worked-are : (i : ℕ) → i < length nodes → someOf (λ k. eqb k i) (workedOf nodes after) ≡ hasChangedInput nodes (changesIn layout nodes after) i
+  pub worked-are : (i : ℕ) → i < length nodes → someOf (λ k. eqb k i) (workedOf nodes after)
+      ≡ hasChangedInput nodes (changesIn layout nodes after) i
   -- they stand by level, then number, each once
   pub worked-list : workedOf nodes after ≡ workedList nodes (changesIn layout nodes after)
   -- the batch number is the next one
@@ -58,7 +61,8 @@ pub record Advances (nodes : List Node) (before after : Areas) : Type 0 where
   -- "and its change stamp"
   pub stamp-kept : (i : ℕ) → i < length nodes → isUntouched nodes after i ≡ true → stampAt (after .head) i ≡ stampAt (before .head) i
   -- a node with a change is stamped with the new number; other stamps remain
-  pub stamp-is : (i : ℕ) → i < length nodes → stampAt (after .head) i ≡ stampOf (batchNumber (after .head)) (changeOf nodes after i) (stampAt (before .head) i)
+  pub stamp-is : (i : ℕ) → i < length nodes → stampAt (after .head) i ≡ stampOf (batchNumber (after .head)) (changeOf nodes after i)
+      (stampAt (before .head) i)
 
 -- a call on areas that hold the plain station's state s
 pub record Answers (nodes : List Node) (s : State) (c : Call) (before : Areas) (r : Result) : Type 0 where

@@ -18,7 +18,8 @@ use Rattle.records.proofs.Offsets.{remaining-none}
 use Rattle.demand3.proofs.Theorem.{demand-3, demand-words}
 use Rattle.model.specs.Station.{Call, apply}
 
-runs-more : (net : Bytes) (a : Areas) (done : List Call) (results : List Result) (c : Call) (r : Result) → Runs net a done results → Meets net c (endOf a results) r → Runs net a (done ++ (c ∷ [])) (results ++ (r ∷ []))
+runs-more : (net : Bytes) (a : Areas) (done : List Call) (results : List Result) (c : Call) (r : Result) → Runs net a done results → Meets net c (endOf a results) r →
+    Runs net a (done ++ (c ∷ [])) (results ++ (r ∷ []))
 runs-more net a [] [] c r run m = (m, tt)
 runs-more net a [] (x ∷ results) c r run m = absurd run
 runs-more net a (d ∷ done) [] c r run m = absurd run
@@ -40,13 +41,20 @@ module _ (net file : Bytes) (a : Areas) where
   replay-start = record { inside = zero-le; done = []; reach = record { results = []; runs = tt; end = refl }; same = ap callsOf (pieces-all file) }
 
   module _ (now : Areas) (start : ℕ) (k : Replaying net file a now start) where
-    pub replay-more : (end : ℕ) (r : Result) → (start ≤ end) × (end + 4 ≤ length file) × (piecesOn file start ≡ batch (bytesBetween file start end) ∷ piecesOn file (end + 4)) → Applied net (bytesBetween file start end) now r → Replaying net file a (r .areas) (end + 4)
+    pub replay-more : (end : ℕ) (r : Result) → (start ≤ end) × (end + 4 ≤ length file) × (piecesOn file start ≡ batch (bytesBetween file start end) ∷ piecesOn file (end + 4)) →
+        Applied net (bytesBetween file start end) now r → Replaying net file a (r .areas) (end + 4)
     replay-more end r n m =
         record {
           inside = n .1;
           done = k .done ++ (apply (bytesBetween file start end) ∷ []);
-          reach = record { results = k .reach .results ++ (r ∷ []); runs = runs-more net a (k .done) (k .reach .results) (apply (bytesBetween file start end)) r (k .reach .runs) (subst (λ (x : Areas). Applied net (bytesBetween file start end) x r) (sym (k .reach .end)) m); end = end-more a (k .reach .results) r };
-          same = k .same ∙ ap (λ (l : List Piece). k .done ++ callsOf l) (n .2) ∙ sym (append-snoc (k .done) (apply (bytesBetween file start end)) (callsOf (piecesOn file (end + 4))));
+          reach = record {
+            results = k .reach .results ++ (r ∷ []);
+            runs = runs-more net a (k .done) (k .reach .results) (apply (bytesBetween file start end)) r (k .reach .runs)
+                (subst (λ (x : Areas). Applied net (bytesBetween file start end) x r) (sym (k .reach .end)) m);
+            end = end-more a (k .reach .results) r;
+          };
+          same = k .same ∙ ap (λ (l : List Piece). k .done ++ callsOf l) (n .2)
+              ∙ sym (append-snoc (k .done) (apply (bytesBetween file start end)) (callsOf (piecesOn file (end + 4))));
         }
 
     -- no further batch
@@ -61,7 +69,8 @@ module _ (net file : Bytes) (a : Areas) where
 
   -- ---- opening first
 
-  pub replay-refused : (v : Verdict) (after : Areas) → record { verdict = v; areas = after } ≡ openCall net a → (v .number ≡ 0 → ⊥) → Replayed net file a (record { verdict = v; areas = after })
+  pub replay-refused : (v : Verdict) (after : Areas) → record { verdict = v; areas = after } ≡ openCall net a → (v .number ≡ 0 → ⊥) →
+      Replayed net file a (record { verdict = v; areas = after })
   unfolding openCall
   replay-refused v after e n =
       let same : v ≡ openCall net a .verdict = ap (λ (x : Result). x .verdict) e in
@@ -72,13 +81,15 @@ module _ (net file : Bytes) (a : Areas) where
         accepted = λ y. absurd (true≢false (sym y ∙ no));
       }
 
-  pub replay-held : (v : Verdict) (opened-areas after : Areas) → record { verdict = v; areas = opened-areas } ≡ openCall net a → v .number ≡ 0 → Reaches net opened-areas (callsOf (pieces file)) after → Replayed net file a (record { verdict = v; areas = after })
+  pub replay-held : (v : Verdict) (opened-areas after : Areas) → record { verdict = v; areas = opened-areas } ≡ openCall net a → v .number ≡ 0 →
+      Reaches net opened-areas (callsOf (pieces file)) after → Replayed net file a (record { verdict = v; areas = after })
   replay-held v opened-areas after e z k =
       let same : v ≡ openCall net a .verdict = ap (λ (x : Result). x .verdict) e in
       let areas-are : opened-areas ≡ openCall net a .areas = ap (λ (x : Result). x .areas) e in
       let accepts : openCall net a .verdict .number ≡ 0 = ap (λ (x : Verdict). x .number) (sym same) ∙ z in
       let yes : isAccepted (openCall net a .verdict) ≡ true = eq-eqb (openCall net a .verdict .number) 0 accepts in
-      let run : Runs net (openCall net a .areas) (callsOf (pieces file)) (k .results) = subst (λ (x : Areas). Runs net x (callsOf (pieces file)) (k .results)) areas-are (k .runs) in
+      let run : Runs net (openCall net a .areas) (callsOf (pieces file)) (k .results) = subst (λ (x : Areas). Runs net x (callsOf (pieces file)) (k .results)) areas-are
+      (k .runs) in
       let end : endOf (openCall net a .areas) (k .results) ≡ after = ap (λ (x : Areas). endOf x (k .results)) (sym areas-are) ∙ k .end in
       record {
         verdict = same;
