@@ -2,16 +2,16 @@
 use mathlib.Core.Path.{_≡_, refl, sym, ap, _∙_}
 use mathlib.Core.Bool.{Bool, true, false, true≢false}
 use mathlib.Core.List.{List, [], _∷_, _++_, map}
-use Prim.Native.Nat.{ℕ, _+_, _≤_}
+use Prim.Native.Nat.{ℕ}
 use native.Mathlib.Omega.{arith}
-use lib.ListN.{getD, length, set, replicate, take, drop, take-append-drop}
+use lib.ListN.{getD, set, replicate, take, drop, take-append-drop}
 use Rattle.model.specs.Row.{Relation}
 use Rattle.model.specs.Network.{Node}
 use Rattle.model.specs.Evaluation.{evaluate}
 use Rattle.model.specs.Delta.{Change, noChange}
 use Rattle.model.specs.Station.{State}
-use Rattle.model.specs.Areas.{Areas, Layout, areaWords, headWords, goodForm, coherent, rowsIn, changesIn, stateIn, holding, cleared, longEnough, HoldsState, KeepsRest}
-use Rattle.model.specs.Examples.{networkN, batch1, batch2, put, remove, nodesIn, after}
+use Rattle.model.specs.Areas.{Areas, Layout, areaWords, headWords, goodForm, coherent, rowsIn, stateIn, holding, cleared, longEnough, HoldsState, KeepsRest}
+use Rattle.model.specs.Examples.{networkN, batch1, batch2, nodesIn, after}
 
 -- ---- N after its first two batches, on a layout of 3 rows of 2 words
 

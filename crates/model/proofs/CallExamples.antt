@@ -1,13 +1,11 @@
 -- Computed examples of the calls' promises, and what the free part leaves free. Each says in its comment what it pins.
-use mathlib.Core.Path.{_≡_, refl, sym, ap, _∙_}
+use mathlib.Core.Path.{_≡_, refl}
 use mathlib.Core.Bool.{Bool, true, false}
 use mathlib.Core.Logic.{_⊎_, inl, inr}
 use mathlib.Core.List.{List, [], _∷_, _++_, map}
 use Prim.Native.Nat.{ℕ}
-use native.Mathlib.Omega.{arith}
-use Rattle.model.specs.Record.{Bytes, Verdict, accepted, refused}
-use Rattle.model.specs.Network.{Node, Network, readNetwork}
-use Rattle.model.specs.Delta.{Change}
+use Rattle.model.specs.Record.{Bytes, accepted, refused}
+use Rattle.model.specs.Network.{Node, readNetwork}
 use Rattle.model.specs.Station.{State, Step, refusedStep}
 use Rattle.model.specs.Areas.{Areas, layout, coherent, longEnough, KeepsRest}
 use Rattle.model.specs.Calls.{openVerdict, Result, Promise, settled, free, promiseOf, Free, freelyAccepted, freelyRefused, reportBytes, reportRule, writtenTo}
@@ -45,20 +43,10 @@ settled-on-coherence : (nodes : List Node) (a : Areas) (st : Step) → coherent 
 unfolding promiseOf isFree
 settled-on-coherence nodes a st e = rw e
 
--- the outcome is acceptance with place 0, or 14
-free-verdict : (a : Areas) (r : Result) → Free a r → (r .verdict ≡ accepted) ⊎ (r .verdict .number ≡ 14)
-free-verdict a r (freelyAccepted v rest) = inl v
-free-verdict a r (freelyRefused v same) = inr v
-
--- 14 writes nothing
-free-refused : (a : Areas) (r : Result) → Free a r → r .verdict .number ≡ 14 → r .areas ≡ a
-free-refused a r (freelyAccepted v rest) e = let z : _≡_ {A = ℕ} 0 14 = sym (ap (λ (w : Verdict). w .number) v) ∙ e in absurd (omega arith)
-free-refused a r (freelyRefused v same) e = same
-
--- no word past the named ones changes
-free-rest : (a : Areas) (r : Result) → Free a r → KeepsRest layout a (r .areas)
-free-rest a r (freelyAccepted v rest) = rest
-free-rest a r (freelyRefused v same) = rw same (record { rows-length = refl; rows = refl; gained-length = refl; gained = refl; lost-length = refl; lost = refl; head-length = refl; head = refl })
+-- no other outcome is free, and no other word: acceptance with place 0, which keeps the rest, or 14, which writes nothing
+free-says : (a : Areas) (r : Result) → Free a r → ((r .verdict ≡ accepted) × KeepsRest layout a (r .areas)) ⊎ ((r .verdict .number ≡ 14) × (r .areas ≡ a))
+free-says a r (freelyAccepted v rest) = inl (v, rest)
+free-says a r (freelyRefused v same) = inr (v, same)
 
 -- ---- reports
 
