@@ -2,16 +2,22 @@
 use mathlib.Core.Path.{_≡_, refl, sym, ap, _∙_}
 use mathlib.Core.Bool.{Bool, true, false, true≢false}
 use mathlib.Core.List.{List, [], _∷_, _++_, map}
-use Prim.Native.Nat.{ℕ, _+_, _≤_}
+use Prim.Native.Nat.{ℕ}
 use native.Mathlib.Omega.{arith}
-use lib.ListN.{getD, length, set, replicate, take, drop, take-append-drop}
+use lib.ListN.{getD, set, replicate, take, drop, take-append-drop}
 use Rattle.model.specs.Row.{Relation}
 use Rattle.model.specs.Network.{Node, nodesIn, readNetwork}
 use Rattle.model.specs.Evaluation.{evaluate}
 use Rattle.model.specs.Delta.{Change, noChange}
 use Rattle.model.specs.Station.{State}
-use Rattle.model.specs.Areas.{Areas, Layout, areaWords, headWords, goodForm, coherent, rowsIn, changesIn, stateIn, holding, cleared, longEnough, HoldsState, KeepsRest}
-use Rattle.model.specs.Examples.{networkN, batch1, batch2, put, remove, after}
+use Rattle.model.specs.Areas.{Areas, Layout, layout, rowStart, areaWords, headWords, goodForm, coherent, rowsIn, stateIn, holding, cleared, longEnough, HoldsState, KeepsRest}
+use Rattle.model.specs.Examples.{networkN, batch1, batch2, after}
+
+-- ---- the order's own layout
+
+-- "word 256 × i + 4 × j + k" for row 2 of node 3; "8,192 words each"; "Head, 162 words"
+named-words : (rowStart layout 3 2 ∷ areaWords layout ∷ headWords ∷ []) ≡ 776 ∷ 8192 ∷ 162 ∷ []
+named-words = refl
 
 -- ---- N after its first two batches, on a layout of 3 rows of 2 words
 

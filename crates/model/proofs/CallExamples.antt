@@ -1,13 +1,11 @@
 -- Computed examples of the calls' promises, and what the free part leaves free. Each says in its comment what it pins.
-use mathlib.Core.Path.{_≡_, refl, sym, ap, _∙_}
+use mathlib.Core.Path.{_≡_, refl}
 use mathlib.Core.Bool.{Bool, true, false}
 use mathlib.Core.Logic.{_⊎_, inl, inr}
 use mathlib.Core.List.{List, [], _∷_, _++_, map}
-use Prim.Native.Nat.{_<_, ℕ}
-use native.Mathlib.Omega.{arith}
-use Rattle.model.specs.Record.{Bytes, Verdict, accepted, refused}
-use Rattle.model.specs.Network.{Node, Network, readNetwork}
-use Rattle.model.specs.Delta.{Change}
+use Prim.Native.Nat.{ℕ, _<_}
+use Rattle.model.specs.Record.{Bytes, accepted, refused}
+use Rattle.model.specs.Network.{Node, readNetwork}
 use Rattle.model.specs.Station.{State, Step, refusedStep}
 use Rattle.model.specs.Areas.{Areas, layout, coherent, longEnough, KeepsRest}
 use Rattle.model.specs.Calls.{openVerdict, Result, Promise, settled, free, promiseOf, Free, freelyAccepted, freelyRefused, reportBytes, reportRule, writtenTo}
@@ -45,25 +43,11 @@ settled-on-coherence : (nodes : List Node) (a : Areas) (st : Step) → coherent 
 unfolding promiseOf isFree
 settled-on-coherence nodes a st e = rw e
 
--- the outcome is acceptance with place 0, or 14
-free-verdict : (n : ℕ) (a : Areas) (r : Result) → Free n a r → (r .verdict ≡ accepted) ⊎ (r .verdict .number ≡ 14)
-free-verdict n a r (freelyAccepted v rest) = inl v
-free-verdict n a r (freelyRefused v inside same) = inr v
-
--- 14's place is a node
-free-place : (n : ℕ) (a : Areas) (r : Result) → Free n a r → r .verdict .number ≡ 14 → r .verdict .place < n
-free-place n a r (freelyAccepted v rest) e = let z : _≡_ {A = ℕ} 0 14 = sym (ap (λ (w : Verdict). w .number) v) ∙ e in absurd (omega arith)
-free-place n a r (freelyRefused v inside same) e = inside
-
--- 14 writes nothing
-free-refused : (n : ℕ) (a : Areas) (r : Result) → Free n a r → r .verdict .number ≡ 14 → r .areas ≡ a
-free-refused n a r (freelyAccepted v rest) e = let z : _≡_ {A = ℕ} 0 14 = sym (ap (λ (w : Verdict). w .number) v) ∙ e in absurd (omega arith)
-free-refused n a r (freelyRefused v inside same) e = same
-
--- no word past the named ones changes
-free-rest : (n : ℕ) (a : Areas) (r : Result) → Free n a r → KeepsRest layout a (r .areas)
-free-rest n a r (freelyAccepted v rest) = rest
-free-rest n a r (freelyRefused v inside same) = rw same (record { rows-length = refl; rows = refl; gained-length = refl; gained = refl; lost-length = refl; lost = refl; head-length = refl; head = refl })
+-- no other outcome is free, and no other word: acceptance with place 0, which keeps the rest, or 14 at a node, which writes nothing
+free-says : (n : ℕ) (a : Areas) (r : Result) → Free n a r →
+    ((r .verdict ≡ accepted) × KeepsRest layout a (r .areas)) ⊎ ((r .verdict .number ≡ 14) × (r .verdict .place < n) × (r .areas ≡ a))
+free-says n a r (freelyAccepted v rest) = inl (v, rest)
+free-says n a r (freelyRefused v inside same) = inr (v, inside, same)
 
 -- ---- reports
 

@@ -1,14 +1,13 @@
 -- Computed examples of reading: numbers, records, networks and refusals 2 to 7. Each says in its comment what it pins.
 use mathlib.Core.Path.{_≡_, refl}
 use mathlib.Core.Bool.{Bool, true}
-use mathlib.Core.List.{List, [], _∷_, _++_, flatMap}
+use mathlib.Core.List.{[], _∷_, _++_, flatMap}
 use Prim.Native.Nat.{ℕ}
 use lib.ListN.{replicate}
-use Rattle.model.specs.Row.{Row, sameRow, allOf, numbersBelow}
-use Rattle.model.specs.Algebra.{Pair}
+use Rattle.model.specs.Row.{sameRow, allOf, numbersBelow}
 use Rattle.model.specs.Record.{Bytes, u16, u32, bytes16, bytes32, Verdict, accepted, refused}
-use Rattle.model.specs.Network.{Node, table, select, project, join, setOperation, constant, column, union, difference, intersection, Network, readNetwork}
-use Rattle.model.specs.Calls.{ReadAnswer, readCall}
+use Rattle.model.specs.Network.{table, select, project, join, setOperation, constant, column, union, difference, intersection, readNetwork}
+use Rattle.model.specs.Calls.{readCall}
 use Rattle.model.specs.Examples.{recordBytes, shown}
 
 -- ---- numbers

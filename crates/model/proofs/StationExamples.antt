@@ -3,10 +3,10 @@ use mathlib.Core.Path.{_≡_, refl}
 use mathlib.Core.Bool.{Bool, true}
 use mathlib.Core.List.{List, [], _∷_, _++_, map}
 use Prim.Native.Nat.{ℕ}
-use Rattle.model.specs.Row.{Row, sameRows, allOf}
+use Rattle.model.specs.Row.{sameRows, allOf}
 use Rattle.model.specs.Record.{Bytes}
 use Rattle.model.specs.Evaluation.{builtOn}
-use Rattle.model.specs.Delta.{Change, noChange, netChange}
+use Rattle.model.specs.Delta.{noChange, netChange}
 use Rattle.model.specs.Batch.{Event, oneRowChange, foldChanges}
 use Rattle.model.specs.Batch as batch
 use Rattle.model.specs.Station.{State, opened, step}

@@ -1,13 +1,13 @@
 -- Computed examples of the station program's text. Each says in its comment what it pins.
 use mathlib.Core.Path.{_≡_, refl, ap₂}
 use mathlib.Core.Bool.{_&&_, cond}
-use mathlib.Core.List.{List, [], _∷_, _++_, map}
+use mathlib.Core.List.{[], _∷_, _++_, map}
 use Prim.Native.Nat.{ℕ}
 use lib.Dec.{leb}
 use lib.ListN.{length}
 use Rattle.model.specs.Record.{Bytes}
-use Rattle.model.specs.Text.{Piece, batch, broken, unfinished, pieces, decimal, line, noInputWords, runFiles, File, missing, file, maxFile, programOutput}
-use Rattle.model.specs.Examples.{recordBytes, put, remove, networkN, batch1, batch2, batch3, batch4}
+use Rattle.model.specs.Text.{batch, broken, unfinished, pieces, decimal, line, noInputWords, runFiles, File, missing, file, maxFile, programOutput}
+use Rattle.model.specs.Examples.{recordBytes, put, networkN, batch1, batch2, batch3, batch4}
 
 -- the record that ends a batch
 mark : Bytes
