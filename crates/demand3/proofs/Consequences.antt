@@ -28,7 +28,8 @@ keeps-refused (settled x) a r h k e = ap (λ (y : Result). y .areas) k ∙ h x r
 keeps-refused (free n) a r h (freelyAccepted v rest) e = absurd (true≢false (sym (ap isAccepted v) ∙ e))
 keeps-refused (free n) a r h (freelyRefused v p same) e = same
 
-settled-refused : (nodes : List Node) (a : Areas) (st : Step) (t : Bool) (x : Result) → cond t (settled (resultOf nodes a st)) (free (length nodes)) ≡ settled x → isAccepted (x .verdict) ≡ false → x .areas ≡ a
+settled-refused : (nodes : List Node) (a : Areas) (st : Step) (t : Bool) (x : Result) →
+    cond t (settled (resultOf nodes a st)) (free (length nodes)) ≡ settled x → isAccepted (x .verdict) ≡ false → x .areas ≡ a
 unfolding resultOf
 settled-refused nodes a st true x e f =
     let same : resultOf nodes a st ≡ x = ap result e in
