@@ -1,5 +1,5 @@
 -- Answers of 64 bits. Assumes nothing.
-use Prim.Native.Nat.{ℕ, _%_, _/_, _*_, _+_, _<_, suc, zero, zero-le, _≤_}
+use Prim.Native.Nat.{ℕ, _*_, _+_, _<_, suc, zero, _≤_}
 use mathlib.Core.Path.{_≡_, sym, refl, _∙_, ap, subst}
 use native.Mathlib.Nat.{zero-add, div-eq-of-lt, mod-eq-of-lt, mul-add-div-right, mul-add-mod-self-right}
 use borrow.Author.Tests.{ne-eqb, lt-ltb, le-ltb, eq-eqb}
@@ -8,9 +8,9 @@ use lib.ListN.{length, take, set, getD, length-map, length-append, drop}
 use lib.Seq.{sets, length-take-le, take-suc}
 use native.Mathlib.Omega.{arith}
 use mathlib.Core.Bool.{false, true, Bool, cond}
-use Rattle.bagwezin.specs.Answers.{Answers, AnswersReport, FitWords, bit, half, lower, packed, readVerdict, readAfter, readWords}
+use Rattle.bagwezin.specs.Answers.{Answers, FitWords, bit, half, lower, packed, readVerdict, readAfter, readWords}
 use Rattle.model.proofs.Parts.{sets-more, sets-first}
-use Rattle.model.proofs.Bounds.{ByteList, applied-small, count-most, form-small, kinds-read, levels-read, network-small, open-small, report-small, widths-read}
+use Rattle.model.proofs.Bounds.{ByteList, count-most, form-small, kinds-read, levels-read, network-small, open-small, report-small, widths-read}
 use Rattle.model.specs.Areas.{Areas}
 use Rattle.model.specs.Record.{Bytes, SmallVerdict, accepted, refused, isAccepted, Verdict}
 use Rattle.model.specs.Calls.{Result, checkCall, openCall, readCall, reportCall, CheckAnswer, ReadAnswer, ReportAnswer}
@@ -75,7 +75,8 @@ bit-small false = omega arith
 -- ---- numbers written as words
 
 -- one number more of a list
-pub list-more : (answer before : List ℕ) (at : ℕ) (list : List ℕ) (k : ℕ) → k < length list → before ≡ sets answer at (take k list) → set before (at + k) (getD list k 0) ≡ sets answer at (take (k + 1) list)
+pub list-more : (answer before : List ℕ) (at : ℕ) (list : List ℕ) (k : ℕ) → k < length list → before ≡ sets answer at (take k list) →
+    set before (at + k) (getD list k 0) ≡ sets answer at (take (k + 1) list)
 list-more answer before at list k h e =
     let s : k + 1 ≡ suc k = omega arith in
     let size : length (take k list) ≡ k = length-take-le k list (omega arith) in
@@ -134,7 +135,8 @@ module _ (net : Bytes) (answer : List ℕ) (x : ReadAnswer) (is : x ≡ readCall
   unfolding readCall
   verdict-accepted z = ap (λ (y : ReadAnswer). y .verdict) is ∙ read-accepted net (ap (λ (y : ReadAnswer). y .verdict .number) (sym is) ∙ z)
 
-  pub read-written : (r : ℕ) (a1 a2 a3 a4 : List ℕ) → Answers accepted 0 r → x .verdict .number ≡ 0 → a1 ≡ sets answer 0 (x .count ∷ []) → a2 ≡ sets a1 1 (x .kinds) → a3 ≡ sets a2 33 (x .widths) → a4 ≡ sets a3 65 (x .levels) →
+  pub read-written : (r : ℕ) (a1 a2 a3 a4 : List ℕ) → Answers accepted 0 r → x .verdict .number ≡ 0 →
+      a1 ≡ sets answer 0 (x .count ∷ []) → a2 ≡ sets a1 1 (x .kinds) → a3 ≡ sets a2 33 (x .widths) → a4 ≡ sets a3 65 (x .levels) →
       Answers (readVerdict net answer) 0 r × (a4 ≡ readAfter net answer)
   read-written r a1 a2 a3 a4 e z e1 e2 e3 e4 =
       let yes : isAccepted (readCall net .verdict) ≡ true = ap (λ (y : ReadAnswer). isAccepted (y .verdict)) (sym is) ∙ eq-eqb (x .verdict .number) 0 z in
@@ -147,5 +149,7 @@ module _ (net : Bytes) (answer : List ℕ) (x : ReadAnswer) (is : x ≡ readCall
       let n4 : length (readWords x) ≡ 97 = omega (arith, length-append ((x .count ∷ []) ++ x .kinds ++ x .widths) (x .levels), n3, ll) in
       let s2 : a2 ≡ sets answer 0 ((x .count ∷ []) ++ x .kinds) = sets-more answer a1 a2 0 1 (x .count ∷ []) (x .kinds) e1 refl e2 in
       let s3 : a3 ≡ sets answer 0 ((x .count ∷ []) ++ x .kinds ++ x .widths) = sets-more answer a2 a3 0 33 ((x .count ∷ []) ++ x .kinds) (x .widths) s2 (omega (arith, n2)) e3 in
-      let s4 : a4 ≡ sets answer 0 (readWords x) = sets-more answer a3 a4 0 65 ((x .count ∷ []) ++ x .kinds ++ x .widths) (x .levels) s3 (omega (arith, n3)) e4 in
-      (answered r (subst (λ (v : Verdict). Answers v 0 r) (sym (verdict-accepted z)) e), s4 ∙ sets-first answer (readWords x) (rw n4 h) ∙ ap (λ (k : ℕ). readWords x ++ drop k answer) n4 ∙ ap (λ (y : ReadAnswer). readWords y ++ drop 97 answer) is ∙ sym (after-is true yes))
+      let s4 : a4 ≡ sets answer 0 (readWords x) = sets-more answer a3 a4 0 65 ((x .count ∷ []) ++ x .kinds ++ x .widths) (x .levels) s3 (omega (arith, n3)) e4 in (
+        answered r (subst (λ (v : Verdict). Answers v 0 r) (sym (verdict-accepted z)) e),
+        s4 ∙ sets-first answer (readWords x) (rw n4 h) ∙ ap (λ (k : ℕ). readWords x ++ drop k answer) n4 ∙ ap (λ (y : ReadAnswer). readWords y ++ drop 97 answer) is ∙ sym (after-is true yes),
+      )

@@ -21,7 +21,7 @@ lower v value = cond (isAccepted v) value (v .place)
 abbrev pub packed : Verdict → ℕ → ℕ
 packed v value = v .number * half + lower v value
 
--- an answer, and what is read back from its halves; its verdict is small, as every verdict is
+-- an answer: it is packed, its verdict is small, so that no bit is lost, and its halves give the number and the place or value back
 pub record Answers (v : Verdict) (value answer : ℕ) : Type 0 where
   pub packs : answer ≡ packed v value
   pub small : SmallVerdict v

@@ -171,7 +171,9 @@ module _ (net : Network) (bs : Bytes) (rows gained lost head : List ℕ) (can : 
             let is : st ≡ refusedStep (refused 14 i) s = step-is ∙ ap (limit (nodesOf net) s (tablesAfter net rows head bs)) list ∙ past in
             settles (nodesOf net) (lent rows gained lost head) st true c refl (record { verdict = refused 14 i; areas = lent rows gained lost head })
             (sym (ap (resultOf (nodesOf net) (lent rows gained lost head)) is ∙ result-refused (nodesOf net) (lent rows gained lost head) (refusedStep (refused 14 i) s) refl))
-        go false c = frees (nodesOf net) (lent rows gained lost head) st c number-free (record { verdict = refused 14 i; areas = lent rows gained lost head }) (freelyRefused refl (rw (nodes-count net (can .checkable .built)) h) refl)
+        go false c =
+            let node : i < length (nodesOf net) = rw (nodes-count net (can .checkable .built)) h in
+            frees (nodesOf net) (lent rows gained lost head) st c number-free (record { verdict = refused 14 i; areas = lent rows gained lost head }) (freelyRefused refl node refl)
 
     -- every node's new rows worked out and written
     module _ (work counts : List ℕ) (changed : List Bool) (to : WorkedTo head (newRows net rows head bs) (working (net .widths) rows work counts changed) (net .count)) where

@@ -3,20 +3,25 @@
 use mathlib.Core.Bool.{_&&_, Bool, cond, false, not, true, _||_}
 use mathlib.Core.List.{_++_, List, [], _∷_, map}
 use mathlib.Core.Path.{ap, refl, sym, _∙_, _≡_, subst}
-use Prim.Native.Nat.{_+_, _-_, _*_, _<_, _≤_, suc, zero, zero-le, max, ℕ}
+use Prim.Native.Nat.{_+_, _-_, _*_, _<_, _≤_, suc, zero, zero-le, ℕ}
 use native.Mathlib.Omega.{arith}
 use native.Mathlib.Nat.{le-of-suc-le-suc, not-suc-le-zero, max-le}
 use lib.ListN.{getD, length, length-append, length-set, replicate, set}
 use lib.Dec.{eqb, leb, ltb}
 use borrow.Author.Tests.{eq-eqb, eqb-true, leb-false, leb-true, ltb-true, ne-eqb}
-use Rattle.model.specs.Row.{Relation, isEmpty, maxRows, allOf}
-use Rattle.model.specs.Record.{Bytes, SmallVerdict, Rule, Verdict, accepted, firstBroken, isBroken, isAccepted, kindAt, lengthAt, offsets, offsetsFrom, refused, rule}
-use Rattle.model.specs.Network.{Item, Kind, Network, Node, Watch, buildOn, build, difference, hasShape, highest, inputsOf, intersection, isTable, isUnknown, isWatch, itemAt, itemFits, join, kindNumbered, kindOf, levelOf, levels, noNetwork, nodeItem, project, readNetwork, readRecords, recordFault, refusedReading, select, setOperation, table, union, watchFits, watchItem, widths, withItem, within, constant, column}
-use Rattle.model.specs.Batch.{Event, actAll, eventAt, eventFault, eventFits, maxEvents, readBatch, readEvents}
+use Rattle.model.specs.Row.{Relation, isEmpty, allOf}
+use Rattle.model.specs.Record.{Bytes, Rule, SmallVerdict, Verdict, accepted, firstBroken, isAccepted, isBroken, kindAt, lengthAt}
+use Rattle.model.specs.Record.{offsets, offsetsFrom, refused, rule}
+use Rattle.model.specs.Network.{Item, Kind, Network, Node, column, constant, difference, intersection, join, project, select, setOperation}
+use Rattle.model.specs.Network.{table, union, nodeItem, watchItem, kindOf, inputsOf, isTable, build, buildOn, highest, levelOf, levels}
+use Rattle.model.specs.Network.{widths, kindNumbered, isUnknown, isWatch, within, hasShape, itemAt, itemFits, watchFits, recordFault}
+use Rattle.model.specs.Network.{noNetwork, withItem, readNetwork, readRecords, refusedReading}
+use Rattle.model.specs.Batch.{Event, actAll, eventAt, eventFault, eventFits, readBatch, readEvents}
 use Rattle.model.specs.Evaluation.{evaluate, overfull}
-use Rattle.model.specs.Station.{State, lastNumber, limit, step, applyEvents}
-use Rattle.model.specs.Areas.{Areas, goodForm, layout, longEnough, padded, stateIn, coherent}
-use Rattle.model.specs.Calls.{Applied, Free, Keeps, Promise, Result, applyPromise, formVerdict, free, freelyAccepted, freelyRefused, isWatched, openVerdict, orElse, promiseOf, readCall, reportOf, reportVerdict, resultOf, settled, unless}
+use Rattle.model.specs.Station.{State, Step, applyEvents, lastNumber, limit, refusedStep, step}
+use Rattle.model.specs.Areas.{Areas, coherent, goodForm, layout, longEnough, stateIn}
+use Rattle.model.specs.Calls.{Applied, Free, Keeps, Result, applyPromise, formVerdict, free, freelyAccepted, freelyRefused, isWatched}
+use Rattle.model.specs.Calls.{openVerdict, orElse, promiseOf, readCall, reportOf, reportVerdict, resultOf, settled, unless}
 use Rattle.model.proofs.Build.{length-evaluate}
 use Rattle.model.proofs.Fits.{fault-fits, fault-shape, item-room, length-widths, most-more, read-small}
 use Rattle.model.proofs.Sets.{and-first, and-second}
@@ -31,7 +36,6 @@ length-most bs b at = omega (arith, b at, b (at + 1))
 small-accepted : SmallVerdict accepted
 small-accepted = record { number = omega arith; place = omega arith }
 
--- a rule that is judged for a whole call
 small-refused : (number place : ℕ) → number < 27 → place < 4294967296 → SmallVerdict (refused number place)
 small-refused number place n p = record { number = n; place = p }
 
@@ -86,7 +90,8 @@ passed-small : (net : Network) (at : ℕ) → Passed net at → at < 4294967296
 passed-small net at p = omega (arith, p .few, p .signed, p .place, watches-few (net .signs))
 
 -- one record more
-passed-more : (net : Network) (at size : ℕ) (item : Item) → Passed net at → size ≤ 65535 → itemFits (widths (net .nodes)) (net .signs) item ≡ true → ((n : Node) → item ≡ nodeItem n → length (widths (net .nodes)) < 32) → Passed (withItem net item) (at + size)
+passed-more : (net : Network) (at size : ℕ) (item : Item) → Passed net at → size ≤ 65535 → itemFits (widths (net .nodes)) (net .signs) item ≡ true →
+    ((n : Node) → item ≡ nodeItem n → length (widths (net .nodes)) < 32) → Passed (withItem net item) (at + size)
 unfolding itemFits watchFits
 passed-more net at size (nodeItem n) p s f room =
     let nodes : length (net .nodes ++ (n ∷ [])) ≡ length (net .nodes) + 1 = length-append (net .nodes) (n ∷ []) in
@@ -97,10 +102,12 @@ passed-more net at size (nodeItem n) p s f room =
       place = omega (arith, nodes, watches-none (net .signs), p .place);
     }
 passed-more net at size (watchItem w) p s f room =
-    let two : (ltb (w .node) (length (net .signs)) && within 1 3 (w .sign)) ≡ true = and-first (ltb (w .node) (length (net .signs)) && within 1 3 (w .sign)) (eqb (getD (net .signs) (w .node) 0) 0) f in
-    let inside : w .node < length (net .signs) = ltb-true (w .node) (length (net .signs)) (and-first (ltb (w .node) (length (net .signs))) (within 1 3 (w .sign)) two) in
-    let sign : leb 1 (w .sign) ≡ true = and-first (leb 1 (w .sign)) (leb (w .sign) 3) (and-second (ltb (w .node) (length (net .signs))) (within 1 3 (w .sign)) two) in
-    let none : getD (net .signs) (w .node) 0 ≡ 0 = eqb-true (getD (net .signs) (w .node) 0) 0 (and-second (ltb (w .node) (length (net .signs)) && within 1 3 (w .sign)) (eqb (getD (net .signs) (w .node) 0) 0) f) in
+    let inside? : Bool = ltb (w .node) (length (net .signs)) in
+    let none? : Bool = eqb (getD (net .signs) (w .node) 0) 0 in
+    let two : (inside? && within 1 3 (w .sign)) ≡ true = and-first (inside? && within 1 3 (w .sign)) none? f in
+    let inside : w .node < length (net .signs) = ltb-true (w .node) (length (net .signs)) (and-first inside? (within 1 3 (w .sign)) two) in
+    let sign : leb 1 (w .sign) ≡ true = and-first (leb 1 (w .sign)) (leb (w .sign) 3) (and-second inside? (within 1 3 (w .sign)) two) in
+    let none : getD (net .signs) (w .node) 0 ≡ 0 = eqb-true (getD (net .signs) (w .node) 0) 0 (and-second (inside? && within 1 3 (w .sign)) none? f) in
     let more : watches (set (net .signs) (w .node) (w .sign)) ≡ watches (net .signs) + 1 = watches-more (net .signs) (w .node) (w .sign) inside none (leb-true 1 (w .sign) sign) in
     record {
       few = p .few;
@@ -113,34 +120,52 @@ module _ (bs : Bytes) (b : ByteList bs) where
   unfolding recordFault
   fault-below ws signs at =
       let kind : Kind = kindNumbered (kindAt bs at) in
-      first-below (rule 3 (isBroken bs at) ∷ rule 4 (isUnknown kind) ∷ rule 5 (not (isWatch kind) && leb 32 (length ws)) ∷ rule 6 (not (hasShape kind bs at)) ∷ rule 7 (not (itemFits ws signs (itemAt kind bs at))) ∷ []) refl
+      first-below
+      (rule 3 (isBroken bs at)
+      ∷ rule 4 (isUnknown kind)
+      ∷ rule 5 (not (isWatch kind) && leb 32 (length ws))
+      ∷ rule 6 (not (hasShape kind bs at))
+      ∷ rule 7 (not (itemFits ws signs (itemAt kind bs at)))
+      ∷ [])
+      refl
+
+  -- what the record at an offset brings, and the network with it
+  abbrev item : ℕ → Item
+  item at = itemAt (kindNumbered (kindAt bs at)) bs at
+
+  abbrev next : Network → ℕ → Network
+  next net at = withItem net (itemAt (kindNumbered (kindAt bs at)) bs at)
+
+  abbrev fault : Network → ℕ → ℕ
+  fault net at = recordFault (widths (net .nodes)) (net .signs) bs at
 
   -- the record at an offset, given the verdict of those after it
-  record-small : (net : Network) (at : ℕ) (rest : List ℕ) → Passed net at → (Passed (withItem net (itemAt (kindNumbered (kindAt bs at)) bs at)) (at + lengthAt bs at) → SmallVerdict (readRecords bs (withItem net (itemAt (kindNumbered (kindAt bs at)) bs at)) rest .verdict)) →
-      SmallVerdict (readRecords bs net (at ∷ rest) .verdict)
+  record-small : (net : Network) (at : ℕ) (rest : List ℕ) → Passed net at →
+      (Passed (next net at) (at + lengthAt bs at) → SmallVerdict (readRecords bs (next net at) rest .verdict)) → SmallVerdict (readRecords bs net (at ∷ rest) .verdict)
   unfolding readRecords
-  record-small net at rest p later = go (eqb (recordFault (widths (net .nodes)) (net .signs) bs at) 0) refl
+  record-small net at rest p later = go (eqb (fault net at) 0) refl
     where
-      go : (t : Bool) → eqb (recordFault (widths (net .nodes)) (net .signs) bs at) 0 ≡ t →
-          SmallVerdict (cond t (readRecords bs (withItem net (itemAt (kindNumbered (kindAt bs at)) bs at)) rest) (refusedReading (recordFault (widths (net .nodes)) (net .signs) bs at) at) .verdict)
+      go : (t : Bool) → eqb (fault net at) 0 ≡ t → SmallVerdict (cond t (readRecords bs (next net at) rest) (refusedReading (fault net at) at) .verdict)
       go true e =
-          let none : recordFault (widths (net .nodes)) (net .signs) bs at ≡ 0 = eqb-true (recordFault (widths (net .nodes)) (net .signs) bs at) 0 e in
-          later
-          (passed-more net at (lengthAt bs at) (itemAt (kindNumbered (kindAt bs at)) bs at) p (length-most bs b at) (fault-fits (widths (net .nodes)) (net .signs) bs at none) (item-room (kindNumbered (kindAt bs at)) (widths (net .nodes)) bs at (fault-shape (widths (net .nodes)) (net .signs) bs at none .0)))
-      go false e = small-refused (recordFault (widths (net .nodes)) (net .signs) bs at) at (fault-below (widths (net .nodes)) (net .signs) at) (passed-small net at p)
+          let none : fault net at ≡ 0 = eqb-true (fault net at) 0 e in
+          let space = item-room (kindNumbered (kindAt bs at)) (widths (net .nodes)) bs at (fault-shape (widths (net .nodes)) (net .signs) bs at none .0) in
+          later (passed-more net at (lengthAt bs at) (item at) p (length-most bs b at) (fault-fits (widths (net .nodes)) (net .signs) bs at none) space)
+      go false e = small-refused (fault net at) at (fault-below (widths (net .nodes)) (net .signs) at) (passed-small net at p)
+
+  -- the offset behind the record at an offset, and those from there on
+  abbrev rest-from : ℕ → ℕ → List ℕ
+  rest-from n at = offsetsFrom n bs (at + lengthAt bs at)
 
   records-small : (n : ℕ) (net : Network) (at : ℕ) → Passed net at → SmallVerdict (readRecords bs net (offsetsFrom n bs at) .verdict)
   unfolding readRecords offsetsFrom
   records-small zero net at p = small-accepted
-  records-small (suc n) net at p = go (leb (length bs) at) (isBroken bs at) (records-small n (withItem net (itemAt (kindNumbered (kindAt bs at)) bs at)) (at + lengthAt bs at))
+  records-small (suc n) net at p = go (leb (length bs) at) (isBroken bs at) (records-small n (next net at) (at + lengthAt bs at))
     where
-      next : Network
-      next = withItem net (itemAt (kindNumbered (kindAt bs at)) bs at)
-
-      go : (t u : Bool) → (Passed next (at + lengthAt bs at) → SmallVerdict (readRecords bs next (offsetsFrom n bs (at + lengthAt bs at)) .verdict)) → SmallVerdict (readRecords bs net (cond t [] (at ∷ cond u [] (offsetsFrom n bs (at + lengthAt bs at)))) .verdict)
+      go : (t u : Bool) → (Passed (next net at) (at + lengthAt bs at) → SmallVerdict (readRecords bs (next net at) (rest-from n at) .verdict)) →
+          SmallVerdict (readRecords bs net (cond t [] (at ∷ cond u [] (rest-from n at))) .verdict)
       go true u later = small-accepted
       go false true later = record-small net at [] p (λ q. small-accepted)
-      go false false later = record-small net at (offsetsFrom n bs (at + lengthAt bs at)) p later
+      go false false later = record-small net at (rest-from n at) p later
 
   -- refusals 2 to 7
   pub network-small : SmallVerdict (readNetwork bs .verdict)
@@ -157,12 +182,20 @@ module _ (bs : Bytes) (b : ByteList bs) where
     event-below : (before at : ℕ) → eventFault nodes before bs at < 27
     unfolding eventFault
     event-below before at =
-        first-below (rule 10 (isBroken bs at) ∷ rule 11 (not (eqb (kindAt bs at) 32 || eqb (kindAt bs at) 33)) ∷ rule 12 (leb 64 before) ∷ rule 13 (not (eventFits nodes bs at)) ∷ []) refl
+        first-below
+        (rule 10 (isBroken bs at)
+        ∷ rule 11 (not (eqb (kindAt bs at) 32 || eqb (kindAt bs at) 33))
+        ∷ rule 12 (leb 64 before)
+        ∷ rule 13 (not (eventFits nodes bs at))
+        ∷ [])
+        refl
 
     -- rule 12 of a record that breaks none
     room : (before at : ℕ) → eventFault nodes before bs at ≡ 0 → before < 64
     unfolding eventFault
-    room before at z = leb-false 64 before (third (isBroken bs at) (not (eqb (kindAt bs at) 32 || eqb (kindAt bs at) 33)) (leb 64 before) (not (eventFits nodes bs at)) z)
+    room before at z =
+        leb-false 64 before
+        (third (isBroken bs at) (not (eqb (kindAt bs at) 32 || eqb (kindAt bs at) 33)) (leb 64 before) (not (eventFits nodes bs at)) z)
       where
         third : (x y c d : Bool) → firstBroken (rule 10 x ∷ rule 11 y ∷ rule 12 c ∷ rule 13 d ∷ []) ≡ 0 → c ≡ false
         third true y c d h = absurd (omega arith)
@@ -170,40 +203,46 @@ module _ (bs : Bytes) (b : ByteList bs) where
         third false false true d h = absurd (omega arith)
         third false false false d h = refl
 
+    -- the events with the one at an offset
+    abbrev with-event : List Event → ℕ → List Event
+    with-event done at = done ++ (eventAt (widths nodes) bs at ∷ [])
+
+    -- so many whole events stand before an offset
+    record Done (done : List Event) (at : ℕ) : Type 0 where
+      few : length done ≤ 64
+      place : at ≤ 65535 * length done
+
     -- the event at an offset, given the verdict of those after it
-    event-small : (done : List Event) (at : ℕ) (rest : List ℕ) → length done ≤ 64 → at ≤ 65535 * length done →
-        (length (done ++ (eventAt (widths nodes) bs at ∷ [])) ≤ 64 → at + lengthAt bs at ≤ 65535 * length (done ++ (eventAt (widths nodes) bs at ∷ [])) → SmallVerdict (readEvents nodes bs (done ++ (eventAt (widths nodes) bs at ∷ [])) rest .verdict)) →
-        SmallVerdict (readEvents nodes bs done (at ∷ rest) .verdict)
+    event-small : (done : List Event) (at : ℕ) (rest : List ℕ) → Done done at →
+        (Done (with-event done at) (at + lengthAt bs at) → SmallVerdict (readEvents nodes bs (with-event done at) rest .verdict)) → SmallVerdict (readEvents nodes bs done (at ∷ rest) .verdict)
     unfolding readEvents
-    event-small done at rest few p later = go (eqb (eventFault nodes (length done) bs at) 0) refl
+    event-small done at rest p later = go (eqb (eventFault nodes (length done) bs at) 0) refl
       where
-        size : length (done ++ (eventAt (widths nodes) bs at ∷ [])) ≡ length done + 1
+        size : length (with-event done at) ≡ length done + 1
         size = length-append done (eventAt (widths nodes) bs at ∷ [])
 
         go : (t : Bool) → eqb (eventFault nodes (length done) bs at) 0 ≡ t →
-            SmallVerdict (cond t (readEvents nodes bs (done ++ (eventAt (widths nodes) bs at ∷ [])) rest) (record { verdict = refused (eventFault nodes (length done) bs at) at; events = [] }) .verdict)
+            SmallVerdict (cond t (readEvents nodes bs (with-event done at) rest) (record { verdict = refused (eventFault nodes (length done) bs at) at; events = [] }) .verdict)
         go true e =
             let less : length done < 64 = room (length done) at (eqb-true (eventFault nodes (length done) bs at) 0 e) in
-            later (omega (arith, size, less)) (omega (arith, size, p, length-most bs b at))
-        go false e = small-refused (eventFault nodes (length done) bs at) at (event-below (length done) at) (omega (arith, few, p))
+            later (record { few = omega (arith, size, less); place = omega (arith, size, p .place, length-most bs b at) })
+        go false e = small-refused (eventFault nodes (length done) bs at) at (event-below (length done) at) (omega (arith, p .few, p .place))
 
-    events-small : (n : ℕ) (done : List Event) (at : ℕ) → length done ≤ 64 → at ≤ 65535 * length done → SmallVerdict (readEvents nodes bs done (offsetsFrom n bs at) .verdict)
+    events-small : (n : ℕ) (done : List Event) (at : ℕ) → Done done at → SmallVerdict (readEvents nodes bs done (offsetsFrom n bs at) .verdict)
     unfolding readEvents offsetsFrom
-    events-small zero done at few p = small-accepted
-    events-small (suc n) done at few p = go (leb (length bs) at) (isBroken bs at) (events-small n (done ++ (eventAt (widths nodes) bs at ∷ [])) (at + lengthAt bs at))
+    events-small zero done at p = small-accepted
+    events-small (suc n) done at p = go (leb (length bs) at) (isBroken bs at) (events-small n (with-event done at) (at + lengthAt bs at))
       where
-        next : List Event
-        next = done ++ (eventAt (widths nodes) bs at ∷ [])
-
-        go : (t u : Bool) → (length next ≤ 64 → at + lengthAt bs at ≤ 65535 * length next → SmallVerdict (readEvents nodes bs next (offsetsFrom n bs (at + lengthAt bs at)) .verdict)) → SmallVerdict (readEvents nodes bs done (cond t [] (at ∷ cond u [] (offsetsFrom n bs (at + lengthAt bs at)))) .verdict)
+        go : (t u : Bool) → (Done (with-event done at) (at + lengthAt bs at) → SmallVerdict (readEvents nodes bs (with-event done at) (rest-from n at) .verdict)) →
+            SmallVerdict (readEvents nodes bs done (cond t [] (at ∷ cond u [] (rest-from n at))) .verdict)
         go true u later = small-accepted
-        go false true later = event-small done at [] few p (λ q r. small-accepted)
-        go false false later = event-small done at (offsetsFrom n bs (at + lengthAt bs at)) few p later
+        go false true later = event-small done at [] p (λ q. small-accepted)
+        go false false later = event-small done at (rest-from n at) p later
 
     -- refusals 10 to 13
     batch-small : SmallVerdict (readBatch nodes bs .verdict)
     unfolding readBatch offsets
-    batch-small = events-small (length bs) [] 0 zero-le zero-le
+    batch-small = events-small (length bs) [] 0 (record { few = zero-le; place = zero-le })
 
     -- refusal 14 names a node
     over-below : (i : ℕ) (rels : List Relation) (k : ℕ) (rest : List ℕ) → overfull i rels ≡ k ∷ rest → k < i + length rels
@@ -213,7 +252,8 @@ module _ (bs : Bytes) (b : ByteList bs) where
         none f = let z : _≡_ {A = ℕ} 0 1 = cc in omega arith
     over-below i (r ∷ rels) k rest e = go (ltb 64 (length r)) e (over-below (suc i) rels k rest)
       where
-        go : (t : Bool) → cond t (i ∷ overfull (suc i) rels) (overfull (suc i) rels) ≡ k ∷ rest → (overfull (suc i) rels ≡ k ∷ rest → k < suc i + length rels) → k < i + suc (length rels)
+        go : (t : Bool) → cond t (i ∷ overfull (suc i) rels) (overfull (suc i) rels) ≡ k ∷ rest →
+            (overfull (suc i) rels ≡ k ∷ rest → k < suc i + length rels) → k < i + suc (length rels)
         go true f later = let same : i ≡ k = cc in omega arith
         go false f later = omega (arith, later f)
 
@@ -234,7 +274,10 @@ module _ (bs : Bytes) (b : ByteList bs) where
       unfolding step
       step-small = go (eqb (s .number) lastNumber) (isAccepted (readBatch nodes bs .verdict))
         where
-          go : (t u : Bool) → SmallVerdict (cond t (record { verdict = refused 9 0; state = s }) (cond u (applyEvents nodes s (readBatch nodes bs .events)) (record { verdict = readBatch nodes bs .verdict; state = s })) .verdict)
+          applied : Step
+          applied = applyEvents nodes s (readBatch nodes bs .events)
+
+          go : (t u : Bool) → SmallVerdict (cond t (refusedStep (refused 9 0) s) (cond u applied (refusedStep (readBatch nodes bs .verdict) s)) .verdict)
           go true u = small-refused 9 0 (omega arith) (omega arith)
           go false true = events-applied (readBatch nodes bs .events)
           go false false = batch-small
@@ -255,11 +298,14 @@ small-unless false number h = small-refused number 0 h (omega arith)
 module _ (net : Bytes) (b : ByteList net) (a : Areas) where
   pub open-small : SmallVerdict (openVerdict net a)
   unfolding openVerdict
-  open-small = small-or (unless (longEnough layout a) 1) (readNetwork net .verdict) (small-unless (longEnough layout a) 1 (omega arith)) (network-small net b)
+  open-small =
+      small-or (unless (longEnough layout a) 1) (readNetwork net .verdict) (small-unless (longEnough layout a) 1 (omega arith)) (network-small net b)
 
   pub form-small : SmallVerdict (formVerdict net a)
   unfolding formVerdict
-  form-small = small-or (openVerdict net a) (unless (goodForm layout (readNetwork net .network .nodes) a) 8) open-small (small-unless (goodForm layout (readNetwork net .network .nodes) a) 8 (omega arith))
+  form-small =
+      let good : Bool = goodForm layout (readNetwork net .network .nodes) a in
+      small-or (openVerdict net a) (unless good 8) open-small (small-unless good 8 (omega arith))
 
   pub report-small : (node : ℕ) (out : Bytes) → SmallVerdict (reportVerdict net node a out)
   unfolding reportVerdict
@@ -277,12 +323,17 @@ module _ (net : Bytes) (b : ByteList net) (a : Areas) where
   -- refusals 1 to 14
   pub applied-small : (batch : Bytes) → ByteList batch → (r : Result) → Applied net batch a r → SmallVerdict (r .verdict)
   unfolding applyPromise promiseOf resultOf
-  applied-small batch c r k = go (isAccepted (formVerdict net a)) (coherent layout nodes a || within 9 13 (step nodes (stateIn layout nodes a) batch .verdict .number)) k
+  applied-small batch c r k =
+      go (isAccepted (formVerdict net a)) (coherent layout nodes a || within 9 13 (step nodes (stateIn layout nodes a) batch .verdict .number)) k
     where
       nodes : List Node
       nodes = readNetwork net .network .nodes
 
-      go : (t u : Bool) → Keeps (cond t (cond u (settled (resultOf nodes a (step nodes (stateIn layout nodes a) batch))) (free (length nodes))) (settled (record { verdict = formVerdict net a; areas = a }))) a r → SmallVerdict (r .verdict)
+      result : Result
+      result = resultOf nodes a (step nodes (stateIn layout nodes a) batch)
+
+      go : (t u : Bool) → Keeps (cond t (cond u (settled result) (free (length nodes))) (settled (record { verdict = formVerdict net a; areas = a }))) a r →
+          SmallVerdict (r .verdict)
       go true true e = subst (λ (y : Result). SmallVerdict (y .verdict)) (sym e) (step-small batch c nodes (read-small net .few) (stateIn layout nodes a))
       go true false e = free-small (length nodes) r (read-small net .few) e
       go false u e = subst (λ (y : Result). SmallVerdict (y .verdict)) (sym e) form-small
@@ -334,18 +385,21 @@ unfolding levels build
 levels-most nodes i = omega (arith, levels-on nodes [] 0 (λ j. zero-le) i)
 
 module _ (net : Bytes) where
+  abbrev nodes : List Node
+  nodes = readNetwork net .network .nodes
+
   pub count-most : readCall net .count ≤ 32
   unfolding readCall
   count-most = read-small net .few
 
   pub kinds-read : (i : ℕ) → getD (readCall net .kinds) i 0 ≤ 32
   unfolding readCall
-  kinds-read = most-padded (map kindOf (readNetwork net .network .nodes)) 32 (32 - length (map kindOf (readNetwork net .network .nodes))) (kinds-most (readNetwork net .network .nodes))
+  kinds-read = most-padded (map kindOf nodes) 32 (32 - length (map kindOf nodes)) (kinds-most nodes)
 
   pub widths-read : (i : ℕ) → getD (readCall net .widths) i 0 ≤ 32
   unfolding readCall
-  widths-read = most-padded (widths (readNetwork net .network .nodes)) 32 (32 - length (widths (readNetwork net .network .nodes))) (λ i. omega (arith, read-small net .narrow i))
+  widths-read = most-padded (widths nodes) 32 (32 - length (widths nodes)) (λ i. omega (arith, read-small net .narrow i))
 
   pub levels-read : (i : ℕ) → getD (readCall net .levels) i 0 ≤ 32
   unfolding readCall
-  levels-read = most-padded (levels (readNetwork net .network .nodes)) 32 (32 - length (levels (readNetwork net .network .nodes))) (λ i. omega (arith, levels-most (readNetwork net .network .nodes) i, read-small net .few))
+  levels-read = most-padded (levels nodes) 32 (32 - length (levels nodes)) (λ i. omega (arith, levels-most nodes i, read-small net .few))

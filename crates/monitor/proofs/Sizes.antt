@@ -1,13 +1,13 @@
 -- A report has at most 2,816 bytes: 64 gained and 64 lost rows of at most 22 bytes each. Assumes nothing.
-use mathlib.Core.Bool.{Bool, cond, false, not, true, true≢false, _&&_}
+use mathlib.Core.Bool.{Bool, cond, false, not, true, true≢false}
 use mathlib.Core.List.{List, []}
 use mathlib.Core.Path.{ap, ap₂, refl, sym, _∙_, _≡_}
-use Prim.Native.Nat.{_+_, _≤_, _<_, zero-le, ℕ}
+use Prim.Native.Nat.{_≤_, _<_, zero-le, ℕ}
 use native.Mathlib.Omega.{arith}
 use lib.ListN.{getD, length}
 use lib.Dec.{eqb, leb, ltb}
 use borrow.Author.Tests.{ltb-true}
-use Rattle.model.specs.Areas.{Areas, changesIn, gainedCount, goodArea, goodForm, goodStamps, goodWorked, heldIn, layout, lostCount, relationsIn, rowCount}
+use Rattle.model.specs.Areas.{Areas, changesIn, gainedCount, goodForm, heldIn, layout, lostCount, relationsIn}
 use Rattle.model.specs.Calls.{allowsGained, allowsLost, formVerdict, isWatched, openVerdict, orElse, reportBytes, reportCall, reportOf, reportVerdict, unless}
 use Rattle.model.specs.Delta.{Change, changeAt}
 use Rattle.model.specs.Network.{Node, readNetwork, signOf, widths}
@@ -40,12 +40,23 @@ module _ (net : Bytes) (a : Areas) where
   unfolding formVerdict
   form-good e = unless-holds (goodForm layout nodes a) 8 refl (or-holds (openVerdict net a) (unless (goodForm layout nodes a) 8) e .1)
 
+  -- an area's rows of a node, by its counts
+  abbrev held : (ℕ → ℕ) → List ℕ → ℕ → Relation
+  held count area node = heldIn layout (getD (widths nodes) node 0) (count node) area node
+
+  held-is : (count : ℕ → ℕ) (area : List ℕ) (node : ℕ) → node < length (widths nodes) →
+      (node < length (relationsIn layout (widths nodes) count area)) × (getD (relationsIn layout (widths nodes) count area) node [] ≡ held count area node)
+  held-is count area node h = (rw (relations-length (widths nodes) count area) h, relation-at (widths nodes) count area node h)
+
   -- a node's gained and lost rows
-  change-is : (node : ℕ) → node < length (widths nodes) → changeAt (changesIn layout nodes a) node ≡ record { gained = heldIn layout (getD (widths nodes) node 0) (gainedCount (a .head) node) (a .gained) node; lost = heldIn layout (getD (widths nodes) node 0) (lostCount (a .head) node) (a .lost) node }
+  change-is : (node : ℕ) → node < length (widths nodes) →
+      changeAt (changesIn layout nodes a) node ≡ record { gained = held (gainedCount (a .head)) (a .gained) node; lost = held (lostCount (a .head)) (a .lost) node }
   unfolding changesIn
   change-is node h =
-      zip-at (relationsIn layout (widths nodes) (gainedCount (a .head)) (a .gained)) (relationsIn layout (widths nodes) (lostCount (a .head)) (a .lost)) node (rw (relations-length (widths nodes) (gainedCount (a .head)) (a .gained)) h) (rw (relations-length (widths nodes) (lostCount (a .head)) (a .lost)) h)
-      ∙ ap₂ {A = Relation} {B = Relation} {C = Change} (λ g l. record { gained = g; lost = l }) (relation-at (widths nodes) (gainedCount (a .head)) (a .gained) node h) (relation-at (widths nodes) (lostCount (a .head)) (a .lost) node h)
+      let g = held-is (gainedCount (a .head)) (a .gained) node h in
+      let l = held-is (lostCount (a .head)) (a .lost) node h in
+      zip-at (relationsIn layout (widths nodes) (gainedCount (a .head)) (a .gained)) (relationsIn layout (widths nodes) (lostCount (a .head)) (a .lost)) node (g .0) (l .0)
+      ∙ ap₂ {A = Relation} {B = Relation} {C = Change} (λ x y. record { gained = x; lost = y }) (g .1) (l .1)
 
   report-most : (node : ℕ) → goodForm layout nodes a ≡ true → node < length nodes → length (reportOf (readNetwork net .network) node a) ≤ 2816
   unfolding reportOf
@@ -54,9 +65,9 @@ module _ (net : Bytes) (a : Areas) where
       let w : ℕ = getD (widths nodes) node 0 in
       let inside : node < length (widths nodes) = rw (length-widths nodes) h in
       let few : length (widths nodes) ≤ 32 = rw (length-widths nodes) (read-small net .few) in
-      let parts : (goodArea layout (widths nodes) (rowCount (a .head)) (a .rows) ≡ true) × (goodArea layout (widths nodes) (gainedCount (a .head)) (a .gained) ≡ true) × (goodArea layout (widths nodes) (lostCount (a .head)) (a .lost) ≡ true) × (goodStamps (length nodes) (a .head) ≡ true) × (goodWorked (length nodes) (a .head) ≡ true) = form-parts nodes a good in
-      let gained-few : gainedCount (a .head) node ≤ 64 = few-at (widths nodes) few (read-small net .narrow) (gainedCount (a .head)) (a .gained) (parts .1) node inside in
-      let lost-few : lostCount (a .head) node ≤ 64 = few-at (widths nodes) few (read-small net .narrow) (lostCount (a .head)) (a .lost) (parts .2) node inside in
+      let fewest = few-at (widths nodes) few (read-small net .narrow) in
+      let gained-few : gainedCount (a .head) node ≤ 64 = fewest (gainedCount (a .head)) (a .gained) (form-parts nodes a good .1) node inside in
+      let lost-few : lostCount (a .head) node ≤ 64 = fewest (lostCount (a .head)) (a .lost) (form-parts nodes a good .2) node inside in
       omega (
         arith,
         ap (λ (c : Change). length (reportBytes sign node c)) (change-is node inside),
@@ -78,7 +89,8 @@ module _ (net : Bytes) (a : Areas) where
 
       go : (t : Bool) → isAccepted (reportVerdict net node a out) ≡ t → length (cond t (reportOf (readNetwork net .network) node a) []) ≤ 2816
       go true e =
-          let all : (isAccepted (formVerdict net a) ≡ true) × (isAccepted (orElse (unless watched 15) (unless long 16)) ≡ true) = or-holds (formVerdict net a) (orElse (unless watched 15) (unless long 16)) e in
+          let all = or-holds (formVerdict net a) (orElse (unless watched 15) (unless long 16)) e in
           let is : watched ≡ true = unless-holds watched 15 refl (or-holds (unless watched 15) (unless long 16) (all .1) .0) in
-          report-most node (form-good (all .0)) (ltb-true node (length nodes) (and-first (ltb node (length nodes)) (not (eqb (signOf (readNetwork net .network) node) 0)) is))
+          let inside : ltb node (length nodes) ≡ true = and-first (ltb node (length nodes)) (not (eqb (signOf (readNetwork net .network) node) 0)) is in
+          report-most node (form-good (all .0)) (ltb-true node (length nodes) inside)
       go false e = zero-le

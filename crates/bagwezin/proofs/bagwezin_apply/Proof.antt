@@ -3,8 +3,7 @@ use mathlib.Core.Path.{refl}
 use native.Mathlib.Omega.{arith}
 use Rattle.bagwezin.proofs.bagwezin_apply.Statement.{statement}
 use Rattle.areas.specs.Lent.{lent}
-use Rattle.batch.specs.Applying.{resultWith}
-use Rattle.model.proofs.Bounds.{applied-small}
+use Rattle.model.proofs.Bounds.{ByteList, applied-small}
 use Rattle.bagwezin.proofs.bagwezin_apply.Tie as tie
 use Rattle.bagwezin.proofs.bagwezin_apply.Reads as reads
 use Rattle.bagwezin.proofs.bagwezin_apply.Lts as lts
@@ -16,9 +15,12 @@ apply-requires c κs = search needs
 
 pack-requires : tie.Need-pack-requires
 pack-requires c κs =
-    let a = c .before .before .before .before .before .before .before .before .before .before .before .before .before .before .before .before .before .before .before .args in
     let call = c .before .before .before .before .before .before .before .before in
-    (applied-small (a .net .now) (λ i. omega (arith, c .before .before .before .before .before .before .before .before .before .before .before .before .before .before .before .before .before .before .shared-slice-known .given i)) (lent (a .rows .now) (a .gained .now) (a .lost .now) (a .head .now)) (a .batch .now) (λ i. omega (arith, c .before .before .before .before .before .before .before .before .before .before .before .before .before .before .before .before .before .shared-slice-known2 .given i)) _ (call .apply .ensures), omega arith)
+    let known = call .before .before .before .before .before .before .before .before .before in
+    let a = known .before .before .args in
+    let net-bytes : ByteList (a .net .now) = λ i. omega (arith, known .before .shared-slice-known .given i) in
+    let batch-bytes : ByteList (a .batch .now) = λ i. omega (arith, known .shared-slice-known2 .given i) in
+    (applied-small (a .net .now) net-bytes (lent (a .rows .now) (a .gained .now) (a .lost .now) (a .head .now)) (a .batch .now) batch-bytes _ (call .apply .ensures), omega arith)
 
 same-length : tie.Need-same-length
 same-length c = search needs

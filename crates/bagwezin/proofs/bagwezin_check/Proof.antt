@@ -20,9 +20,11 @@ cast-pack c = search needs
 
 pack-requires : tie.Need-pack-requires
 pack-requires c κs =
-    let a = c .before .before .before .before .before .before .before .args in
     let call = c .before in
-    (check-fits (a .net .now) (λ i. omega (arith, c .before .before .before .before .before .before .shared-slice-known .given i)) (lent (a .rows .now) (a .gained .now) (a .lost .now) (a .head .now)) _ (call .check .ensures), bit-small (call .check .result .yes))
+    let known = call .before .before .before .before .before in
+    let a = known .before .args in
+    let small = check-fits (a .net .now) (λ i. omega (arith, known .shared-slice-known .given i)) (lent (a .rows .now) (a .gained .now) (a .lost .now) (a .head .now)) _ (call .check .ensures) in
+    (small, bit-small (call .check .result .yes))
 
 returns : tie.Need-returns
 returns c = subst (λ (x : CheckAnswer). AnswersCheck x (c .pack .result)) (c .before .before .check .ensures) (c .pack .ensures)

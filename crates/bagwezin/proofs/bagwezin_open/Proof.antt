@@ -4,7 +4,6 @@ use native.Mathlib.Omega.{arith}
 use Rattle.bagwezin.proofs.bagwezin_open.Statement.{statement}
 use Rattle.model.specs.Calls.{Result}
 use Rattle.areas.specs.Lent.{lent}
-use Rattle.batch.specs.Applying.{resultWith}
 use Rattle.bagwezin.specs.Answers.{Answers}
 use Rattle.bagwezin.proofs.Packed.{open-fits}
 use Rattle.bagwezin.proofs.bagwezin_open.Tie as tie
@@ -18,9 +17,10 @@ open-requires c κs = search needs
 
 pack-requires : tie.Need-pack-requires
 pack-requires c κs =
-    let a = c .before .before .before .before .before .before .before .before .before .before .before .before .before .before .before .before .before .before .args in
     let call = c .before .before .before .before .before .before .before .before in
-    (open-fits (a .net .now) (λ i. omega (arith, c .before .before .before .before .before .before .before .before .before .before .before .before .before .before .before .before .before .shared-slice-known .given i)) (lent (a .rows .now) (a .gained .now) (a .lost .now) (a .head .now)) _ (call .«open» .ensures), omega arith)
+    let known = call .before .before .before .before .before .before .before .before .before in
+    let a = known .before .args in
+    (open-fits (a .net .now) (λ i. omega (arith, known .shared-slice-known .given i)) (lent (a .rows .now) (a .gained .now) (a .lost .now) (a .head .now)) _ (call .«open» .ensures), omega arith)
 
 same-length : tie.Need-same-length
 same-length c = search needs
@@ -36,8 +36,8 @@ same-length-4 c = search needs
 
 returns : tie.Need-returns
 returns c =
-    let call = c .before .before .before .before .before .before .before .before .before in
-    (subst (λ (x : Result). Answers (x .verdict) 0 (c .pack .result)) (call .«open» .ensures) (c .pack .ensures), ap (λ (x : Result). x .areas) (call .«open» .ensures))
+    let e = c .before .before .before .before .before .before .before .before .before .«open» .ensures in
+    (subst (λ (x : Result). Answers (x .verdict) 0 (c .pack .result)) e (c .pack .ensures), ap (λ (x : Result). x .areas) e)
 
 pub bagwezin-open-spec : {M : Type 1} → statement M
 bagwezin-open-spec =

@@ -17,17 +17,19 @@ report-requires c κs = search needs
 
 pack-requires : tie.Need-pack-requires
 pack-requires c κs =
-    let a = c .before .before .before .before .before .before .before .before .before .before .args in
     let call = c .before .before in
-    report-fits (a .net .now) (λ i. omega (arith, c .before .before .before .before .before .before .before .before .before .shared-slice-known .given i)) (lent (a .rows .now) (a .gained .now) (a .lost .now) (a .head .now)) (a .node) (a .out .now) _ (call .report .ensures)
+    let known = call .before .before .before .before .before .before .before in
+    let a = known .before .args in
+    let areas = lent (a .rows .now) (a .gained .now) (a .lost .now) (a .head .now) in
+    report-fits (a .net .now) (λ i. omega (arith, known .shared-slice-known .given i)) areas (a .node) (a .out .now) _ (call .report .ensures)
 
 same-length : tie.Need-same-length
 same-length c = search needs
 
 returns : tie.Need-returns
 returns c =
-    let call = c .before .before .before in
-    (subst (λ (x : ReportAnswer). AnswersReport x (c .pack .result)) (call .report .ensures) (c .pack .ensures), ap (λ (x : ReportAnswer). x .out) (call .report .ensures))
+    let e = c .before .before .before .report .ensures in
+    (subst (λ (x : ReportAnswer). AnswersReport x (c .pack .result)) e (c .pack .ensures), ap (λ (x : ReportAnswer). x .out) e)
 
 pub bagwezin-report-spec : {M : Type 1} → statement M
 bagwezin-report-spec = tie.close (tie.spec report-requires pack-requires same-length returns)

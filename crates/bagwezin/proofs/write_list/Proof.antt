@@ -44,13 +44,24 @@ loop-less : tie.Need-loop-less Inv-loop μ-loop
 loop-less c = omega arith
 
 loop-again : tie.Need-loop-again Inv-loop μ-loop
-loop-again c = let a = (c .before .before .before .args) in (omega (arith, c .before .loop-test .taken), c .before .before .loop .inv .1, length-set (c .before .before .loop .answer) (a .at + c .before .before .loop .k) (getD (a .list .now) (c .before .before .loop .k) 0) ∙ c .before .before .loop .inv .2, list-more (a .answer .now) (c .before .before .loop .answer) (a .at) (a .list .now) (c .before .before .loop .k) (omega (arith, c .before .loop-test .taken)) (c .before .before .loop .inv .3))
+loop-again c =
+    let now = c .before .before in
+    let a = now .before .args in
+    let more = c .before .loop-test .taken in (
+      omega (arith, more),
+      now .loop .inv .1,
+      length-set (now .loop .answer) (a .at + now .loop .k) (getD (a .list .now) (now .loop .k) 0) ∙ now .loop .inv .2,
+      list-more (a .answer .now) (now .loop .answer) (a .at) (a .list .now) (now .loop .k) (omega (arith, more)) (now .loop .inv .3),
+    )
 
 same-length : tie.Need-same-length Inv-loop μ-loop
 same-length c = c .before .loop .inv .2
 
 returns : tie.Need-returns Inv-loop μ-loop
-returns c = let a = (c .before .before .args) in let all : take (c .before .loop .k) (a .list .now) ≡ a .list .now = take-all (c .before .loop .k) (a .list .now) (omega (arith, c .loop-test .left)) in c .before .loop .inv .3 ∙ ap (λ (l : List ℕ). sets (a .answer .now) (a .at) l) all
+returns c =
+    let a = c .before .before .args in
+    let all : take (c .before .loop .k) (a .list .now) ≡ a .list .now = take-all (c .before .loop .k) (a .list .now) (omega (arith, c .loop-test .left)) in
+    c .before .loop .inv .3 ∙ ap (λ (l : List ℕ). sets (a .answer .now) (a .at) l) all
 
 pub write-list-spec : {M : Type 1} → statement M
 write-list-spec =
