@@ -32,7 +32,7 @@ set-below f (y ∷ l) zero x h g (suc i) = h (suc i)
 set-below f (y ∷ l) (suc k) x h g zero = h 0
 set-below f (y ∷ l) (suc k) x h g (suc i) = set-below (λ j. f (suc j)) l k x (λ j. h (suc j)) g i
 
-set-ends : (l : List ℕ) (count x : ℕ) → Ends count l → Ends (count + 1) (set l count x)
+pub set-ends : (l : List ℕ) (count x : ℕ) → Ends count l → Ends (count + 1) (set l count x)
 set-ends l count x h i g = getD-set-other l count i x 0 (omega arith) ∙ h i (omega arith)
 
 pub zero-at : (n i : ℕ) → getD {A = ℕ} (replicate n 0) i 0 ≡ 0

@@ -5,13 +5,14 @@ use mathlib.Core.List.{List, [], _∷_, _++_, map}
 use Prim.Native.Nat.{ℕ, suc, _+_, _-_, _≤_, _<_}
 use native.Mathlib.Omega.{arith}
 use native.Mathlib.Numerals.{add-one}
-use lib.ListN.{length, getD, set, take, drop, replicate, take-append-drop, length-drop, length-replicate, length-map}
+use lib.ListN.{length, length-append, getD, set, take, drop, replicate, take-append-drop, length-drop, length-replicate, length-map}
 use lib.Seq.{take-suc, length-take-le, ext-getD, getD-drop}
 use Rattle.model.specs.Areas.{padded}
 use Rattle.model.specs.Network.{kindOf}
-use Rattle.model.specs.Record.{Bytes}
+use Rattle.model.specs.Record.{Bytes, fieldsAt}
 use Rattle.model.specs.Calls.{ReadAnswer, readCall}
-use Rattle.rows.proofs.Padding.{padded-more}
+use Rattle.rows.proofs.Padding.{padded-more, take-padded}
+use Rattle.nodes.proofs.Lists.{length-fieldsAt}
 use Rattle.network.specs.Reading.{Ends, slotNode, noSlot, nodesOf, verdictOf, readingOf, answerOf, Built, ReadsNetwork}
 use Rattle.network.specs.declared.Network.{Network}
 use Rattle.network.specs.declared.Reading.{Reading}
@@ -25,6 +26,17 @@ ends-padded n count l e h z =
     ext-getD 0 (drop count l) (replicate (n - count) 0) (length-drop count l ∙ rw length-replicate (omega arith)) (λ i b. getD-drop count l i 0 ∙ z (count + i) (omega arith) ∙ sym (zero-at (n - count) i)) in
     let size : length (take count l) ≡ count = length-take-le count l (omega arith) in
     sym (take-append-drop count l) ∙ ap (λ (r : List ℕ). take count l ++ r) (rest ∙ ap (λ (k : ℕ). replicate (n - k) 0) (sym size))
+
+-- fields of a record, padded to the four that a slot has
+module _ (bs : Bytes) (at k n : ℕ) (r : List ℕ) (few : n ≤ 4) (e : r ≡ padded 4 (fieldsAt bs at k n)) where
+  pub fields-first : take n r ≡ fieldsAt bs at k n
+  fields-first = ap (take n) e ∙ take-padded 4 n (fieldsAt bs at k n) (length-fieldsAt bs at k n)
+
+  pub fields-length : length r ≡ 4
+  fields-length =
+      ap length e
+      ∙ length-append (fieldsAt bs at k n) (replicate (4 - length (fieldsAt bs at k n)) 0)
+      ∙ rw (length-replicate {A = ℕ}, length-fieldsAt) (omega arith)
 
 -- the kinds of the first slots
 abbrev pub kindsTo : List Slot → ℕ → List ℕ

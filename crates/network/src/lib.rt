@@ -2,7 +2,7 @@
 ghost use mathlib.Core.Path.{_≡_};
 ghost use mathlib.Core.List.{map};
 ghost use Prim.Native.Nat.{ℕ, _+_, _*_, _≤_, _<_, max};
-ghost use lib.ListN.{length, getD, take};
+ghost use lib.ListN.{length, getD};
 ghost use Rattle.model.specs.Network.{noNetwork, refusedReading, kindOf};
 ghost use Rattle.model.specs.Record.{fieldsAt};
 ghost use Rattle.model.specs.Areas.{padded};
@@ -48,7 +48,7 @@ pub struct Reading {
 // n fields of the record from field k on, then zeros.
 fn fields_of(bytes: &[u8], at: usize, k: usize, n: usize) -> [usize; MAX_WIDTH]
     requires { ⌜ (at + 4 + 2 * k + 2 * n ≤ length (now bytes)) × (n ≤ 4) ⌝ }
-    ensures { λ r. ⌜ (take n r ≡ fieldsAt (now (bytes .entry)) at k n) × (length r ≡ 4) ⌝ }
+    ensures { λ r. ⌜ r ≡ padded 4 (fieldsAt (now (bytes .entry)) at k n) ⌝ }
 {
     let mut fields = [0usize; MAX_WIDTH];
     let mut i = 0;

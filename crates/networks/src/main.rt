@@ -6,7 +6,7 @@ ghost use Prim.Native.Nat.{_+_, _<_, _≤_};
 ghost use lib.ListN.{length};
 ghost use lib.Seq.{sets};
 ghost use Rattle.model.specs.Text.{line};
-ghost use Rattle.networks.specs.Cases.{Inside};
+ghost use Rattle.networks.specs.Cases.{ReadsCase};
 use libc::STDOUT_FILENO;
 
 // Where a case's name and its network begin, and where the next case does.
@@ -19,7 +19,7 @@ pub struct Case {
 // The case at an offset; one without a name and a network where the bytes end before it does.
 fn case_at(bytes: &[u8], at: usize) -> Case
     requires { ⌜ at < length (now bytes) ⌝ }
-    ensures { λ r. ⌜ Inside at r (length (now (bytes .entry))) ⌝ }
+    ensures { λ r. ⌜ ReadsCase (now (bytes .entry)) at r ⌝ }
 {
     let end = bytes.len();
     let none = Case {
@@ -42,7 +42,7 @@ fn case_at(bytes: &[u8], at: usize) -> Case
 // A line of a word and 32 numbers: its length.
 fn put_list(text: &mut [u8], word: &[u8], list: [usize; 32]) -> usize
     requires { ⌜ length (now word) + 672 < length (now text) ⌝ }
-    ensures { λ r. ⌜ (now (text .exit) ≡ sets (now (text .entry)) 0 (line (now (word .entry)) list)) × (r ≤ length (now (text .entry))) ⌝ }
+    ensures { λ r. ⌜ (now (text .exit) ≡ sets (now (text .entry)) 0 (line (now (word .entry)) list)) × (r ≡ length (line (now (word .entry)) list)) × (r ≤ length (now (text .entry))) ⌝ }
 {
     lines::put_line(text, word, &list)
 }

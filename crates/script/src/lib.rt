@@ -4,7 +4,7 @@ ghost use mathlib.Core.Path.{_≡_};
 ghost use Prim.Native.Nat.{ℕ, _+_, _≤_, _<_};
 ghost use lib.ListN.{length, set, take};
 ghost use lib.Seq.{sets};
-ghost use Rattle.script.specs.Script.{Inside};
+ghost use Rattle.script.specs.Script.{ReadsOperation};
 
 // An operation, and where its text begins and ends.
 pub struct Operation {
@@ -19,7 +19,7 @@ pub struct Operation {
 // The operation at an offset; of kind 0 where the bytes end before it does.
 pub fn operation_at(bytes: &[u8], at: usize) -> Operation
     requires { ⌜ at < length (now bytes) ⌝ }
-    ensures { λ r. ⌜ Inside at r (length (now (bytes .entry))) ⌝ }
+    ensures { λ r. ⌜ ReadsOperation (now (bytes .entry)) at r ⌝ }
 {
     let end = bytes.len();
     let none = Operation {

@@ -1,7 +1,11 @@
 use mathlib.Core.Path.{_≡_, refl, sym, ap, _∙_}
 use Prim.Native.Nat.{ℕ, _+_, _-_, _*_, _≤_, _<_}
 use lib.ListN.{length, getD, take, length-set}
+use Rattle.model.specs.Areas.{padded}
 use Rattle.model.specs.Record.{fieldsAt}
+use Rattle.network.specs.Reading.{Ends}
+use Rattle.network.proofs.Building.{set-ends, zero-at}
+use Rattle.network.proofs.Kept.{ends-padded}
 use Rattle.nodes.proofs.Lists.{fields-turn}
 use native.Mathlib.Omega.{arith}
 use borrow.Author.Needs.{needs}
@@ -12,13 +16,13 @@ use Rattle.network.proofs.fields_of.Lts as lts
 use Rattle.records.proofs.field_at.Reads as field-at-reads
 
 abbrev Inv-loop : tie.InvT-loop
-Inv-loop bytes at k n fields₀ i₀ fields i = (i ≤ n) × (length fields ≡ 4) × (take i fields ≡ fieldsAt bytes at k i)
+Inv-loop bytes at k n fields₀ i₀ fields i = (i ≤ n) × (length fields ≡ 4) × (take i fields ≡ fieldsAt bytes at k i) × Ends i fields
 
 abbrev μ-loop : tie.MeasureT-loop
 μ-loop bytes at k n fields₀ i₀ fields i = n - i
 
 loop-holds : tie.Need-loop-holds Inv-loop μ-loop
-loop-holds c = (omega arith, refl, refl)
+loop-holds c = (omega arith, refl, refl, λ j h. zero-at 4 j)
 
 add-field-at : tie.Need-add-field-at Inv-loop μ-loop
 add-field-at c = omega arith
@@ -39,10 +43,21 @@ loop-less : tie.Need-loop-less Inv-loop μ-loop
 loop-less c = omega arith
 
 loop-again : tie.Need-loop-again Inv-loop μ-loop
-loop-again c = let a = c .before .before .before .before .args in (omega arith, simp length-set (c .before .before .loop .inv .1), fields-turn (a .bytes .now) (a .at) (a .k) (c .before .before .loop .fields) (c .before .before .loop .i) (c .field-at .result) (omega arith) (c .field-at .ensures .is) (c .before .before .loop .inv .2))
+loop-again c =
+    let a = c .before .before .before .before .args in
+    let l = c .before .before .loop in (
+      omega arith,
+      simp length-set (l .inv .1),
+      fields-turn (a .bytes .now) (a .at) (a .k) (l .fields) (l .i) (c .field-at .result) (omega arith) (c .field-at .ensures .is) (l .inv .2),
+      set-ends (l .fields) (l .i) (c .field-at .result) (l .inv .3),
+    )
 
 returns : tie.Need-returns Inv-loop μ-loop
-returns c = let a = c .before .before .before .args in let e : c .before .loop .i ≡ a .n = omega arith in (rw (← e) (c .before .loop .inv .2), c .before .loop .inv .1)
+returns c =
+    let a = c .before .before .before .args in
+    let l = c .before .loop in
+    let e : l .i ≡ a .n = omega arith in
+    ends-padded 4 (a .n) (l .fields) (l .inv .1) (omega arith) (rw e at (l .inv .3)) ∙ ap (padded 4) (rw e at (l .inv .2))
 
 pub fields-of-spec : {M : Type 1} → statement M
 fields-of-spec =

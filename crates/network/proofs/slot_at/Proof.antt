@@ -9,6 +9,7 @@ use Rattle.network.specs.Reading.{slotNode}
 use Rattle.nodes.proofs.Lists.{pairs-fields, pairs-take}
 use Rattle.network.proofs.slot_at.Statement.{statement}
 use Rattle.network.proofs.Building.{counts-are}
+use Rattle.network.proofs.Kept.{fields-first, fields-length}
 use Rattle.network.proofs.slot_at.Tie as tie
 use Rattle.network.proofs.slot_at.Reads as reads
 use Rattle.network.proofs.slot_at.Lts as lts
@@ -49,17 +50,29 @@ enum-told-3 c = search needs
 
 returns : tie.Need-returns
 returns c =
+    let a = c .before .before .before .before .before .args in
     let f = rw (c .before .before .node .given .1) at (c .before .before .before .before .before .pre) in
-    (rw (c .before .before .node .given .1, c .fields-of .ensures .0), record { columns-length = c .fields-of .ensures .1; pairs-length = refl; counts = f .1 })
+    let n : ℕ = c .before .before .node .given .0 .1 .0 in
+    let e = c .fields-of .ensures in
+    let columns = fields-first (a .bytes .now) (a .at) 2 n (c .fields-of .result) (f .1) e in
+    (rw (c .before .before .node .given .1, columns), record { columns-length = fields-length (a .bytes .now) (a .at) 2 n (c .fields-of .result) (f .1) e; pairs-length = refl; counts = f .1 })
 
 returns-2 : tie.Need-returns-2
 returns-2 c =
     let a = c .before .before .before .before .before .before .args in
-    let f = rw (c .before .before .before .node2 .given .1) at (c .before .before .before .before .before .before .pre) in
-    let p : ℕ = c .before .before .before .node2 .given .0 .1 .1 .0 in
-    let pairs : pairsOf p (c .before .fields-of2 .result) ≡ pairsAt (a .bytes .now) (a .at) 3 p =
-    pairs-take p (c .before .fields-of2 .result) (omega (arith, f .2, c .before .fields-of2 .ensures .1)) ∙ ap (pairsOf p) (c .before .fields-of2 .ensures .0) ∙ pairs-fields (a .bytes .now) (a .at) 3 p in
-    (rw (c .before .before .before .node2 .given .1, pairs, c .fields-of3 .ensures .0), record { columns-length = c .fields-of3 .ensures .1; pairs-length = c .before .fields-of2 .ensures .1; counts = (f .2, f .3) })
+    let g = c .before .before .before .node2 .given in
+    let f = rw (g .1) at (c .before .before .before .before .before .before .pre) in
+    let p : ℕ = g .0 .1 .1 .0 in
+    let n : ℕ = g .0 .1 .1 .1 .0 in
+    let x = c .before .fields-of2 in
+    let y = c .fields-of3 in
+    let few : 2 * p ≤ 4 = omega (arith, f .2) in
+    let size = fields-length (a .bytes .now) (a .at) 3 (2 * p) (x .result) few (x .ensures) in
+    let pairs : pairsOf p (x .result) ≡ pairsAt (a .bytes .now) (a .at) 3 p =
+    pairs-take p (x .result) (omega (arith, f .2, size)) ∙ ap (pairsOf p) (fields-first (a .bytes .now) (a .at) 3 (2 * p) (x .result) few (x .ensures)) ∙ pairs-fields (a .bytes .now) (a .at) 3 p in
+    let columns = fields-first (a .bytes .now) (a .at) (4 + 2 * p) n (y .result) (f .3) (y .ensures) in
+    let columns-length = fields-length (a .bytes .now) (a .at) (4 + 2 * p) n (y .result) (f .3) (y .ensures) in
+    (rw (g .1, pairs, columns), record { columns-length = columns-length; pairs-length = size; counts = (f .2, f .3) })
 
 returns-3 : tie.Need-returns-3
 returns-3 c = (rw (c .enum-told .given .1), record { columns-length = refl; pairs-length = refl; counts = counts-are _ _ (c .enum-told .given .1) tt })

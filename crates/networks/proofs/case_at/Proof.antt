@@ -1,5 +1,8 @@
 use native.Mathlib.Omega.{arith}
+use lib.ListN.{length}
 use borrow.Author.Needs.{needs}
+use borrow.Author.Tests.{le-leb, lt-leb}
+use Rattle.networks.specs.Cases.{caseIn}
 use Rattle.networks.proofs.case_at.Statement.{statement}
 use Rattle.records.proofs.Header.{whole}
 use Rattle.networks.proofs.case_at.Tie as tie
@@ -11,7 +14,9 @@ sub-if1 : tie.Need-sub-if1
 sub-if1 c = search needs
 
 returns : tie.Need-returns
-returns c = record { after = omega arith; name = omega arith; net = omega arith; whole = omega arith }
+returns c =
+    let a = c .before .before .args in
+    record { is = rw (lt-leb (caseIn (a .bytes .now) (a .at) .next) (length (a .bytes .now)) (omega arith)); after = omega arith; name = omega arith; net = omega arith; whole = omega arith }
 
 add-name : tie.Need-add-name
 add-name c = search needs
@@ -35,10 +40,16 @@ add-next : tie.Need-add-next
 add-next c = omega (arith, c .before .shared-slice-known2 .given (c .before .before .before .before .args .at), c .u16-at .ensures .small)
 
 returns-2 : tie.Need-returns-2
-returns-2 c = record { after = omega arith; name = omega arith; net = omega arith; whole = omega arith }
+returns-2 c =
+    let a = c .before .before .before .before .before .args in
+    record { is = rw (lt-leb (caseIn (a .bytes .now) (a .at) .next) (length (a .bytes .now)) (omega (arith, c .before .u16-at .ensures .is))); after = omega arith; name = omega arith; net = omega arith; whole = omega arith }
 
 returns-3 : tie.Need-returns-3
-returns-3 c = record { after = omega arith; name = omega arith; net = omega arith; whole = omega (arith, c .if2 .left) }
+returns-3 c =
+    let a = c .before .before .before .before .before .args in
+    let u = c .before .u16-at in
+    let fits = le-leb (caseIn (a .bytes .now) (a .at) .next) (length (a .bytes .now)) (omega (arith, c .if2 .left, u .ensures .is)) in
+    record { is = rw (fits, u .ensures .is); after = omega arith; name = omega arith; net = omega arith; whole = omega (arith, c .if2 .left) }
 
 pub case-at-spec : {M : Type 1} → statement M
 case-at-spec =

@@ -105,7 +105,7 @@ array-share-prefix-text-2 : tie.Need-array-share-prefix-text-2 Inv-loop μ-loop
 array-share-prefix-text-2 c = search needs
 
 slice-aggregate-write-all-2 : tie.Need-slice-aggregate-write-all-2 Inv-loop μ-loop
-slice-aggregate-write-all-2 c = sym (length-take-le (c .before .before .put-list .result) (c .before .before .put-list .last .0) (omega (arith, c .before .before .put-list .ensures .1, c .before .before .put-list .kept .0)))
+slice-aggregate-write-all-2 c = sym (length-take-le (c .before .before .put-list .result) (c .before .before .put-list .last .0) (omega (arith, c .before .before .put-list .ensures .2, c .before .before .put-list .kept .0)))
 
 write-all-requires-3 : tie.Need-write-all-requires-3 Inv-loop μ-loop
 write-all-requires-3 c κs = search needs
@@ -123,7 +123,7 @@ array-share-prefix-text-3 : tie.Need-array-share-prefix-text-3 Inv-loop μ-loop
 array-share-prefix-text-3 c = search needs
 
 slice-aggregate-write-all-3 : tie.Need-slice-aggregate-write-all-3 Inv-loop μ-loop
-slice-aggregate-write-all-3 c = sym (length-take-le (c .before .before .put-list2 .result) (c .before .before .put-list2 .last .0) (omega (arith, c .before .before .put-list2 .ensures .1, c .before .before .put-list2 .kept .0)))
+slice-aggregate-write-all-3 c = sym (length-take-le (c .before .before .put-list2 .result) (c .before .before .put-list2 .last .0) (omega (arith, c .before .before .put-list2 .ensures .2, c .before .before .put-list2 .kept .0)))
 
 write-all-requires-4 : tie.Need-write-all-requires-4 Inv-loop μ-loop
 write-all-requires-4 c κs = search needs
@@ -141,7 +141,7 @@ array-share-prefix-text-4 : tie.Need-array-share-prefix-text-4 Inv-loop μ-loop
 array-share-prefix-text-4 c = search needs
 
 slice-aggregate-write-all-4 : tie.Need-slice-aggregate-write-all-4 Inv-loop μ-loop
-slice-aggregate-write-all-4 c = sym (length-take-le (c .before .before .put-list3 .result) (c .before .before .put-list3 .last .0) (omega (arith, c .before .before .put-list3 .ensures .1, c .before .before .put-list3 .kept .0)))
+slice-aggregate-write-all-4 c = sym (length-take-le (c .before .before .put-list3 .result) (c .before .before .put-list3 .last .0) (omega (arith, c .before .before .put-list3 .ensures .2, c .before .before .put-list3 .kept .0)))
 
 write-all-requires-5 : tie.Need-write-all-requires-5 Inv-loop μ-loop
 write-all-requires-5 c κs = search needs

@@ -1,6 +1,9 @@
 use Prim.Native.Nat.{_+_}
 use native.Mathlib.Omega.{arith}
+use lib.ListN.{length}
 use borrow.Author.Needs.{needs}
+use borrow.Author.Tests.{le-leb, lt-leb}
+use Rattle.script.specs.Script.{operationIn}
 use Rattle.script.proofs.operation_at.Statement.{statement}
 use Rattle.records.proofs.Header.{whole}
 use Rattle.script.proofs.operation_at.Tie as tie
@@ -13,7 +16,9 @@ sub-if1 : tie.Need-sub-if1
 sub-if1 c = search needs
 
 returns : tie.Need-returns
-returns c = record { after = omega arith; text = omega arith; whole = omega arith }
+returns c =
+    let a = c .before .before .args in
+    record { is = rw (lt-leb (operationIn (a .bytes .now) (a .at) .next) (length (a .bytes .now)) (omega arith)); after = omega arith; text = omega arith; whole = omega arith }
 
 add-from : tie.Need-add-from
 add-from c = search needs
@@ -28,7 +33,9 @@ add-next : tie.Need-add-next
 add-next c = search needs
 
 returns-2 : tie.Need-returns-2
-returns-2 c = record { after = omega arith; text = omega arith; whole = omega arith }
+returns-2 c =
+    let a = c .before .before .before .before .args in
+    record { is = rw (lt-leb (operationIn (a .bytes .now) (a .at) .next) (length (a .bytes .now)) (omega (arith, c .before .u16-at .ensures .is))); after = omega arith; text = omega arith; whole = omega arith }
 
 shared-slice-read-t11 : tie.Need-shared-slice-read-t11
 shared-slice-read-t11 c = search needs
@@ -58,7 +65,11 @@ u32-at-requires : tie.Need-u32-at-requires
 u32-at-requires c κs = search needs
 
 returns-3 : tie.Need-returns-3
-returns-3 c = record { after = omega arith; text = omega arith; whole = omega (arith, c .before .before .before .before .if2 .left) }
+returns-3 c =
+    let a = c .before .before .before .before .before .before .before .before .args in
+    let u = c .before .before .before .before .before .u16-at in
+    let fits = le-leb (operationIn (a .bytes .now) (a .at) .next) (length (a .bytes .now)) (omega (arith, c .before .before .before .before .if2 .left, u .ensures .is)) in
+    record { is = rw (fits, c .before .u16-at2 .ensures .is, c .u32-at .ensures, u .ensures .is); after = omega arith; text = omega arith; whole = omega (arith, c .before .before .before .before .if2 .left) }
 
 pub operation-at-spec : {M : Type 1} → statement M
 operation-at-spec =
