@@ -24,6 +24,7 @@ use Rattle.propagation.specs.Propagated.{Ready, tablesAfter, newRows, WorkedTo,
 use Rattle.coherence.specs.Held.{rowsHeld}
 use Rattle.model.specs.Evaluation.{overfull, evaluate}
 use Rattle.evaluation.proofs.Fresh.{same-eq}
+use Rattle.model.proofs.Bounds.{over-below}
 use Rattle.model.proofs.Sets.{and-second}
 use Rattle.propagation.proofs.News.{new-fresh}
 use Rattle.coherence.proofs.Coherent.{nodes-count, rows-length}
@@ -163,16 +164,19 @@ module _ (net : Network) (bs : Bytes) (rows gained lost head : List ℕ) (can : 
         AppliedTo net bs (lent rows gained lost head) (record { verdict = v; areas = lent rows gained lost head })
     over-refused v i e f = rw e (go (coherent layout (nodesOf net) a) refl)
       where
+        first : (rest : List ℕ) × (overfull 0 (newRows net rows head bs) ≡ i ∷ rest)
+        first = limit-first (overfull 0 (newRows net rows head bs)) i (sym e ∙ f)
+
         go : (t : Bool) → coherent layout (nodesOf net) a ≡ t → AppliedTo net bs (lent rows gained lost head) (record { verdict = refused 14 i; areas = lent rows gained lost head })
         go true c =
-            let first : (rest : List ℕ) × (overfull 0 (newRows net rows head bs) ≡ i ∷ rest) = limit-first (overfull 0 (newRows net rows head bs)) i (sym e ∙ f) in
             let list : overfull 0 (evaluate (nodesOf net) (tablesAfter net rows head bs)) ≡ i ∷ first .0 = ap (overfull 0) (sym (now-fresh c)) ∙ first .1 in
             let past = limit-over (nodesOf net) s (tablesAfter net rows head bs) i (first .0) in
             let is : st ≡ refusedStep (refused 14 i) s = step-is ∙ ap (limit (nodesOf net) s (tablesAfter net rows head bs)) list ∙ past in
             settles (nodesOf net) (lent rows gained lost head) st true c refl (record { verdict = refused 14 i; areas = lent rows gained lost head })
             (sym (ap (resultOf (nodesOf net) (lent rows gained lost head)) is ∙ result-refused (nodesOf net) (lent rows gained lost head) (refusedStep (refused 14 i) s) refl))
         go false c =
-            let node : i < length (nodesOf net) = rw (nodes-count net (can .checkable .built)) h in
+            let inside : i < net .count = omega (arith, over-below 0 (newRows net rows head bs) i (first .0) (first .1), new-many) in
+            let node : i < length (nodesOf net) = rw (nodes-count net (can .checkable .built)) inside in
             frees (nodesOf net) (lent rows gained lost head) st c number-free (record { verdict = refused 14 i; areas = lent rows gained lost head }) (freelyRefused refl node refl)
 
     -- every node's new rows worked out and written

@@ -115,6 +115,19 @@ passed-more net at size (watchItem w) p s f room =
       place = omega (arith, more, p .place);
     }
 
+-- refusal 14 names a node
+pub over-below : (i : ℕ) (rels : List Relation) (k : ℕ) (rest : List ℕ) → overfull i rels ≡ k ∷ rest → k < i + length rels
+over-below i [] k rest e = absurd (none e)
+  where
+    none : [] ≡ k ∷ rest → ⊥
+    none f = let z : _≡_ {A = ℕ} 0 1 = cc in omega arith
+over-below i (r ∷ rels) k rest e = go (ltb 64 (length r)) e (over-below (suc i) rels k rest)
+  where
+    go : (t : Bool) → cond t (i ∷ overfull (suc i) rels) (overfull (suc i) rels) ≡ k ∷ rest →
+        (overfull (suc i) rels ≡ k ∷ rest → k < suc i + length rels) → k < i + suc (length rels)
+    go true f later = let same : i ≡ k = cc in omega arith
+    go false f later = omega (arith, later f)
+
 module _ (bs : Bytes) (b : ByteList bs) where
   fault-below : (ws signs : List ℕ) (at : ℕ) → recordFault ws signs bs at < 27
   unfolding recordFault
@@ -243,19 +256,6 @@ module _ (bs : Bytes) (b : ByteList bs) where
     batch-small : SmallVerdict (readBatch nodes bs .verdict)
     unfolding readBatch offsets
     batch-small = events-small (length bs) [] 0 (record { few = zero-le; place = zero-le })
-
-    -- refusal 14 names a node
-    over-below : (i : ℕ) (rels : List Relation) (k : ℕ) (rest : List ℕ) → overfull i rels ≡ k ∷ rest → k < i + length rels
-    over-below i [] k rest e = absurd (none e)
-      where
-        none : [] ≡ k ∷ rest → ⊥
-        none f = let z : _≡_ {A = ℕ} 0 1 = cc in omega arith
-    over-below i (r ∷ rels) k rest e = go (ltb 64 (length r)) e (over-below (suc i) rels k rest)
-      where
-        go : (t : Bool) → cond t (i ∷ overfull (suc i) rels) (overfull (suc i) rels) ≡ k ∷ rest →
-            (overfull (suc i) rels ≡ k ∷ rest → k < suc i + length rels) → k < i + suc (length rels)
-        go true f later = let same : i ≡ k = cc in omega arith
-        go false f later = omega (arith, later f)
 
     module _ (few : length nodes ≤ 32) (s : State) where
       limit-small : (copy : List Relation) (over : List ℕ) → ((k : ℕ) (rest : List ℕ) → over ≡ k ∷ rest → k < 32) → SmallVerdict (limit nodes s copy over .verdict)

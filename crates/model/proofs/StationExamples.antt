@@ -12,7 +12,7 @@ use Rattle.model.specs.Batch as batch
 use Rattle.model.specs.Station.{State, opened, step}
 use Rattle.model.specs.Network.{nodesIn, readNetwork}
 use Rattle.model.specs.Examples.{recordBytes, put, remove, networkN, networkS, batch1, batch2, batch3, batch4, puts}
-use Rattle.model.specs.Examples.{shown, verdictsOn, Case, case, ask, levelsAre, workedIs, stampsAre, rowsOf, gainedOf, lostOf, yes, isRight}
+use Rattle.model.specs.Examples.{shown, verdictsOn, Case, case, ask, levelsAre, workedIs, stampsAre, rowsOf, gainedOf, lostOf, passes, isRight}
 use Rattle.model.proofs.ReadExamples.{Expected, verdict}
 
 -- two tables of width 2, joined on the pair (1,0) to columns 0 and 3; node 3 selects the first table's rows with column 0 at most 4,
@@ -43,36 +43,36 @@ cases : List Case
 unfolding networkN networkS networkJ networkL batch1 batch2 batch3 batch4 put remove puts
 cases =
     -- a left row joins the right row that agrees with it, and no other
-    case networkJ ((put 0 (4 ∷ 7 ∷ []) ++ put 1 (7 ∷ 9 ∷ []) ++ put 1 (4 ∷ 4 ∷ [])) ∷ []) (yes ∷ yes ∷ []) (ask (rowsOf 2) ((4 ∷ 9 ∷ []) ∷ []) ∷ [])
+    case networkJ ((put 0 (4 ∷ 7 ∷ []) ++ put 1 (7 ∷ 9 ∷ []) ++ put 1 (4 ∷ 4 ∷ [])) ∷ []) (passes ∷ passes ∷ []) (ask (rowsOf 2) ((4 ∷ 9 ∷ []) ∷ []) ∷ [])
     -- the worked list goes by level first: node 4, of level 2, comes after node 5, of level 1
-    ∷ case networkJ (put 0 (4 ∷ 7 ∷ []) ∷ []) (yes ∷ yes ∷ []) (ask workedIs ((2 ∷ 3 ∷ 5 ∷ 4 ∷ []) ∷ []) ∷ [])
+    ∷ case networkJ (put 0 (4 ∷ 7 ∷ []) ∷ []) (passes ∷ passes ∷ []) (ask workedIs ((2 ∷ 3 ∷ 5 ∷ 4 ∷ []) ∷ []) ∷ [])
     -- a projected row stays while one of its origins does
     ∷ case
     networkJ
     ((put 0 (4 ∷ 7 ∷ []) ++ put 0 (5 ∷ 7 ∷ [])) ∷ remove 0 (4 ∷ 7 ∷ []) ∷ [])
-    (yes ∷ yes ∷ yes ∷ [])
+    (passes ∷ passes ∷ passes ∷ [])
     (ask (lostOf 0) ((4 ∷ 7 ∷ []) ∷ []) ∷ ask (lostOf 5) [] ∷ ask (rowsOf 5) ((7 ∷ []) ∷ []) ∷ [])
     -- a level comes from the highest input, whichever side it is on
-    ∷ case networkL [] (yes ∷ []) (ask levelsAre ((0 ∷ 1 ∷ 2 ∷ 3 ∷ 3 ∷ []) ∷ []) ∷ [])
+    ∷ case networkL [] (passes ∷ []) (ask levelsAre ((0 ∷ 1 ∷ 2 ∷ 3 ∷ 3 ∷ []) ∷ []) ∷ [])
     -- gained and lost rows of N's watched node: + 4 5 after batch 1, - 4 5 after batch 3, nothing after batches 2 and 4
-    ∷ case networkN (batch1 ∷ []) (yes ∷ yes ∷ []) (ask (gainedOf 4) ((5 ∷ []) ∷ []) ∷ ask (lostOf 4) [] ∷ [])
-    ∷ case networkN (batch1 ∷ batch2 ∷ []) (yes ∷ yes ∷ yes ∷ []) (ask (gainedOf 4) [] ∷ ask (lostOf 4) [] ∷ [])
-    ∷ case networkN (batch1 ∷ batch2 ∷ batch3 ∷ []) (yes ∷ yes ∷ yes ∷ yes ∷ []) (ask (gainedOf 4) [] ∷ ask (lostOf 4) ((5 ∷ []) ∷ []) ∷ [])
+    ∷ case networkN (batch1 ∷ []) (passes ∷ passes ∷ []) (ask (gainedOf 4) ((5 ∷ []) ∷ []) ∷ ask (lostOf 4) [] ∷ [])
+    ∷ case networkN (batch1 ∷ batch2 ∷ []) (passes ∷ passes ∷ passes ∷ []) (ask (gainedOf 4) [] ∷ ask (lostOf 4) [] ∷ [])
+    ∷ case networkN (batch1 ∷ batch2 ∷ batch3 ∷ []) (passes ∷ passes ∷ passes ∷ passes ∷ []) (ask (gainedOf 4) [] ∷ ask (lostOf 4) ((5 ∷ []) ∷ []) ∷ [])
     ∷ case
     networkN
     (batch1 ∷ batch2 ∷ batch3 ∷ batch4 ∷ [])
-    (yes ∷ yes ∷ yes ∷ yes ∷ yes ∷ [])
+    (passes ∷ passes ∷ passes ∷ passes ∷ passes ∷ [])
     (ask (gainedOf 4) [] ∷ ask (lostOf 4) [] ∷ [])
     -- a changed node is stamped, another stamp remains: nodes 2 and 4 keep the stamp of batch 1
-    ∷ case networkN (batch1 ∷ batch2 ∷ []) (yes ∷ yes ∷ yes ∷ []) (ask stampsAre ((2 ∷ 2 ∷ 1 ∷ 0 ∷ 1 ∷ []) ∷ []) ∷ [])
+    ∷ case networkN (batch1 ∷ batch2 ∷ []) (passes ∷ passes ∷ passes ∷ []) (ask stampsAre ((2 ∷ 2 ∷ 1 ∷ 0 ∷ 1 ∷ []) ∷ []) ∷ [])
     -- an accepted batch adds 1, the empty one too, and a refused one nothing: the put after them is stamped 2
     ∷ case
     networkS
     ([] ∷ put 2 (1 ∷ []) ∷ put 1 (1 ∷ []) ∷ [])
-    (yes ∷ yes ∷ (13 ∷ 0 ∷ []) ∷ yes ∷ [])
+    (passes ∷ passes ∷ (13 ∷ 0 ∷ []) ∷ passes ∷ [])
     (ask stampsAre ((0 ∷ 2 ∷ 0 ∷ 0 ∷ 2 ∷ []) ∷ []) ∷ [])
     -- "65 rows put in by 64 events and an older row, one removed in the next batch: refused first"
-    ∷ case networkS (put 0 (0 ∷ []) ∷ puts 1 64 ∷ remove 0 (0 ∷ []) ∷ []) (yes ∷ yes ∷ (14 ∷ 0 ∷ []) ∷ yes ∷ []) (ask (rowsOf 0) [] ∷ [])
+    ∷ case networkS (put 0 (0 ∷ []) ∷ puts 1 64 ∷ remove 0 (0 ∷ []) ∷ []) (passes ∷ passes ∷ (14 ∷ 0 ∷ []) ∷ passes ∷ []) (ask (rowsOf 0) [] ∷ [])
     ∷ []
 
 cases-right : allOf isRight cases ≡ true
@@ -84,7 +84,7 @@ cases-right = refl
 -- a batch on network S, from its opening, has that verdict
 judged : Expected → Bool
 unfolding verdictsOn networkS
-judged e = sameRows (verdictsOn networkS (e .bytes ∷ [])) (yes ∷ shown (e .verdict) ∷ [])
+judged e = sameRows (verdictsOn networkS (e .bytes ∷ [])) (passes ∷ shown (e .verdict) ∷ [])
 
 batch-verdicts :
     allOf judged (
@@ -119,7 +119,7 @@ numbered n =
 last-number :
     map (λ (s : State). shown (step (nodesIn networkN) s [] .verdict)) (numbered 4294967295 ∷ numbered 4294967294 ∷ [])
     ++ map (λ (s : State). shown (step (nodesIn networkN) s (1 ∷ []) .verdict)) (numbered 4294967295 ∷ numbered 4294967294 ∷ [])
-    ≡ (9 ∷ 0 ∷ []) ∷ yes ∷ (9 ∷ 0 ∷ []) ∷ (10 ∷ 0 ∷ []) ∷ []
+    ≡ (9 ∷ 0 ∷ []) ∷ passes ∷ (9 ∷ 0 ∷ []) ∷ (10 ∷ 0 ∷ []) ∷ []
 unfolding numbered step networkN readNetwork
 last-number = refl
 

@@ -141,8 +141,8 @@ abbrev pub case : Bytes → List Bytes → List Row → List Ask → Case
 case network batches expected asks = record { network = network; batches = batches; verdicts = expected; asks = asks }
 
 -- number 0 and place 0
-abbrev pub yes : Row
-yes = 0 ∷ 0 ∷ []
+abbrev pub passes : Row
+passes = 0 ∷ 0 ∷ []
 
 -- every verdict is the expected one, and every answer too
 unfoldable pub isRight : Case → Bool
@@ -156,53 +156,53 @@ unfoldable pub examples : List Case
 unfolding networkN networkS batch1 batch2 batch3 batch4 put remove puts
 examples =
     -- "Levels 0, 1, 2, 0, 3"
-    case networkN [] (yes ∷ []) (ask levelsAre ((0 ∷ 1 ∷ 2 ∷ 0 ∷ 3 ∷ []) ∷ []) ∷ [])
+    case networkN [] (passes ∷ []) (ask levelsAre ((0 ∷ 1 ∷ 2 ∷ 0 ∷ 3 ∷ []) ∷ []) ∷ [])
     -- "Worked on: 1 2 4", then "1 2", then "4", then "1 2 4"
-    ∷ case networkN (batch1 ∷ []) (yes ∷ yes ∷ []) (ask workedIs ((1 ∷ 2 ∷ 4 ∷ []) ∷ []) ∷ [])
-    ∷ case networkN (batch1 ∷ batch2 ∷ []) (yes ∷ yes ∷ yes ∷ []) (ask workedIs ((1 ∷ 2 ∷ []) ∷ []) ∷ [])
-    ∷ case networkN (batch1 ∷ batch2 ∷ batch3 ∷ []) (yes ∷ yes ∷ yes ∷ yes ∷ []) (ask workedIs ((4 ∷ []) ∷ []) ∷ [])
-    ∷ case networkN (batch1 ∷ batch2 ∷ batch3 ∷ batch4 ∷ []) (yes ∷ yes ∷ yes ∷ yes ∷ yes ∷ []) (ask workedIs ((1 ∷ 2 ∷ 4 ∷ []) ∷ []) ∷ [])
+    ∷ case networkN (batch1 ∷ []) (passes ∷ passes ∷ []) (ask workedIs ((1 ∷ 2 ∷ 4 ∷ []) ∷ []) ∷ [])
+    ∷ case networkN (batch1 ∷ batch2 ∷ []) (passes ∷ passes ∷ passes ∷ []) (ask workedIs ((1 ∷ 2 ∷ []) ∷ []) ∷ [])
+    ∷ case networkN (batch1 ∷ batch2 ∷ batch3 ∷ []) (passes ∷ passes ∷ passes ∷ passes ∷ []) (ask workedIs ((4 ∷ []) ∷ []) ∷ [])
+    ∷ case networkN (batch1 ∷ batch2 ∷ batch3 ∷ batch4 ∷ []) (passes ∷ passes ∷ passes ∷ passes ∷ passes ∷ []) (ask workedIs ((1 ∷ 2 ∷ 4 ∷ []) ∷ []) ∷ [])
     -- "put then remove of a new row nets to nothing", beside a put that acts
     ∷ case
     networkS
     ((put 0 (8 ∷ []) ++ put 0 (7 ∷ []) ++ remove 0 (7 ∷ [])) ∷ [])
-    (yes ∷ yes ∷ [])
+    (passes ∷ passes ∷ [])
     (ask (gainedOf 0) ((8 ∷ []) ∷ []) ∷ ask (lostOf 0) [] ∷ ask (rowsOf 0) ((8 ∷ []) ∷ []) ∷ [])
     ∷ case
     networkS
     ((put 0 (7 ∷ []) ++ remove 0 (7 ∷ [])) ∷ [])
-    (yes ∷ yes ∷ [])
+    (passes ∷ passes ∷ [])
     (ask (gainedOf 0) [] ∷ ask (lostOf 0) [] ∷ ask (rowsOf 0) [] ∷ ask workedIs ([] ∷ []) ∷ [])
     -- "remove then put of a present row likewise", beside a removal that acts
     ∷ case
     networkS
     ((put 0 (7 ∷ []) ++ put 0 (8 ∷ [])) ∷ (remove 0 (8 ∷ []) ++ remove 0 (7 ∷ []) ++ put 0 (7 ∷ [])) ∷ [])
-    (yes ∷ yes ∷ yes ∷ [])
+    (passes ∷ passes ∷ passes ∷ [])
     (ask (gainedOf 0) [] ∷ ask (lostOf 0) ((8 ∷ []) ∷ []) ∷ ask (rowsOf 0) ((7 ∷ []) ∷ []) ∷ [])
     ∷ case
     networkS
     (put 0 (7 ∷ []) ∷ (remove 0 (7 ∷ []) ++ put 0 (7 ∷ [])) ∷ [])
-    (yes ∷ yes ∷ yes ∷ [])
+    (passes ∷ passes ∷ passes ∷ [])
     (ask (gainedOf 0) [] ∷ ask (lostOf 0) [] ∷ ask (rowsOf 0) ((7 ∷ []) ∷ []) ∷ ask workedIs ([] ∷ []) ∷ [])
     -- "a node without itself stays empty", while it is worked on: the node has a row
     ∷ case
     networkS
     (put 0 (7 ∷ []) ∷ [])
-    (yes ∷ yes ∷ [])
+    (passes ∷ passes ∷ [])
     (ask (rowsOf 0) ((7 ∷ []) ∷ []) ∷ ask (rowsOf 2) [] ∷ ask (gainedOf 2) [] ∷ ask workedIs ((2 ∷ 3 ∷ 4 ∷ []) ∷ []) ∷ [])
     -- "a node of one row joined with itself on the pair (0,0) gives one row"
     ∷ case
     networkS
     (put 0 (7 ∷ []) ∷ [])
-    (yes ∷ yes ∷ [])
+    (passes ∷ passes ∷ [])
     (ask (rowsOf 0) ((7 ∷ []) ∷ []) ∷ ask (rowsOf 3) ((7 ∷ []) ∷ []) ∷ ask (gainedOf 3) ((7 ∷ []) ∷ []) ∷ [])
     -- "64 rows accepted, 65 refused by 14": the 64 remain
-    ∷ case networkS (puts 1 64 ∷ puts 65 1 ∷ []) (yes ∷ yes ∷ (14 ∷ 0 ∷ []) ∷ []) (ask (rowsOf 0) (map (λ x. x ∷ []) (countFrom 1 64)) ∷ [])
+    ∷ case networkS (puts 1 64 ∷ puts 65 1 ∷ []) (passes ∷ passes ∷ (14 ∷ 0 ∷ []) ∷ []) (ask (rowsOf 0) (map (λ x. x ∷ []) (countFrom 1 64)) ∷ [])
     -- "A union whose left loses a row that its right gains doesn't change": left and right do
     ∷ case
     networkS
     (put 0 (7 ∷ []) ∷ (remove 0 (7 ∷ []) ++ put 1 (7 ∷ [])) ∷ [])
-    (yes ∷ yes ∷ yes ∷ [])
+    (passes ∷ passes ∷ passes ∷ [])
     (ask (lostOf 0) ((7 ∷ []) ∷ []) ∷ ask (gainedOf 1) ((7 ∷ []) ∷ []) ∷ ask (gainedOf 4) [] ∷ ask (lostOf 4) [] ∷ ask (rowsOf 4) ((7 ∷ []) ∷ []) ∷ [])
     ∷ []
 
