@@ -11,16 +11,18 @@ use lib.Seq.{getD-take, length-take-le}
 use borrow.Author.Tests.{ltb-true, ltb-false}
 use Rattle.model.specs.Network.{Node, AllFit, nodeAt, isTable, inputsOf, build, join, project, select, setOperation, table, highest, levelOf, levels}
 use Rattle.model.specs.Areas.{Areas, batchNumber, changesIn, holding, layout, rowsIn, stampAt, stateIn, tablesOf}
-use Rattle.model.specs.Delta.{Change, changeAt, isChanged, netChange, netChanges}
+use Rattle.model.specs.Batch.{Event, actAll, foldChanges}
+use Rattle.model.specs.Delta.{Change, changeAt, isChanged, netChange, netChanges, noChange}
 use Rattle.model.specs.Row.{Relation, allOf, sameRows}
 use Rattle.model.specs.Station.{State, advance, stampOf, hasChangedInput, workedList}
 use Rattle.model.specs.Evaluation.{builtOn, evaluate, rowsAt}
 use Rattle.model.proofs.Build.{build-at, length-build, length-evaluate}
 use Rattle.model.proofs.Delta.{change-disjoint}
+use Rattle.model.proofs.Folded.{folds}
 use Rattle.model.proofs.Fits.{length-widths}
 use Rattle.model.proofs.Sets.{Ascending, and-first, and-second, ascending-holds, sameRows-eq}
 use Rattle.evaluation.specs.Derived.{evaluateOn, leftOf, rightOf}
-use Rattle.evaluation.proofs.Fresh.{fresh-derived, inputs-before}
+use Rattle.evaluation.proofs.Fresh.{fresh-derived, fresh-table, inputs-before}
 use Rattle.states.proofs.Changes.{changed-is, changes-at, changes-length, no-change, stamps-at}
 use Rattle.states.proofs.Worked.{isOn, worked-is}
 use Rattle.demand3.specs.Demand3.{Advances, changeOf, freshOf, isUntouched, rowsOf, workedOf}
@@ -249,9 +251,21 @@ module _ (nodes : List Node) (fit : AllFit nodes) (s : State) (p : Proper nodes 
     untouched : (i : ℕ) → i < length nodes → isUntouched nodes b i ≡ true → rowsAt (evaluate nodes (s .tables)) i ≡ rowsAt (evaluate nodes copy) i
     untouched i h e = kept i h (ap (λ (cs : List Change). allOf (λ t. not (isChanged (changeAt cs t))) (getD (builtOn nodes) i [])) (sym (y .changes)) ∙ e)
 
-    advances : Advances nodes a b
-    advances =
+    -- a table's change is that of the batch's events, folded
+    folds-here : (events : List Event) → copy ≡ actAll events (s .tables) → (t : ℕ) → t < length nodes → isTable (nodeAt nodes t) ≡ true →
+        changeOf nodes b t ≡ foldChanges t noChange events (tablesOf nodes (rowsIn layout nodes a))
+    folds-here events e t h own-rows =
+        let own : rowsAt (evaluate nodes (s .tables)) t ≡ rowsAt (s .tables) t = fresh-table nodes fit (s .tables) t h own-rows in
+        let asc : Ascending (rowsAt (s .tables) t) = rw own at (ascending-holds (rowsAt old t) (p .rows .asc t (rw (length-widths nodes) h))) in
+        change-after t h
+        ∙ ap₂ {A = Relation} {B = Relation} {C = Change} netChange own (fresh-table nodes fit copy t h own-rows ∙ ap (λ (l : List Relation). rowsAt l t) e)
+        ∙ sym (folds t events (s .tables) (rw (p .tables-size) h) asc)
+        ∙ ap (foldChanges t noChange events) (sym (x .tables))
+
+    advances : (events : List Event) → copy ≡ actAll events (s .tables) → Advances nodes events a b
+    advances events e =
         record {
+          folds = folds-here events e;
           share-no-row = λ i r h. rw (change-after i h) (change-disjoint r (rowsAt old i) (rowsAt new i));
           change-is = λ i h. change-after i h ∙ ap₂ {A = Relation} {B = Relation} {C = Change} netChange (sym (fresh-before i)) (sym (fresh-after i));
           rows-are = λ i h. rows-after i ∙ sym (fresh-after i);
@@ -265,7 +279,10 @@ module _ (nodes : List Node) (fit : AllFit nodes) (s : State) (p : Proper nodes 
         }
 
 -- an accepted batch, from areas with one state in their named words to areas with the next
-pub advances-held : (nodes : List Node) (fit : AllFit nodes) (s : State) (copy : List Relation) → Proper nodes s → Proper nodes (advance nodes s copy) → (x y : Areas) →
-    Advances nodes (holding layout nodes s x) (holding layout nodes (advance nodes s copy) y)
-advances-held nodes fit s copy p q x y =
-    advances nodes fit s p copy q (holding layout nodes s x) (holding layout nodes (advance nodes s copy) y) (says nodes fit s p x) (says nodes fit (advance nodes s copy) q y)
+pub advances-held : (nodes : List Node) (fit : AllFit nodes) (s : State) (events : List Event) →
+    Proper nodes s → Proper nodes (advance nodes s (actAll events (s .tables))) → (x y : Areas) →
+    Advances nodes events (holding layout nodes s x) (holding layout nodes (advance nodes s (actAll events (s .tables))) y)
+advances-held nodes fit s events p q x y =
+    let copy : List Relation = actAll events (s .tables) in
+    advances nodes fit s p copy q (holding layout nodes s x) (holding layout nodes (advance nodes s copy) y) (says nodes fit s p x)
+    (says nodes fit (advance nodes s copy) q y) events refl

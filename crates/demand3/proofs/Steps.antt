@@ -25,11 +25,11 @@ use Rattle.model.proofs.Fits.{length-widths}
 use Rattle.states.proofs.Worked.{worked-few, worked-low}
 use Rattle.states.proofs.Changes.{changes-size, gained-fits, lost-fits, stamps-length, stamps-below}
 
--- what holds of a step: a proper state, the next one if it is accepted, kept by a refusal, and never reason 8
-pub record Sound (nodes : List Node) (s : State) (st : Step) : Type 0 where
+-- what holds of a step whose events leave these tables: a proper state, the next one if it is accepted, kept by a refusal, and never reason 8
+pub record Sound (nodes : List Node) (s : State) (copy : List Relation) (st : Step) : Type 0 where
   pub proper : Proper nodes (st .state)
   pub kept : isAccepted (st .verdict) ≡ false → st .state ≡ s
-  pub advanced : isAccepted (st .verdict) ≡ true → (copy : List Relation) × (st .state ≡ advance nodes s copy)
+  pub advanced : isAccepted (st .verdict) ≡ true → st .state ≡ advance nodes s copy
   pub high : st .verdict .number ≡ 8 → ⊥
 
 module _ (nodes : List Node) (fit : AllFit nodes) where
@@ -86,15 +86,15 @@ module _ (nodes : List Node) (fit : AllFit nodes) where
       }
 
   module _ (s : State) (p : Proper nodes s) (b : Bytes) where
-    refused-sound : (n at : ℕ) → eqb n 0 ≡ false → (n ≡ 8 → ⊥) → Sound nodes s (refusedStep (refused n at) s)
-    refused-sound n at z h = record { proper = p; kept = λ e. refl; advanced = λ e. absurd (true≢false (sym e ∙ z)); high = h }
+    refused-sound : (copy : List Relation) (n at : ℕ) → eqb n 0 ≡ false → (n ≡ 8 → ⊥) → Sound nodes s copy (refusedStep (refused n at) s)
+    refused-sound copy n at z h = record { proper = p; kept = λ e. refl; advanced = λ e. absurd (true≢false (sym e ∙ z)); high = h }
 
-    limit-sound : (copy : List Relation) → Tables nodes copy → (over : List ℕ) → overfull 0 (evaluate nodes copy) ≡ over → Sound nodes s (limit nodes s copy over)
+    limit-sound : (copy : List Relation) → Tables nodes copy → (over : List ℕ) → overfull 0 (evaluate nodes copy) ≡ over → Sound nodes s copy (limit nodes s copy over)
     unfolding limit
-    limit-sound copy t [] e = record { proper = advance-proper s copy p t e; kept = λ f. absurd (true≢false f); advanced = λ f. (copy, refl); high = λ z. absurd (omega arith) }
-    limit-sound copy t (i ∷ over) e = refused-sound 14 i refl (λ z. absurd (omega arith))
+    limit-sound copy t [] e = record { proper = advance-proper s copy p t e; kept = λ f. absurd (true≢false f); advanced = λ f. refl; high = λ z. absurd (omega arith) }
+    limit-sound copy t (i ∷ over) e = refused-sound copy 14 i refl (λ z. absurd (omega arith))
 
-    pub step-sound : Sound nodes s (step nodes s b)
+    pub step-sound : Sound nodes s (actAll (readBatch nodes b .events) (s .tables)) (step nodes s b)
     unfolding step applyEvents
     step-sound = go (eqb (s .number) lastNumber) (isAccepted (readBatch nodes b .verdict)) refl
       where
@@ -105,9 +105,9 @@ module _ (nodes : List Node) (fit : AllFit nodes) where
         tables = actAll-tables nodes (readBatch nodes b .events) (s .tables) (batch-good nodes b) (proper-tables s p)
 
         go : (t u : Bool) → isAccepted (readBatch nodes b .verdict) ≡ u →
-            Sound nodes s (cond t (refusedStep (refused 9 0) s)
+            Sound nodes s (actAll (readBatch nodes b .events) (s .tables)) (cond t (refusedStep (refused 9 0) s)
             (cond u (limit nodes s (actAll (readBatch nodes b .events) (s .tables)) (overfull 0 (evaluate nodes (actAll (readBatch nodes b .events) (s .tables)))))
             (refusedStep (readBatch nodes b .verdict) s)))
-        go true u e = refused-sound 9 0 refl (λ z. absurd (omega arith))
+        go true u e = refused-sound copy 9 0 refl (λ z. absurd (omega arith))
         go false true e = limit-sound (actAll (readBatch nodes b .events) (s .tables)) tables (overfull 0 (evaluate nodes (actAll (readBatch nodes b .events) (s .tables)))) refl
         go false false e = record { proper = p; kept = λ f. refl; advanced = λ f. absurd (true≢false (sym f ∙ e)); high = batch-high nodes b }

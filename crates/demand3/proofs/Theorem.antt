@@ -10,6 +10,7 @@ use borrow.Author.Tests.{eq-eqb, ne-eqb}
 use Rattle.model.specs.Record.{Bytes, Verdict, accepted, isAccepted}
 use Rattle.model.specs.Row.{Relation}
 use Rattle.model.specs.Network.{Node, AllFit, nodesIn, readNetwork, within}
+use Rattle.model.specs.Batch.{actAll}
 use Rattle.model.specs.Evaluation.{evaluate}
 use Rattle.model.specs.Station.{Call, State, advance, apply, opened, stateAfter, step, stepOf, verdicts}
 use Rattle.model.specs.Areas.{Areas, HoldsState, cleared, coherent, goodForm, holding, layout, longEnough, rowsIn, sameRelations, stateIn, tablesOf}
@@ -18,7 +19,7 @@ use Rattle.model.proofs.Fits.{read-fits, read-small}
 use Rattle.model.proofs.Sets.{and-both, and-first}
 use Rattle.evaluation.proofs.Fresh.{same-refl}
 use Rattle.demand3.specs.Runs.{Meets, Runs, endOf, neverEight}
-use Rattle.demand3.specs.Demand3.{Advances, Answers, Demand3, Stands, Throughout}
+use Rattle.demand3.specs.Demand3.{Advances, Answers, eventsOf, Demand3, Stands, Throughout}
 use Rattle.demand3.proofs.Holds.{Proper, holding-again, holding-coherent, holding-long, holding-state, holds-state, tables-back}
 use Rattle.demand3.proofs.Steps.{Sound, step-sound}
 use Rattle.demand3.proofs.Opening.{cleared-holds, opened-proper}
@@ -32,7 +33,7 @@ pub record Held (nodes : List Node) (s : State) (before a : Areas) : Type 0 wher
   pub proper : Proper nodes s
 
 -- a step keeps the state proper; an accepted one advances it, a refusal keeps it
-call-sound : (nodes : List Node) (fit : AllFit nodes) (s : State) (p : Proper nodes s) (c : Call) → Sound nodes s (stepOf nodes s c)
+call-sound : (nodes : List Node) (fit : AllFit nodes) (s : State) (p : Proper nodes s) (c : Call) → Sound nodes s (actAll (eventsOf nodes c) (s .tables)) (stepOf nodes s c)
 unfolding stepOf
 call-sound nodes fit s p (apply b) = step-sound nodes fit s p b
 
@@ -79,7 +80,7 @@ module _ (net : Bytes) (accepts : readNetwork net .verdict .number ≡ 0) where
         keeps e k = rw e at k
 
     module _ (c : Call) (r : Result) (m : Meets net c a r) where
-      sound : Sound (nodesIn net) s (stepOf (nodesIn net) s c)
+      sound : Sound (nodesIn net) s (actAll (eventsOf (nodesIn net) c) (s .tables)) (stepOf (nodesIn net) s c)
       sound = call-sound (nodesIn net) fit s (h .proper) c
 
       verdict-is : r .verdict ≡ stepOf (nodesIn net) s c .verdict
@@ -113,13 +114,13 @@ module _ (net : Bytes) (accepts : readNetwork net .verdict .number ≡ 0) where
           ∙ sym (ap (holding layout (nodesIn net) (stepOf (nodesIn net) s c .state)) (h .is) ∙ holding-again (nodesIn net) s (stepOf (nodesIn net) s c .state) (h .proper)
           (sound .proper) before)
 
-      advances : isAccepted (r .verdict) ≡ true → Advances (nodesIn net) a (r .areas)
+      advances : isAccepted (r .verdict) ≡ true → Advances (nodesIn net) (eventsOf (nodesIn net) c) a (r .areas)
       advances e =
-          let step-is : (copy : List Relation) × (stepOf (nodesIn net) s c .state ≡ advance (nodesIn net) s copy) = sound .advanced (accepted-is true e) in
-          let proper : Proper (nodesIn net) (advance (nodesIn net) s (step-is .0)) = rw (step-is .1) at (sound .proper) in
-          let after : r .areas ≡ holding layout (nodesIn net) (advance (nodesIn net) s (step-is .0)) before = next-held .is
-          ∙ ap (λ (x : State). holding layout (nodesIn net) x before) (step-is .1) in
-          rw (h .is, after) (advances-held (nodesIn net) fit s (step-is .0) (h .proper) proper before before)
+          let next : stepOf (nodesIn net) s c .state ≡ advance (nodesIn net) s (actAll (eventsOf (nodesIn net) c) (s .tables)) = sound .advanced (accepted-is true e) in
+          let proper : Proper (nodesIn net) (advance (nodesIn net) s (actAll (eventsOf (nodesIn net) c) (s .tables))) = rw next at (sound .proper) in
+          let after : r .areas ≡ holding layout (nodesIn net) (advance (nodesIn net) s (actAll (eventsOf (nodesIn net) c) (s .tables))) before =
+          next-held .is ∙ ap (λ (x : State). holding layout (nodesIn net) x before) next in
+          rw (h .is, after) (advances-held (nodesIn net) fit s (eventsOf (nodesIn net) c) (h .proper) proper before before)
 
       answers : Answers (nodesIn net) s c a r
       answers =

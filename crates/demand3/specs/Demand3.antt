@@ -7,10 +7,11 @@ use lib.Dec.{eqb}
 use lib.ListN.{getD, length}
 use Rattle.model.specs.Row.{Row, Relation, member, allOf, someOf}
 use Rattle.model.specs.Record.{isAccepted}
-use Rattle.model.specs.Network.{Node}
+use Rattle.model.specs.Network.{Node, nodeAt, isTable}
 use Rattle.model.specs.Evaluation.{evaluate, rowsAt, builtOn}
-use Rattle.model.specs.Delta.{Change, changeAt, netChange, isChanged}
-use Rattle.model.specs.Station.{State, Call, stepOf, verdicts, stateAfter, stampOf, hasChangedInput, workedList}
+use Rattle.model.specs.Batch.{Event, readBatch, foldChanges}
+use Rattle.model.specs.Delta.{Change, changeAt, netChange, noChange, isChanged}
+use Rattle.model.specs.Station.{State, Call, apply, stepOf, verdicts, stateAfter, stampOf, hasChangedInput, workedList}
 use Rattle.model.specs.Areas.{Areas, layout, longEnough, coherent, rowsIn, changesIn, tablesOf, batchNumber, stampAt, stateIn, holding}
 use Rattle.model.specs.Areas.{HoldsState}
 use Rattle.model.specs.Calls.{Result}
@@ -40,8 +41,11 @@ isUntouched nodes a i = allOf (λ t. not (isChanged (changeOf nodes a t))) (getD
 
 -- ---- one call
 
--- an accepted batch, from the areas before it to those after it
-pub record Advances (nodes : List Node) (before after : Areas) : Type 0 where
+-- an accepted batch of some events, from the areas before it to those after it
+pub record Advances (nodes : List Node) (events : List Event) (before after : Areas) : Type 0 where
+  -- "A batch's events fold into net changes": each table's change is that of its events, folded in turn by delta-union
+  pub folds : (t : ℕ) → t < length nodes → isTable (nodeAt nodes t) ≡ true →
+      changeOf nodes after t ≡ foldChanges t noChange events (tablesOf nodes (rowsIn layout nodes before))
   -- "each node's gained and lost rows share no row"
   pub share-no-row : (i : ℕ) (r : Row) → i < length nodes →
       (member r (changeOf nodes after i .gained) && member r (changeOf nodes after i .lost)) ≡ false
@@ -64,6 +68,10 @@ pub record Advances (nodes : List Node) (before after : Areas) : Type 0 where
   pub stamp-is : (i : ℕ) → i < length nodes → stampAt (after .head) i ≡ stampOf (batchNumber (after .head)) (changeOf nodes after i)
       (stampAt (before .head) i)
 
+-- the events of a call's batch
+abbrev pub eventsOf : List Node → Call → List Event
+eventsOf nodes (apply batch) = readBatch nodes batch .events
+
 -- a call on areas that hold the plain station's state s
 pub record Answers (nodes : List Node) (s : State) (c : Call) (before : Areas) (r : Result) : Type 0 where
   -- number and place are the plain station's
@@ -75,7 +83,7 @@ pub record Answers (nodes : List Node) (s : State) (c : Call) (before : Areas) (
   -- and are coherent
   pub coherent-again : coherent layout nodes (r .areas) ≡ true
   -- an accepted batch advances them
-  pub accepted : isAccepted (r .verdict) ≡ true → Advances nodes before (r .areas)
+  pub accepted : isAccepted (r .verdict) ≡ true → Advances nodes (eventsOf nodes c) before (r .areas)
   -- "A refused batch changes no word"
   pub refused : isAccepted (r .verdict) ≡ false → r .areas ≡ before
 
