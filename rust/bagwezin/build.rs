@@ -33,7 +33,10 @@ fn staticlib(rt: &Path, root: &Path) {
 
 fn main() {
     let var = |name: &str| std::env::var(name).unwrap_or_else(|_| fail(&format!("cargo gives no {name}")));
-    let root = Path::new(&var("CARGO_MANIFEST_DIR")).join("../..");
+    let here = var("CARGO_MANIFEST_DIR");
+    let Some(root) = Path::new(&here).ancestors().nth(2) else {
+        fail(&format!("{here} is not rust/bagwezin of a repository"));
+    };
     for name in ["crates", "crates.txt"] {
         println!("cargo::rerun-if-changed={}", root.join(name).display());
     }
@@ -45,7 +48,7 @@ fn main() {
         fail("the Rattle toolchain is missing: no `rt` on the PATH. It proves the monitor and builds the static library that this crate links");
     };
     println!("cargo::rerun-if-changed={}", rt.display());
-    staticlib(&rt, &root);
+    staticlib(&rt, root);
     let out = PathBuf::from(var("OUT_DIR"));
     let library = root.join("target/staticlib/libbagwezin.a");
     if let Err(e) = std::fs::copy(&library, out.join("libbagwezin.a")) {

@@ -26,7 +26,8 @@
 //! # Ok::<(), bagwezin::Refusal>(())
 //! ```
 //!
-//! The calls keep no state, so monitors may run on different threads. A call takes less than 80 KiB of stack. [`raw`] has the calls on lent slices.
+//! The calls keep no state, so monitors may run on different threads; each call takes at most [`STACK`] bytes of stack. [`raw`] has the calls on lent
+//! slices.
 
 mod file;
 mod monitor;
@@ -47,3 +48,5 @@ pub const HEAD: usize = 162;
 pub const ANSWER: usize = 97;
 /// The most bytes of a report: 128 records of 22 bytes.
 pub const REPORT: usize = 2816;
+/// The most bytes of stack that a call of the static library takes.
+pub const STACK: usize = 77 * 1024;

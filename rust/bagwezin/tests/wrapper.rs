@@ -1,7 +1,9 @@
 //! The wrapper as its users see it, on the order's network N.
 use std::process::{Command, Output};
 
-use bagwezin::{batches, cut, read, End, Monitor, NodeShape, Refusal, Resumed, AREA, HEAD};
+use bagwezin::{
+    batches, cut, read, End, Monitor, NodeShape, Refusal, Resumed, ANSWER, AREA, HEAD, NODES, REPORT, STACK,
+};
 
 const N: &[u8] = &[
     6, 0, 1, 0, 2, 0, // node 0: table of width 2
@@ -28,6 +30,30 @@ fn first() -> Monitor {
     let mut monitor = Monitor::open(N).unwrap();
     assert_eq!(monitor.apply(&[put(0, &[5, 9]), put(0, &[5, 12])].concat()), Ok(1));
     monitor
+}
+
+/// The constants of the C header: names and values, which may be a product.
+fn header() -> Vec<(String, usize)> {
+    let constant = |line: &str| {
+        let (name, rest) = line.trim().strip_prefix("BAGWEZIN_")?.split_once(" = ")?;
+        let value = rest.split([',', '/']).next()?.split('*').map(|x| x.trim().parse::<usize>().ok());
+        Some((name.to_string(), value.product::<Option<usize>>()?))
+    };
+    include_str!("../../../include/bagwezin.h").lines().filter_map(constant).collect()
+}
+
+#[test]
+fn the_constants_are_those_of_the_header() {
+    let header = header();
+    let value = |name: &str| header.iter().find(|c| c.0 == name).unwrap_or_else(|| panic!("no {name}")).1;
+    assert_eq!((value("NODES"), value("AREA"), value("HEAD")), (NODES, AREA, HEAD));
+    assert_eq!((value("ANSWER"), value("REPORT")), (ANSWER, REPORT));
+    let stacks: Vec<usize> = header.iter().filter(|c| c.0.starts_with("STACK_")).map(|c| c.1).collect();
+    assert_eq!((stacks.len(), stacks.into_iter().max()), (5, Some(STACK)));
+    // a text for each refusal that the header names
+    let text = |number| Refusal { number, place: 0 }.text();
+    assert_eq!((value("SHORT_AREA"), value("SHORT_REPORT"), text(17)), (1, 16, "not a rule"));
+    assert!((1..=16).all(|number| text(number) != "not a rule"));
 }
 
 #[test]
