@@ -3,7 +3,7 @@
 //! `BAGWEZIN_SECONDS=60 cargo test --release -- --nocapture` runs for that long; `BAGWEZIN_SEED=7` starts from that seed.
 use std::time::{Duration, Instant};
 
-use bagwezin::{outcome, raw, ANSWER, AREA, HEAD};
+use bagwezin::{outcome, raw, Monitor, ANSWER, AREA, HEAD};
 use model::{Areas, Network, Station, Verdict};
 
 mod model;
@@ -238,6 +238,8 @@ fn damaged(r: &mut Random, bytes: &[u8], net: &Network, mut a: Areas, batch: &[u
     }
     let (good, coherent) = (a.good_form(net), a.coherent(net));
     let given = outcome(check(bytes, &a));
+    let resumed = Monitor::from_areas(bytes, &a.rows, &a.gained, &a.lost, &a.head);
+    assert_eq!(resumed.map(|r| r.coherent as u32), given);
     let mut lent = Lent::new(&a);
     let applied = verdict(raw::apply(bytes, batch, &mut lent.raw()));
     if !good {

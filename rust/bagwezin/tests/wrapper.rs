@@ -225,3 +225,65 @@ fn the_program_areas_tells_how_a_file_ends() {
     let (ran, written) = areas("number", &batch, &["x"]);
     assert!(!ran.status.success() && written.is_none());
 }
+
+/// The lines of a report.
+fn lines(report: &[u8]) -> String {
+    let (mut out, mut rest) = (String::new(), report);
+    while !rest.is_empty() {
+        let (record, more) = rest.split_at(usize::from(rest[0]));
+        out += &format!("{} {}", if record[2] == 64 { '+' } else { '-' }, record[4]);
+        for field in record[6..].chunks(4) {
+            out += &format!(" {}", u32::from_le_bytes(field.try_into().unwrap()));
+        }
+        out.push('\n');
+        rest = more;
+    }
+    out
+}
+
+/// What the station program prints on two files, through the wrapper.
+fn station(network: &[u8], file: &[u8]) -> String {
+    let refused = |number: u32, place: u32| format!("refused {number} {place}\n");
+    let mut monitor = match Monitor::open(network) {
+        Ok(monitor) => monitor,
+        Err(refusal) => return refused(refusal.number, refusal.place),
+    };
+    let (batches, end) = cut(file);
+    let mut out = String::new();
+    for batch in batches {
+        match monitor.apply(batch) {
+            Ok(number) => {
+                out += &format!("batch {number}\n");
+                (0..monitor.nodes())
+                    .filter_map(|node| monitor.report(node).ok())
+                    .for_each(|report| out += &lines(&report));
+            }
+            Err(refusal) => out += &refused(refusal.number, refusal.place),
+        }
+    }
+    match end {
+        End::Whole => out,
+        End::Unfinished => out + "unfinished\n",
+        End::Broken { offset } => out + &refused(10, offset as u32),
+    }
+}
+
+#[test]
+fn the_wrapper_gives_what_the_outside_vectors_have() {
+    let mut folders = vec![concat!(env!("CARGO_MANIFEST_DIR"), "/../../tests/data/vectors").into()];
+    let mut count = 0;
+    while let Some(folder) = folders.pop() {
+        let folder: std::path::PathBuf = folder;
+        folders.extend(std::fs::read_dir(&folder).unwrap().map(|x| x.unwrap().path()).filter(|path| path.is_dir()));
+        let read = |name: &str| std::fs::read(folder.join(name)).ok();
+        let small = |name: &str| read(name).filter(|bytes| bytes.len() <= 65_536);
+        let Some(expected) = read("stdout") else { continue };
+        let given = match (small("network.bin"), small("batch.bin")) {
+            (Some(network), Some(file)) => station(&network, &file),
+            _ => "no input\n".to_string(),
+        };
+        assert!(given.as_bytes() == expected, "{}", folder.display());
+        count += 1;
+    }
+    assert!(count >= 177, "{count} vectors");
+}
