@@ -1,1 +1,4 @@
-pub mod Printed
+pub mod Batches
+pub mod Nodes
+pub mod Steps
+pub mod Theorem

@@ -1,1 +1,2 @@
-pub mod Says
+pub mod Stages
+pub mod Runs

@@ -1,37 +1,192 @@
 // The station program: reads network.bin and batch.bin of the folder that it runs in, and prints what each batch gave.
+// What it prints comes from `program::step`; here files are opened and read, and what a step wrote is handed to the system.
 ghost use mathlib.Core.Path.{_≡_};
-ghost use Prim.Native.Nat.{ℕ, _≤_};
+ghost use mathlib.Core.Bool.{true};
+ghost use Prim.Native.Nat.{_≤_};
 ghost use lib.ListN.{length};
-ghost use Rattle.model.specs.Calls.{openCall};
+ghost use Rattle.model.specs.Areas.{layout, longEnough};
 ghost use Rattle.areas.specs.Lent.{lent};
-ghost use Rattle.program.specs.Says.{Ready};
+ghost use Rattle.station_text.specs.Lines.{nodeRoom};
+ghost use Rattle.program.specs.Stages.{files};
+ghost use Rattle.station.specs.Moves.{Told, Within};
 use areas::AREA;
 use areas::HEAD;
 use libc::STDOUT_FILENO;
+use program::Stage;
 
 // One byte more than a file may have.
 const ABOVE: usize = 65537;
 
-// A file read from the start: how many bytes it has, as far as there is room; all the room where it is missing or cannot be read.
-fn read_file(path: &[u8], bytes: &mut [u8]) -> usize
+// How often a call that moved nothing is tried again: it was interrupted, or a pipe that does not wait was full.
+const TRIES: usize = 10000000;
+
+// What a call that moves bytes came to: so many were moved; a failure that may pass; another failure.
+pub enum Outcome {
+    Moved(usize),
+    Again,
+    Failed,
+}
+
+// A file that was read: whether it could be read to its end or over the limit, and how many bytes.
+pub struct Contents {
+    found: bool,
+    size: usize,
+}
+
+// A failure, by its errno: an interrupted call and a full pipe that does not wait may pass; others get their turn first.
+fn failure() -> Outcome
+    ensures { λ r. ⌜ Within 0 r ⌝ }
+{
+    let error = os::errno();
+    if error == libc::EINTR {
+        return Outcome::Again;
+    }
+    if error == libc::EAGAIN {
+        libc::sched_yield();
+        return Outcome::Again;
+    }
+    Outcome::Failed
+}
+
+// One read.
+fn read_once(fd: i32, bytes: &mut [u8]) -> Outcome
+    ensures { λ r. ⌜ Within (length (now (bytes .entry))) r ⌝ }
+{
+    let got = libc::read(fd, bytes);
+    if got < 0 {
+        return failure();
+    }
+    Outcome::Moved(io::count(got, bytes))
+}
+
+// One write.
+fn write_once(bytes: &[u8]) -> Outcome
+    ensures { λ r. ⌜ Within (length (now (bytes .entry))) r ⌝ }
+{
+    let put = libc::write(STDOUT_FILENO, bytes);
+    if put < 0 {
+        return failure();
+    }
+    Outcome::Moved(io::count(put, bytes))
+}
+
+// Opens a file for reading: its descriptor, or a negative number.
+fn open_file(path: &[u8]) -> i32 {
+    let mut tries = TRIES;
+    while 0 < tries {
+        let fd = os::open_read(path);
+        if fd >= 0 {
+            return fd;
+        }
+        if os::errno() != libc::EINTR {
+            return fd;
+        }
+        tries -= 1;
+    }
+    -1
+}
+
+// Reads until the file ends or there is no room left. A read that fails is not the end of the file: then nothing is found.
+fn read_all(fd: i32, bytes: &mut [u8]) -> Contents
+    ensures { λ r. ⌜ r .size ≤ length (now (bytes .entry)) ⌝ }
+{
+    let mut at = 0;
+    let mut tries = TRIES;
+    while at < bytes.len() {
+        let from = at;
+        match read_once(fd, &mut bytes[from..]) {
+            Outcome::Moved(n) => {
+                if n == 0 {
+                    return Contents {
+                        found: true,
+                        size: from,
+                    };
+                }
+                at = from + n;
+            }
+            Outcome::Again => {
+                if tries == 0 {
+                    return Contents {
+                        found: false,
+                        size: 0,
+                    };
+                }
+                tries -= 1;
+            }
+            Outcome::Failed => {
+                return Contents {
+                    found: false,
+                    size: 0,
+                };
+            }
+        }
+    }
+    Contents {
+        found: true,
+        size: at,
+    }
+}
+
+// A file's bytes, as far as there is room; not found where it is missing or cannot be read.
+fn read_file(path: &[u8], bytes: &mut [u8]) -> Contents
+    ensures { λ r. ⌜ r .size ≤ length (now (bytes .entry)) ⌝ }
+{
+    let fd = open_file(path);
+    if fd < 0 {
+        return Contents {
+            found: false,
+            size: 0,
+        };
+    }
+    let read = read_all(fd, bytes);
+    libc::close(fd);
+    read
+}
+
+// Writes the bytes to standard output: how many of them the system took, all unless a write failed.
+fn write_out(bytes: &[u8]) -> usize
     ensures { λ r. ⌜ r ≤ length (now (bytes .entry)) ⌝ }
 {
-    let fd = os::open_read(path);
-    if fd < 0 {
-        return bytes.len();
+    let mut at = 0;
+    let mut tries = TRIES;
+    while at < bytes.len() {
+        let from = at;
+        match write_once(&bytes[from..]) {
+            Outcome::Moved(n) => {
+                if n == 0 {
+                    return from;
+                }
+                at = from + n;
+            }
+            Outcome::Again => {
+                if tries == 0 {
+                    return from;
+                }
+                tries -= 1;
+            }
+            Outcome::Failed => {
+                return from;
+            }
+        }
     }
-    let mut none = [0u8; 0];
-    if libc::read(fd, &mut none) < 0 {
-        libc::close(fd);
-        return bytes.len();
-    }
-    let n = io::read_full(fd, bytes);
-    libc::close(fd);
-    n
+    at
 }
 
-// Prints what each piece of the file gives, from coherent areas on.
+// One line on the error output: that a write failed, and why.
+fn complain() {
+    os::fail(b"station: the output was not written");
+}
+
+// How many bytes of the output the system took, and whether the program came to its end.
+pub struct Ran {
+    told: usize,
+    whole: bool,
+}
+
+// The steps from the beginning to the end; where a write fails it stops, and one line on the error output says so.
 fn run(
+    n: bool,
+    b: bool,
     net: &[u8],
     file: &[u8],
     rows: &mut [u32],
@@ -39,41 +194,25 @@ fn run(
     lost: &mut [u32],
     head: &mut [u32],
     out: &mut [u8],
-)
-    requires { ⌜ Ready (now net) (lent (now rows) (now gained) (now lost) (now head)) × (438304 ≤ length (now out)) ⌝ }
-    ensures { λ _. ⌜ Ready (now (net .entry)) (lent (now (rows .exit)) (now (gained .exit)) (now (lost .exit)) (now (head .exit))) ⌝ }
+) -> Ran
+    requires { ⌜ (longEnough layout (lent (now rows) (now gained) (now lost) (now head)) ≡ true) × (length (now file) ≤ 65537)
+        × (length (now out) ≡ nodeRoom) ⌝ }
+    ensures { λ r. ⌜ Told (files n b (now (net .entry)) (now (file .entry))) r ⌝ }
 {
-    let mut start = 0;
-    let mut more = true;
-    while more {
-        let said = program::next_lines(net, file, start, rows, gained, lost, head, out);
+    let mut told = 0;
+    let mut stage = Stage::Begin;
+    while !program::is_over(stage) {
+        let said = program::step(n, b, net, file, stage, rows, gained, lost, head, out);
         let size = said.size;
-        io::write_all(STDOUT_FILENO, &out[..size]);
-        start = said.next;
-        more = said.more;
+        let taken = write_out(&out[..size]);
+        told += taken;
+        if taken < size {
+            complain();
+            return Ran { told, whole: false };
+        }
+        stage = said.stage;
     }
-}
-
-// Opens the areas and prints what the network or each piece of the file gives.
-fn print_files(
-    net: &[u8],
-    file: &[u8],
-    rows: &mut [u32],
-    gained: &mut [u32],
-    lost: &mut [u32],
-    head: &mut [u32],
-    out: &mut [u8],
-)
-    requires { ⌜ 438304 ≤ length (now out) ⌝ }
-    ensures { λ _. ⌜ (openCall (now (net .entry)) (lent (now (rows .entry)) (now (gained .entry)) (now (lost .entry)) (now (head .entry))) .verdict .number ≡ 0 → Ready (now (net .entry)) (lent (now (rows .exit)) (now (gained .exit)) (now (lost .exit)) (now (head .exit)))) ⌝ }
-{
-    let opened = monitor::open(net, rows, gained, lost, head);
-    if opened.number == 0 {
-        run(net, file, rows, gained, lost, head, out);
-    } else {
-        let size = station_text::put_refused(out, opened.number, opened.place);
-        io::write_all(STDOUT_FILENO, &out[..size]);
-    }
+    Ran { told, whole: true }
 }
 
 fn main() {
@@ -84,13 +223,13 @@ fn main() {
     let mut gained = [0u32; AREA];
     let mut lost = [0u32; AREA];
     let mut head = [0u32; HEAD];
-    let n = read_file(b"network.bin", &mut net);
-    let m = read_file(b"batch.bin", &mut file);
-    if !program::has_input(n, m) {
-        io::write_all(STDOUT_FILENO, b"no input\n");
-        return;
-    }
-    print_files(
+    let first = read_file(b"network.bin", &mut net);
+    let second = read_file(b"batch.bin", &mut file);
+    let n = first.size;
+    let m = second.size;
+    run(
+        first.found,
+        second.found,
         &net[..n],
         &file[..m],
         &mut rows,

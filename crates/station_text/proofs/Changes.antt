@@ -1,33 +1,25 @@
--- Lines of changed rows, and of a batch. Assumes nothing.
+-- Lines of changed rows, and of a node. Assumes nothing.
 use Prim.Native.Nat.{ℕ, _<_, _+_, _≤_, _*_}
-use mathlib.Core.Bool.{Bool, cond, false, true}
-use mathlib.Core.List.{List, _∷_, _++_, flatMap, [], append-assoc, append-nil}
+use mathlib.Core.Bool.{Bool, cond}
+use mathlib.Core.List.{List, _∷_, _++_, flatMap, []}
 use mathlib.Core.Path.{_≡_, ap₂, _∙_, ap, sym, refl}
-use native.Mathlib.Nat.{zero-add}
-use native.Mathlib.Numerals.{add-one}
 use native.Mathlib.Omega.{arith}
 use lib.ListN.{getD, set, take, length, length-append}
-use lib.Dec.{leb}
 use lib.Seq.{sets, getD-take}
-use borrow.Author.Tests.{leb-false, leb-true}
-use Rattle.model.specs.Row.{countFrom, numbersBelow}
 use Rattle.model.specs.Delta.{Change}
-use Rattle.model.specs.Areas.{padded, fields, heldIn, layout, stateIn}
+use Rattle.model.specs.Areas.{padded, fields, heldIn, layout}
 use Rattle.model.specs.Calls.{allowsGained, allowsLost}
-use Rattle.model.specs.Text.{changeLines, line, nodeLines, batchLines, batchWord}
+use Rattle.model.specs.Text.{changeLines, line, nodeLines}
 use Rattle.model.proofs.Parts.{flat-append, flat-one, sets-more}
 use Rattle.rows.proofs.Padding.{padded-more, take-padded}
 use Rattle.rows.proofs.Words.{length-fields}
 use Rattle.rows.proofs.Place.{fields-split}
 use Rattle.network.specs.declared.Network.{Network}
-use Rattle.network.specs.Reading.{Built, networkOf, nodesOf}
-use Rattle.areas.specs.Lent.{lent}
-use Rattle.coherence.proofs.Coherent.{nodes-count}
+use Rattle.network.specs.Reading.{Built}
 use Rattle.reports.proofs.Bytes.{held-more}
-use Rattle.transition.proofs.Listing.{count-more}
 use Rattle.monitor.specs.Promises.{changeIn}
 use Rattle.monitor.proofs.Reported.{change-at}
-use Rattle.station_text.specs.Lines.{Put, PutIfRoom, watchLines, linesIn}
+use Rattle.station_text.specs.Lines.{Put, watchLines, linesIn}
 
 -- one field more of a row
 pub numbers-more : (node k : ℕ) (words : List ℕ) (from : ℕ) (numbers : List ℕ) (x : ℕ) → k < 4 → numbers ≡ padded 5 (node ∷ fields k words from) → x ≡ getD words (from + k) 0 → set numbers (k + 1) x ≡ padded 5 (node ∷ fields (k + 1) words from)
@@ -74,7 +66,7 @@ node-lines sign node change more less out first second at to r g l em el e1 e2 e
       short = omega (arith, e3, f3, fg, fl);
     }
 
--- ---- a batch
+-- ---- a node
 
 module _ (net : Network) (b : Built net) (gained lost head : List ℕ) where
   -- the lines of a node of the network
@@ -83,53 +75,3 @@ module _ (net : Network) (b : Built net) (gained lost head : List ℕ) where
   watched-is node h =
       let sign : getD (take (net .count) (net .signs)) node 0 ≡ getD (net .signs) node 0 = getD-take (net .count) (net .signs) node 0 h in
       ap₂ {A = ℕ} {B = Change} {C = List ℕ} (λ s x. watchLines s node x) (sym sign) (sym (change-at net b node gained lost head h))
-
-  -- the lines of the nodes below a number
-  pub nodesUpTo : ℕ → List ℕ
-  nodesUpTo node = flatMap (linesIn net gained lost head) (numbersBelow node)
-
-  pub nodes-none : nodesUpTo 0 ≡ []
-  unfolding nodesUpTo flatMap
-  nodes-none = refl
-
-  pub nodes-more : (node : ℕ) → nodesUpTo (node + 1) ≡ nodesUpTo node ++ linesIn net gained lost head node
-  unfolding nodesUpTo
-  nodes-more node =
-      let more : numbersBelow (node + 1) ≡ numbersBelow node ++ (node ∷ []) = ap (countFrom 0) (add-one node) ∙ count-more 0 node ∙ ap (λ (k : ℕ). numbersBelow node ++ (k ∷ [])) (zero-add node) in
-      ap (flatMap (linesIn net gained lost head)) more
-      ∙ flat-append (linesIn net gained lost head) (numbersBelow node) (node ∷ [])
-      ∙ ap (λ (l : List ℕ). flatMap (linesIn net gained lost head) (numbersBelow node) ++ l) (flat-one (linesIn net gained lost head) node)
-
-  pub nodes-all : (n : ℕ) → n ≡ net .count → nodesUpTo n ≡ flatMap (linesIn net gained lost head) (numbersBelow (net .count))
-  unfolding nodesUpTo
-  nodes-all n e = ap (λ (m : ℕ). flatMap (linesIn net gained lost head) (numbersBelow m)) e
-
-  -- the batch's line, then those of all nodes
-  pub batch-is : line batchWord (getD head 0 0 ∷ []) ++ flatMap (linesIn net gained lost head) (numbersBelow (net .count)) ≡ batchLines (networkOf net) (stateIn layout (nodesOf net) (lent [] gained lost head))
-  unfolding batchLines stateIn
-  batch-is = ap (λ (n : ℕ). line batchWord (getD head 0 0 ∷ []) ++ flatMap (linesIn net gained lost head) (numbersBelow n)) (sym (nodes-count net b))
-
--- more text, where the first ends
-pub put-more : (text more : List ℕ) (m n most at : ℕ) → m + n ≤ most → (out before after : List ℕ) (to r : ℕ) → Put text m at out before to → Put more n to before after r → Put (text ++ more) most at out after r
-put-more text more m n most at h out before after to r p q =
-    record {
-      bytes = sets-more out before after at to text more (p .bytes) (p .next) (q .bytes);
-      next = omega (arith, p .next, q .next, length-append text more);
-      short = omega (arith, p .short, q .short, h);
-    }
-
--- the same text, and a greater bound
-pub put-all : (text all : List ℕ) (m most at : ℕ) (out after : List ℕ) (r : ℕ) → Put text m at out after r → text ≡ all → m ≤ most → Put all most at out after r
-put-all text all m most at out after r p e h = record { bytes = p .bytes ∙ ap (sets out at) e; next = omega (arith, p .next, ap length e); short = omega (arith, p .short, h) }
-
--- ---- where there may be no room
-
-pub room-whole : (text : List ℕ) (most : ℕ) (before after : List ℕ) (r : ℕ) → PutIfRoom text most before after r → most ≤ length before → Put text most 0 before after r
-room-whole text most before after r p h = p .whole h
-
-pub room-short : (text : List ℕ) (most : ℕ) (before after : List ℕ) (r : ℕ) → PutIfRoom text most before after r → r ≤ most
-room-short text most before after r p = go (leb most (length before)) refl
-  where
-    go : (t : Bool) → leb most (length before) ≡ t → r ≤ most
-    go true e = let q : Put text most 0 before after r = p .whole (leb-true most (length before) e) in omega (arith, q .short)
-    go false e = omega (arith, p .nothing (leb-false most (length before) e) .1)

@@ -14,6 +14,22 @@ use Rattle.areas.specs.Lent.{lent}
 use Rattle.network.specs.declared.Network.{Network}
 use Rattle.network.specs.Reading.{networkOf, nodesOf}
 
+-- ---- the most bytes of each text
+
+-- "refused" and two numbers
+abbrev pub refusedRoom : ℕ
+refusedRoom = 50
+
+-- "batch" and a number
+abbrev pub batchRoom : ℕ
+batchRoom = 27
+
+-- a node's lines: 64 gained rows and 64 lost ones, each a sign and five numbers
+abbrev pub nodeRoom : ℕ
+nodeRoom = 13696
+
+-- ---- written texts
+
 -- a text is written from an offset on, no other byte changes, and the answer is where the bytes after it begin
 pub record Put (text : Bytes) (most at : ℕ) (before after : Bytes) (r : ℕ) : Type 0 where
   pub bytes : after ≡ sets before at text

@@ -1,19 +1,16 @@
 // The station program's text: where each batch of its file ends, and the lines that it prints.
 ghost use mathlib.Core.Path.{_≡_};
-ghost use mathlib.Core.Bool.{Bool, true, false, cond};
-ghost use mathlib.Core.List.{_++_, _∷_, [], flatMap};
-ghost use Prim.Native.Nat.{ℕ, _+_, _*_, _≤_, _<_};
+ghost use mathlib.Core.Bool.{false, cond};
+ghost use mathlib.Core.List.{_∷_, []};
+ghost use Prim.Native.Nat.{_+_, _*_, _≤_, _<_};
 ghost use lib.ListN.{length};
 ghost use lib.Seq.{sets};
-ghost use Rattle.model.specs.Row.{numbersBelow};
-ghost use Rattle.model.specs.Record.{isBroken};
-ghost use Rattle.model.specs.Areas.{layout, fields, heldIn, padded, stateIn};
-ghost use Rattle.model.specs.Text.{isMark, line, changeLines, batchLines, refusedLine};
-ghost use Rattle.network.specs.Reading.{Built, networkOf, nodesOf};
-ghost use Rattle.areas.specs.Lent.{lent};
+ghost use Rattle.model.specs.Areas.{layout, fields, heldIn, padded};
+ghost use Rattle.model.specs.Text.{isMark, line, batchWord, changeLines, refusedLine};
+ghost use Rattle.network.specs.Reading.{Built};
 ghost use Rattle.monitor.specs.Promises.{Changes};
 ghost use Rattle.station_text.specs.Pieces.{Next};
-ghost use Rattle.station_text.specs.Lines.{Put, PutIfRoom, linesIn, watchLines};
+ghost use Rattle.station_text.specs.Lines.{Put, PutIfRoom, batchRoom, linesIn, nodeRoom, refusedRoom, watchLines};
 use areas::GAINED;
 use areas::LOST;
 use areas::PLACE;
@@ -27,6 +24,9 @@ const MINUS: u8 = 45;
 
 // The most bytes of a refusal's line.
 const LINE: usize = 50;
+
+// The most bytes of a node's lines: 128 lines of at most 107 bytes.
+pub const NODE_ROOM: usize = 13696;
 
 // The mark's length and kind.
 const MARK_SIZE: usize = 4;
@@ -100,7 +100,8 @@ fn put_change(
     w: usize,
 ) -> usize
     requires { ⌜ (w ≤ 4) × (from + w ≤ length (now words)) × (at + 107 ≤ length (now out)) ⌝ }
-    ensures { λ r. ⌜ (now (out .exit) ≡ sets (now (out .entry)) at (line (sign ∷ []) (node ∷ fields w (now (words .entry)) from))) × (r ≡ at + length (line (sign ∷ []) (node ∷ fields w (now (words .entry)) from))) × (r ≤ at + 107) ⌝ }
+    ensures { λ r. ⌜ (now (out .exit) ≡ sets (now (out .entry)) at (line (sign ∷ []) (node ∷ fields w (now (words .entry)) from)))
+        × (r ≡ at + length (line (sign ∷ []) (node ∷ fields w (now (words .entry)) from))) × (r ≤ at + 107) ⌝ }
 {
     let numbers = change_numbers(node, words, from, w);
     lines::put_line_at(out, at, &[sign], &numbers[..w + 1])
@@ -117,7 +118,8 @@ fn put_changes(
     w: usize,
 ) -> usize
     requires { ⌜ (w ≤ 4) × (n ≤ 64) × (node < 32) × (8192 ≤ length (now area)) × (at + 107 * n ≤ length (now out)) ⌝ }
-    ensures { λ r. ⌜ (now (out .exit) ≡ sets (now (out .entry)) at (changeLines sign node (heldIn layout w n (now (area .entry)) node))) × (r ≡ at + length (changeLines sign node (heldIn layout w n (now (area .entry)) node))) × (r ≤ at + 107 * n) ⌝ }
+    ensures { λ r. ⌜ (now (out .exit) ≡ sets (now (out .entry)) at (changeLines sign node (heldIn layout w n (now (area .entry)) node)))
+        × (r ≡ at + length (changeLines sign node (heldIn layout w n (now (area .entry)) node))) × (r ≤ at + 107 * n) ⌝ }
 {
     let mut to = at;
     let mut j = 0;
@@ -140,7 +142,9 @@ fn put_allowed(
     w: usize,
 ) -> usize
     requires { ⌜ (w ≤ 4) × (n ≤ 64) × (node < 32) × (8192 ≤ length (now area)) × (at + 107 * n ≤ length (now out)) ⌝ }
-    ensures { λ r. ⌜ (now (out .exit) ≡ sets (now (out .entry)) at (cond allowed (changeLines sign node (heldIn layout w n (now (area .entry)) node)) [])) × (r ≡ at + length (cond allowed (changeLines sign node (heldIn layout w n (now (area .entry)) node)) [])) × (r ≤ at + 107 * n) ⌝ }
+    ensures { λ r. ⌜ (now (out .exit) ≡ sets (now (out .entry)) at (cond allowed (changeLines sign node
+        (heldIn layout w n (now (area .entry)) node)) [])) × (r ≡ at + length (cond allowed (changeLines sign node
+        (heldIn layout w n (now (area .entry)) node)) [])) × (r ≤ at + 107 * n) ⌝ }
 {
     if allowed {
         return put_changes(out, at, sign, node, area, n, w);
@@ -160,8 +164,11 @@ fn put_node(
     lost: &[u32],
     l: usize,
 ) -> usize
-    requires { ⌜ (w ≤ 4) × (g ≤ 64) × (l ≤ 64) × (node < 32) × (8192 ≤ length (now gained)) × (8192 ≤ length (now lost)) × (at + 13696 ≤ length (now out)) ⌝ }
-    ensures { λ r. ⌜ Put (watchLines sign node (record { gained = heldIn layout w g (now (gained .entry)) node; lost = heldIn layout w l (now (lost .entry)) node })) 13696 at (now (out .entry)) (now (out .exit)) r ⌝ }
+    requires { ⌜ (w ≤ 4) × (g ≤ 64) × (l ≤ 64) × (node < 32) × (8192 ≤ length (now gained)) × (8192 ≤ length (now lost))
+        × (at + nodeRoom ≤ length (now out)) ⌝ }
+    ensures { λ r. ⌜ Put (watchLines sign node
+        (record { gained = heldIn layout w g (now (gained .entry)) node; lost = heldIn layout w l (now (lost .entry)) node })) nodeRoom at
+        (now (out .entry)) (now (out .exit)) r ⌝ }
 {
     let more = reports::allows_gained(sign);
     let less = reports::allows_lost(sign);
@@ -170,7 +177,7 @@ fn put_node(
 }
 
 // The lines of a node of a network from an offset on: where the bytes after them begin.
-fn put_watched(
+pub fn put_watched(
     out: &mut [u8],
     at: usize,
     network: Network,
@@ -179,8 +186,10 @@ fn put_watched(
     lost: &[u32],
     head: &[u32],
 ) -> usize
-    requires { ⌜ Built network × Changes network (now gained) (now lost) (now head) × (node < network .count) × (at + 13696 ≤ length (now out)) ⌝ }
-    ensures { λ r. ⌜ Put (linesIn network (now (gained .entry)) (now (lost .entry)) (now (head .entry)) node) 13696 at (now (out .entry)) (now (out .exit)) r ⌝ }
+    requires { ⌜ Built network × Changes network (now gained) (now lost) (now head) × (node < network .count)
+        × (at + nodeRoom ≤ length (now out)) ⌝ }
+    ensures { λ r. ⌜ Put (linesIn network (now (gained .entry)) (now (lost .entry)) (now (head .entry)) node) nodeRoom at
+        (now (out .entry)) (now (out .exit)) r ⌝ }
 {
     let sign = network.signs[node];
     let w = network.widths[node];
@@ -189,45 +198,17 @@ fn put_watched(
     put_node(out, at, sign, node, w, gained, g, lost, l)
 }
 
-// The lines of a network's nodes, ascending, from an offset on: where the bytes after them begin.
-fn put_nodes(
-    out: &mut [u8],
-    at: usize,
-    network: Network,
-    gained: &[u32],
-    lost: &[u32],
-    head: &[u32],
-) -> usize
-    requires { ⌜ Built network × Changes network (now gained) (now lost) (now head) × (at + 438272 ≤ length (now out)) ⌝ }
-    ensures { λ r. ⌜ Put (flatMap (linesIn network (now (gained .entry)) (now (lost .entry)) (now (head .entry))) (numbersBelow (network .count))) 438272 at (now (out .entry)) (now (out .exit)) r ⌝ }
+// The line of an accepted batch's number from the first byte on: its length.
+pub fn put_batch(out: &mut [u8], number: usize) -> usize
+    requires { ⌜ batchRoom ≤ length (now out) ⌝ }
+    ensures { λ r. ⌜ Put (line batchWord (number ∷ [])) batchRoom 0 (now (out .entry)) (now (out .exit)) r ⌝ }
 {
-    let mut to = at;
-    let mut node = 0;
-    while node < network.count {
-        to = put_watched(out, to, network, node, gained, lost, head);
-        node += 1;
-    }
-    to
-}
-
-// The lines of an accepted batch from the first byte on: their length.
-pub fn put_batch(
-    out: &mut [u8],
-    network: Network,
-    gained: &[u32],
-    lost: &[u32],
-    head: &[u32],
-) -> usize
-    requires { ⌜ Built network × Changes network (now gained) (now lost) (now head) × (438304 ≤ length (now out)) ⌝ }
-    ensures { λ r. ⌜ Put (batchLines (networkOf network) (stateIn layout (nodesOf network) (lent [] (now (gained .entry)) (now (lost .entry)) (now (head .entry))))) 438304 0 (now (out .entry)) (now (out .exit)) r ⌝ }
-{
-    let at = lines::put_line_at(out, 0, b"batch", &[head[0] as usize]);
-    put_nodes(out, at, network, gained, lost, head)
+    lines::put_line_at(out, 0, b"batch", &[number])
 }
 
 // The line of a refusal from the first byte on: its length. Where there is no room for the longest one nothing is written, and the answer is 0.
 pub fn put_refused(out: &mut [u8], number: usize, place: usize) -> usize
-    ensures { λ r. ⌜ PutIfRoom (refusedLine number place) 50 (now (out .entry)) (now (out .exit)) r ⌝ }
+    ensures { λ r. ⌜ PutIfRoom (refusedLine number place) refusedRoom (now (out .entry)) (now (out .exit)) r ⌝ }
 {
     if out.len() < LINE {
         return 0;

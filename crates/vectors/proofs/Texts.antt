@@ -1,119 +1,121 @@
--- Texts compared, and a file's pieces printed in turn. Assumes nothing.
-use mathlib.Core.Bool.{Bool, cond, false, true}
+-- Texts compared, and the program's steps compared with a text. Assumes nothing.
+use mathlib.Core.Bool.{Bool, false, true, true≢false}
 use mathlib.Core.List.{List, [], _∷_, _++_, append-assoc, append-nil}
 use mathlib.Core.Path.{ap, ap₂, refl, sym, _∙_, _≡_}
-use Prim.Native.Nat.{ℕ, suc, _+_, _≤_, _<_, zero-le}
+use Prim.Native.Nat.{ℕ, suc, _+_, _-_, _≤_, _<_, zero-le}
 use native.Mathlib.Omega.{arith}
 use native.Mathlib.Numerals.{add-one}
+use lib.Dec.{eqb, leb}
 use lib.ListN.{drop, getD, length, length-drop, take}
-use lib.Seq.{getD-drop, length-take-le, sets, take-add, take-all, take-at, take-suc}
-use borrow.Author.Tests.{eq-eqb, le-leb, ne-eqb}
-use Rattle.model.specs.Record.{Bytes, Verdict, isAccepted}
-use Rattle.model.specs.Network.{readNetwork}
-use Rattle.model.specs.Station.{State, opened}
+use lib.Seq.{drop-at, getD-drop, getD-take, length-take-le, take-add, take-all, take-at, take-suc}
+use borrow.Author.Tests.{eqb-false, eqb-true, leb-false, leb-true}
+use Rattle.model.specs.Row.{sameRow}
+use Rattle.model.specs.Record.{Bytes}
 use Rattle.model.specs.Areas.{Areas, layout, longEnough}
-use Rattle.model.specs.Calls.{Result, openCall, openVerdict, orElse, unless}
-use Rattle.model.specs.Text.{pieces, refusedLine, runFiles, runPieces}
-use Rattle.model.proofs.Parts.{sets-first}
-use Rattle.station_text.specs.Pieces.{piecesOn}
-use Rattle.station_text.proofs.Cut.{pieces-all}
-use Rattle.program.specs.declared.Said.{Said}
-use Rattle.program.specs.Says.{Ready, Says, firstLines, stateOf}
-use Rattle.program.proofs.Printed.{opened-ready, opened-state}
-use Rattle.demand3.proofs.Theorem.{open-accepts}
+use Rattle.model.proofs.Order.{sameRow-eq, sameRow-refl}
+use Rattle.program.specs.declared.Stage.{Stage}
+use Rattle.program.specs.declared.Stage.the-variants.{Begin}
+use Rattle.program.specs.Stages.{Files, Ready, Says, isOver, textAt}
+use Rattle.program.specs.Runs.{Turn, outputOf}
+use Rattle.program.proofs.Theorem.{output-again, outputFrom, over-output, ready-again, written}
+use Rattle.vectors.specs.Packed.{standsAt}
 
 -- ---- texts
 
--- one byte more
-pub stands-more : (text part : List ℕ) (at k : ℕ) → k < length part → at + length part ≤ length text → take k (drop at text) ≡ take k part → getD text (at + k) 0 ≡ getD part k 0 → take (k + 1) (drop at text) ≡ take (k + 1) part
-stands-more text part at k h g e f =
-    let room : k < length (drop at text) = rw length-drop (omega arith) in
-    let turn : take (suc k) (drop at text) ≡ take (suc k) part =
-    take-suc (drop at text) k 0 room
-    ∙ ap₂ {A = List ℕ} {B = ℕ} {C = List ℕ} (λ l x. l ++ (x ∷ [])) e (getD-drop at text k 0 ∙ f)
-    ∙ sym (take-suc part k 0 h) in
-    rw (add-one k) turn
+same-yes : (a b : Bytes) → a ≡ b → sameRow a b ≡ true
+same-yes a b e = rw e (sameRow-refl b)
 
-pub stands-all : (text part : List ℕ) (at k : ℕ) → k ≡ length part → take k (drop at text) ≡ take k part → take (length part) (drop at text) ≡ part
-stands-all text part at k h e = ap (λ (n : ℕ). take n (drop at text)) (sym h) ∙ e ∙ take-all k part (omega (arith, h))
+same-no : (a b : Bytes) → (a ≡ b → ⊥) → sameRow a b ≡ false
+same-no a b n = go (sameRow a b) refl
+  where
+    go : (t : Bool) → sameRow a b ≡ t → sameRow a b ≡ false
+    go true e = absurd (n (sameRow-eq a b e))
+    go false e = e
 
--- a part at the start that is as long as the text
-pub stands-same : (text part : List ℕ) → take (length part) (drop 0 text) ≡ part → length part ≡ length text → part ≡ text
-stands-same text part e h = sym e ∙ take-all (length part) text (omega (arith, h))
+module _ (text part : Bytes) (at : ℕ) where
+  -- one byte more
+  pub stands-more : (k : ℕ) → k < length part → at + length part ≤ length text → take k (drop at text) ≡ take k part → getD text (at + k) 0 ≡ getD part k 0 →
+      take (k + 1) (drop at text) ≡ take (k + 1) part
+  stands-more k h g e f =
+      let room : k < length (drop at text) = rw length-drop (omega arith) in
+      let turn : take (suc k) (drop at text) ≡ take (suc k) part =
+      take-suc (drop at text) k 0 room
+      ∙ ap₂ {A = List ℕ} {B = ℕ} {C = List ℕ} (λ l x. l ++ (x ∷ [])) e (getD-drop at text k 0 ∙ f)
+      ∙ sym (take-suc part k 0 h) in
+      rw (add-one k) turn
 
--- the bytes that were written
-pub written : (before text : List ℕ) (size : ℕ) → size ≡ length text → size ≤ length before → take size (sets before 0 text) ≡ text
-written before text size e h = ap (take size) (sets-first before text (omega (arith, e, h))) ∙ take-at text (drop (length text) before) size (sym e)
+  pub stands-all : (k : ℕ) → k ≡ length part → take k (drop at text) ≡ take k part → true ≡ standsAt text at part
+  stands-all k h e = sym (same-yes (take (length part) (drop at text)) part (ap (λ (n : ℕ). take n (drop at text)) (sym h) ∙ e ∙ take-all k part (omega (arith, h))))
 
-pub one-few : (yes : Bool) (n : ℕ) → n ≡ cond yes 1 0 → n ≤ 1
-one-few true n e = omega (arith, e)
-one-few false n e = omega (arith, e)
+  pub stands-short : length text - at < length part → false ≡ standsAt text at part
+  stands-short h =
+      let all : take (length part) (drop at text) ≡ drop at text = take-all (length part) (drop at text) (rw length-drop (omega arith)) in
+      sym (same-no (take (length part) (drop at text)) part (λ e. omega (arith, h, length-drop at text, ap length (sym all ∙ e))))
 
--- ---- pieces
+  pub stands-not : (k : ℕ) → k < length part → (getD text (at + k) 0 ≡ getD part k 0 → ⊥) → false ≡ standsAt text at part
+  stands-not k h n =
+      sym (same-no (take (length part) (drop at text)) part (λ e. n (sym (getD-drop at text k 0) ∙ sym (getD-take (length part) (drop at text) k 0 h) ∙ ap (λ (l : List ℕ). getD l k 0) e)))
 
--- what the pieces before an offset printed stands in the text
-pub record Printing (net file text : Bytes) (a now : Areas) (start at : ℕ) (more : Bool) : Type 0 where
+-- a part that was taken is not longer than the rest
+took : (n : ℕ) (l part : Bytes) → take n l ≡ part → n ≡ length part → n ≤ length l
+took n l part e h = go (leb n (length l)) refl
+  where
+    go : (t : Bool) → leb n (length l) ≡ t → n ≤ length l
+    go true f = leb-true n (length l) f
+    go false f = omega (arith, h, ap length (sym (take-all n l (omega (arith, leb-false n (length l) f))) ∙ e))
+
+-- ---- the program's steps
+
+-- what the steps before a stage printed stands in the text, up to an offset
+pub record Printing (f : Files) (text : Bytes) (s : Stage) (a : Areas) (at : ℕ) : Type 0 where
   pub inside : at ≤ length text
-  pub output : runPieces (readNetwork net .network) (stateOf net a) (pieces file) ≡ take at text ++ cond more (runPieces (readNetwork net .network) (stateOf net now) (piecesOn file start)) []
-  pub ready : Ready net now
+  pub output : outputOf f ≡ take at text ++ outputFrom f s a
+  pub ready : Ready f s a
 
-module _ (net file text : Bytes) (a : Areas) where
-  pub print-start : Ready net a → Printing net file text a a 0 0 true
-  print-start k = record { inside = zero-le; output = ap (runPieces (readNetwork net .network) (stateOf net a)) (pieces-all file); ready = k }
+module _ (f : Files) (text : Bytes) where
+  pub print-start : (a : Areas) → longEnough layout a ≡ true → Printing f text Begin a 0
+  print-start a long = record { inside = zero-le; output = refl; ready = long }
 
-  pub print-more : (now : Areas) (start at : ℕ) → Printing net file text a now start at true → (after : Areas) (before out : Bytes) (r : Said) → Says net file start now after before out r →
-      (at + length (take (r .size) out) ≤ length text) × (take (length (take (r .size) out)) (drop at text) ≡ take (r .size) out) → Printing net file text a after (r .next) (at + r .size) (r .more)
-  print-more now start at k after before out r s q =
-      let first : Bytes = firstLines net now (piecesOn file start) in
-      let rest : Bytes = cond (r .more) (runPieces (readNetwork net .network) (stateOf net after) (piecesOn file (r .next))) [] in
-      let said : take (r .size) out ≡ firstLines net now (piecesOn file start) = ap (take (r .size)) (s .bytes) ∙ written before first (r .size) (s .size) (s .fits) in
-      let long : length (take (r .size) out) ≡ r .size = ap length said ∙ sym (s .size) in
-      let there : take (r .size) (drop at text) ≡ firstLines net now (piecesOn file start) = ap (λ (n : ℕ). take n (drop at text)) (sym long) ∙ q .1 ∙ said in
-      let both : take (at + r .size) text ≡ take at text ++ firstLines net now (piecesOn file start) = take-add at (r .size) text ∙ ap (λ (l : List ℕ). take at text ++ l) there in
-      record {
-        inside = omega (arith, q .0, long);
-        output =
-            k .output
-            ∙ ap (λ (l : List ℕ). take at text ++ l) (s .output)
-            ∙ sym (append-assoc (take at text) first rest)
-            ∙ ap (λ (l : List ℕ). l ++ rest) (sym both);
-        ready = s .ready;
-      }
+  module _ (s : Stage) (a : Areas) (at : ℕ) (k : Printing f text s a at) where
+    module _ (t : Turn) (d : Says f s a (t .areas) (t .before) (t .out) (t .said)) where
+      abbrev part : Bytes
+      part = take (t .said .size) (t .out)
 
-  pub print-done : (now : Areas) (start at : ℕ) (more : Bool) → Printing net file text a now start at more → more ≡ false → at ≡ length text → runPieces (readNetwork net .network) (stateOf net a) (pieces file) ≡ text
-  print-done now start at more k e h =
-      k .output
-      ∙ ap (λ (t : Bool). take at text ++ cond t (runPieces (readNetwork net .network) (stateOf net now) (piecesOn file start)) []) e
-      ∙ append-nil (take at text)
-      ∙ take-all at text (omega (arith, h))
+      size-is : length (take (t .said .size) (t .out)) ≡ t .said .size
+      size-is = ap length (written (textAt f s a) (t .before) (t .out) (t .said .size) (d .wrote)) ∙ sym (d .wrote .is)
 
--- ---- both files
+      output-is : outputOf f ≡ take at text ++ (take (t .said .size) (t .out) ++ outputFrom f (t .said .stage) (t .areas))
+      output-is = k .output ∙ ap (λ (l : Bytes). take at text ++ l) (output-again f s a (k .ready) t d)
 
-long-is : (a : Areas) → (8192 ≤ length (a .rows)) × (8192 ≤ length (a .gained)) × (8192 ≤ length (a .lost)) × (162 ≤ length (a .head)) → longEnough layout a ≡ true
-unfolding longEnough
-long-is a h = rw (le-leb 8192 (length (a .rows)) (h .0), le-leb 8192 (length (a .gained)) (h .1), le-leb 8192 (length (a .lost)) (h .2), le-leb 162 (length (a .head)) (h .3)) refl
+      pub print-more : standsAt text at (take (t .said .size) (t .out)) ≡ true → Printing f text (t .said .stage) (t .areas) (at + t .said .size)
+      print-more y =
+          let there : take (length part) (drop at text) ≡ take (t .said .size) (t .out) = sameRow-eq (take (length part) (drop at text)) part y in
+          let here : take (t .said .size) (drop at text) ≡ take (t .said .size) (t .out) = ap (λ (n : ℕ). take n (drop at text)) (sym size-is) ∙ there in
+          let fits : t .said .size ≤ length (drop at text) = took (t .said .size) (drop at text) part here (sym size-is) in
+          record {
+            inside = omega (arith, k .inside, fits, length-drop at text);
+            output =
+                output-is
+                ∙ sym (append-assoc (take at text) part (outputFrom f (t .said .stage) (t .areas)))
+                ∙ ap (λ (l : Bytes). l ++ outputFrom f (t .said .stage) (t .areas)) (ap (λ (l : Bytes). take at text ++ l) (sym here) ∙ sym (take-add at (t .said .size) text));
+            ready = ready-again f s a (k .ready) t d;
+          }
 
-module _ (net file : Bytes) (a : Areas) (r : Result) (e : r ≡ openCall net a) where
-  pub open-number : r .verdict .number ≡ 0 → openCall net a .verdict .number ≡ 0
-  open-number z = ap (λ (x : Result). x .verdict .number) (sym e) ∙ z
+      pub print-no : standsAt text at (take (t .said .size) (t .out)) ≡ false → false ≡ sameRow (outputOf f) text
+      print-no n =
+          sym (same-no (outputOf f) text (λ e.
+          let rest : Bytes = outputFrom f (t .said .stage) (t .areas) in
+          let after : drop at text ≡ take (t .said .size) (t .out) ++ outputFrom f (t .said .stage) (t .areas) =
+          ap (drop at) (sym e ∙ output-is) ∙ drop-at (take at text) (part ++ rest) at (length-take-le at text (k .inside)) in
+          let there : take (length part) (drop at text) ≡ take (t .said .size) (t .out) = ap (take (length part)) after ∙ take-at part rest (length part) refl in
+          absurd (true≢false (sym (same-yes (take (length part) (drop at text)) part there) ∙ n))))
 
-  pub open-ready : r .verdict .number ≡ 0 → Ready net (r .areas)
-  open-ready z = rw (ap (λ (x : Result). x .areas) e) (opened-ready net a (open-number z))
+    pub print-done : isOver s ≡ true → eqb at (length text) ≡ sameRow (outputOf f) text
+    print-done o = go (eqb at (length text)) refl
+      where
+        all : outputOf f ≡ take at text
+        all = k .output ∙ ap (λ (l : Bytes). take at text ++ l) (sym (over-output f s a o)) ∙ append-nil (take at text)
 
-  pub files-open : (text : Bytes) → r .verdict .number ≡ 0 → runPieces (readNetwork net .network) (stateOf net (r .areas)) (pieces file) ≡ text → runFiles net file ≡ text
-  unfolding runFiles
-  files-open text z h =
-      let yes : isAccepted (readNetwork net .verdict) ≡ true = eq-eqb (readNetwork net .verdict .number) 0 (open-accepts net a (open-number z) .1) in
-      let start : stateOf net (r .areas) ≡ opened (readNetwork net .network .nodes) = ap (λ (x : Result). stateOf net (x .areas)) e ∙ opened-state net a (open-number z) in
-      ap (λ (t : Bool). cond t (runPieces (readNetwork net .network) (opened (readNetwork net .network .nodes)) (pieces file)) (refusedLine (readNetwork net .verdict .number) (readNetwork net .verdict .place))) yes
-      ∙ ap (λ (s : State). runPieces (readNetwork net .network) s (pieces file)) (sym start)
-      ∙ h
-
-  pub files-refused : (text : Bytes) → (8192 ≤ length (a .rows)) × (8192 ≤ length (a .gained)) × (8192 ≤ length (a .lost)) × (162 ≤ length (a .head)) → (r .verdict .number ≡ 0 → ⊥) → refusedLine (r .verdict .number) (r .verdict .place) ≡ text → runFiles net file ≡ text
-  unfolding runFiles openCall openVerdict
-  files-refused text long n h =
-      let v : readNetwork net .verdict ≡ r .verdict = sym (ap (λ (x : Result). x .verdict) e ∙ ap (λ (t : Bool). orElse (unless t 1) (readNetwork net .verdict)) (long-is a long)) in
-      let no : isAccepted (readNetwork net .verdict) ≡ false = ap isAccepted v ∙ ne-eqb (r .verdict .number) 0 n in
-      ap (λ (t : Bool). cond t (runPieces (readNetwork net .network) (opened (readNetwork net .network .nodes)) (pieces file)) (refusedLine (readNetwork net .verdict .number) (readNetwork net .verdict .place))) no
-      ∙ ap (λ (x : Verdict). refusedLine (x .number) (x .place)) v
-      ∙ h
+        go : (t : Bool) → eqb at (length text) ≡ t → eqb at (length text) ≡ sameRow (outputOf f) text
+        go true e = e ∙ sym (same-yes (outputOf f) text (all ∙ take-all at text (omega (arith, eqb-true at (length text) e))))
+        go false e = e ∙ sym (same-no (outputOf f) text (λ q. eqb-false at (length text) e (sym (length-take-le at text (k .inside)) ∙ ap length (sym all ∙ q))))

@@ -1,16 +1,19 @@
-// Runs the packed vectors of first.bin and second.bin through the station program's functions and prints how many come out byte for byte.
+// Runs the packed vectors of first.bin and second.bin through the station program's steps and prints how many come out byte for byte.
 ghost use mathlib.Core.Path.{_≡_};
-ghost use mathlib.Core.Bool.{Bool, cond, true};
-ghost use Prim.Native.Nat.{ℕ, _+_, _≤_, _<_};
-ghost use lib.ListN.{length, take, drop};
-ghost use Rattle.model.specs.Text.{runFiles, runPieces, pieces, bytesBetween};
-ghost use Rattle.model.specs.Network.{readNetwork};
+ghost use mathlib.Core.Bool.{cond, true};
+ghost use Prim.Native.Nat.{_+_, _≤_, _<_};
+ghost use lib.ListN.{length};
+ghost use Rattle.model.specs.Row.{sameRow};
+ghost use Rattle.model.specs.Areas.{layout, longEnough};
+ghost use Rattle.model.specs.Text.{programOutput};
 ghost use Rattle.areas.specs.Lent.{lent};
-ghost use Rattle.program.specs.Says.{Ready, stateOf};
-ghost use Rattle.vectors.specs.Packed.{Inside, outputOf};
+ghost use Rattle.station_text.specs.Lines.{nodeRoom};
+ghost use Rattle.program.specs.Stages.{fileOf};
+ghost use Rattle.vectors.specs.Packed.{Counted, Inside, comesOut, packedSize, standsAt, vectorAt};
 use areas::AREA;
 use areas::HEAD;
 use libc::STDOUT_FILENO;
+use program::Stage;
 
 // The most bytes of a packed file.
 const PACKED: usize = 409600;
@@ -30,7 +33,7 @@ pub struct Vector {
 
 // How many bytes of a file are packed: none of one that is missing or too long.
 fn packed_size(size: usize) -> usize
-    ensures { λ r. ⌜ r ≤ 65536 ⌝ }
+    ensures { λ r. ⌜ (r ≡ packedSize size) × (r ≤ 65536) ⌝ }
 {
     if MAX_FILE < size {
         return 0;
@@ -41,7 +44,7 @@ fn packed_size(size: usize) -> usize
 // The vector at an offset: three sizes of 4 bytes, then the bytes. Past the end of the packed bytes one with nothing in it.
 fn vector_at(packed: &[u8], at: usize) -> Vector
     requires { ⌜ (at < length (now packed)) × (length (now packed) ≤ 409600) ⌝ }
-    ensures { λ r. ⌜ Inside at (length (now (packed .entry))) r ⌝ }
+    ensures { λ r. ⌜ (r ≡ vectorAt (now (packed .entry)) at) × Inside at (length (now (packed .entry))) r ⌝ }
 {
     let end = packed.len();
     let none = Vector {
@@ -77,7 +80,7 @@ fn vector_at(packed: &[u8], at: usize) -> Vector
 // Whether a part stands in a text at an offset.
 fn stands_at(text: &[u8], at: usize, part: &[u8]) -> bool
     requires { ⌜ at ≤ length (now text) ⌝ }
-    ensures { λ r. ⌜ (r ≡ true → (at + length (now (part .entry)) ≤ length (now (text .entry))) × (take (length (now (part .entry))) (drop at (now (text .entry))) ≡ now (part .entry))) ⌝ }
+    ensures { λ r. ⌜ r ≡ standsAt (now (text .entry)) at (now (part .entry)) ⌝ }
 {
     let n = part.len();
     if text.len() - at < n {
@@ -93,18 +96,11 @@ fn stands_at(text: &[u8], at: usize, part: &[u8]) -> bool
     true
 }
 
-// Whether two texts are the same.
-fn is_text(text: &[u8], other: &[u8]) -> bool
-    ensures { λ r. ⌜ (r ≡ true → now (other .entry) ≡ now (text .entry)) ⌝ }
-{
-    if !stands_at(text, 0, other) {
-        return false;
-    }
-    other.len() == text.len()
-}
-
-// Whether the pieces of a file print a text, from coherent areas on: yes only where the plain station's output is that text.
-fn run_prints(
+// Whether the program prints a text, given whether the network's file (n) and that of the batches (b) are there: yes exactly where the
+// program's output for the two files is that text.
+fn prints(
+    n: bool,
+    b: bool,
     net: &[u8],
     file: &[u8],
     text: &[u8],
@@ -114,46 +110,22 @@ fn run_prints(
     head: &mut [u32],
     out: &mut [u8],
 ) -> bool
-    requires { ⌜ Ready (now net) (lent (now rows) (now gained) (now lost) (now head)) × (438304 ≤ length (now out)) ⌝ }
-    ensures { λ r. ⌜ (r ≡ true → runPieces (readNetwork (now (net .entry)) .network) (stateOf (now (net .entry)) (lent (now (rows .entry)) (now (gained .entry)) (now (lost .entry)) (now (head .entry)))) (pieces (now (file .entry))) ≡ now (text .entry)) ⌝ }
+    requires { ⌜ (longEnough layout (lent (now rows) (now gained) (now lost) (now head)) ≡ true) × (nodeRoom ≤ length (now out)) ⌝ }
+    ensures { λ r. ⌜ r ≡ sameRow (programOutput (fileOf n (now (net .entry))) (fileOf b (now (file .entry)))) (now (text .entry)) ⌝ }
 {
     let end = text.len();
-    let mut start = 0;
     let mut at = 0;
-    let mut more = true;
-    while more {
-        let said = program::next_lines(net, file, start, rows, gained, lost, head, out);
+    let mut stage = Stage::Begin;
+    while !program::is_over(stage) {
+        let said = program::step(n, b, net, file, stage, rows, gained, lost, head, out);
         let size = said.size;
         if !stands_at(text, at, &out[..size]) {
             return false;
         }
         at += size;
-        start = said.next;
-        more = said.more;
+        stage = said.stage;
     }
     at == end
-}
-
-// Whether the program prints a text for a network and a file of batches: yes only where the plain station's output is that text.
-fn prints(
-    net: &[u8],
-    file: &[u8],
-    text: &[u8],
-    rows: &mut [u32],
-    gained: &mut [u32],
-    lost: &mut [u32],
-    head: &mut [u32],
-    out: &mut [u8],
-) -> bool
-    requires { ⌜ (8192 ≤ length (now rows)) × (8192 ≤ length (now gained)) × (8192 ≤ length (now lost)) × (162 ≤ length (now head)) × (438304 ≤ length (now out)) ⌝ }
-    ensures { λ r. ⌜ (r ≡ true → runFiles (now (net .entry)) (now (file .entry)) ≡ now (text .entry)) ⌝ }
-{
-    let opened = monitor::open(net, rows, gained, lost, head);
-    if opened.number == 0 {
-        return run_prints(net, file, text, rows, gained, lost, head, out);
-    }
-    let size = station_text::put_refused(out, opened.number, opened.place);
-    is_text(text, &out[..size])
 }
 
 // Whether a vector comes out: the program's output for its files is its text.
@@ -166,27 +138,28 @@ fn comes_out(
     head: &mut [u32],
     out: &mut [u8],
 ) -> bool
-    requires { ⌜ (v .from ≤ v .file) × (v .file ≤ v .text) × (v .text ≤ v .next) × (v .next ≤ length (now packed)) × (8192 ≤ length (now rows)) × (8192 ≤ length (now gained)) × (8192 ≤ length (now lost)) × (162 ≤ length (now head)) × (438304 ≤ length (now out)) ⌝ }
-    ensures { λ r. ⌜ (r ≡ true → outputOf (v .network) (v .batches) (bytesBetween (now (packed .entry)) (v .from) (v .file)) (bytesBetween (now (packed .entry)) (v .file) (v .text)) ≡ bytesBetween (now (packed .entry)) (v .text) (v .next)) ⌝ }
+    requires { ⌜ (v .from ≤ v .file) × (v .file ≤ v .text) × (v .text ≤ v .next) × (v .next ≤ length (now packed)) × (longEnough layout
+        (lent (now rows) (now gained) (now lost) (now head)) ≡ true) × (nodeRoom ≤ length (now out)) ⌝ }
+    ensures { λ r. ⌜ r ≡ comesOut (now (packed .entry)) v ⌝ }
 {
     let from = v.from;
     let file = v.file;
     let text = v.text;
     let next = v.next;
-    if program::has_input(v.network, v.batches) {
-        return prints(
-            &packed[from..file],
-            &packed[file..text],
-            &packed[text..next],
-            rows,
-            gained,
-            lost,
-            head,
-            out,
-        );
-    }
-    let size = lines::put_line_at(out, 0, b"no input", &[]);
-    is_text(&packed[text..next], &out[..size])
+    let n = v.network <= MAX_FILE;
+    let b = v.batches <= MAX_FILE;
+    prints(
+        n,
+        b,
+        &packed[from..file],
+        &packed[file..text],
+        &packed[text..next],
+        rows,
+        gained,
+        lost,
+        head,
+        out,
+    )
 }
 
 // How many vectors there are, and how many come out.
@@ -214,8 +187,9 @@ fn run_vectors(
     head: &mut [u32],
     out: &mut [u8],
 ) -> Tally
-    requires { ⌜ (length (now packed) ≤ 409600) × (8192 ≤ length (now rows)) × (8192 ≤ length (now gained)) × (8192 ≤ length (now lost)) × (162 ≤ length (now head)) × (438304 ≤ length (now out)) ⌝ }
-    ensures { λ r. ⌜ (r .good ≤ r .all) × (r .all ≤ length (now (packed .entry))) ⌝ }
+    requires { ⌜ (length (now packed) ≤ 409600) × (longEnough layout (lent (now rows) (now gained) (now lost) (now head)) ≡ true)
+        × (nodeRoom ≤ length (now out)) ⌝ }
+    ensures { λ r. ⌜ Counted (now (packed .entry)) r ⌝ }
 {
     let mut all = 0;
     let mut good = 0;
@@ -238,7 +212,7 @@ fn run_file(
     head: &mut [u32],
     out: &mut [u8],
 ) -> Tally
-    requires { ⌜ (8192 ≤ length (now rows)) × (8192 ≤ length (now gained)) × (8192 ≤ length (now lost)) × (162 ≤ length (now head)) × (438304 ≤ length (now out)) ⌝ }
+    requires { ⌜ (longEnough layout (lent (now rows) (now gained) (now lost) (now head)) ≡ true) × (nodeRoom ≤ length (now out)) ⌝ }
     ensures { λ r. ⌜ (r .good ≤ r .all) × (r .all ≤ 409600) ⌝ }
 {
     let mut packed = [0u8; PACKED];

@@ -3,6 +3,7 @@ use Rattle.vectors.proofs.main.Statement.{statement}
 use native.Mathlib.Omega.{arith}
 use mathlib.Core.Path.{sym}
 use lib.Seq.{length-take-le}
+use Rattle.program.proofs.Steps.{long-is}
 use Rattle.vectors.proofs.main.Tie as tie
 use Rattle.vectors.proofs.main.Reads as reads
 use Rattle.vectors.proofs.main.Lts as lts
@@ -30,7 +31,7 @@ slice-aggregate-run-file-6 : tie.Need-slice-aggregate-run-file-6
 slice-aggregate-run-file-6 c = search needs
 
 run-file-requires : tie.Need-run-file-requires
-run-file-requires c κs = (omega arith, omega arith, omega arith, omega arith, omega arith)
+run-file-requires c κs = (long-is _ _ _ _ (omega arith) (omega arith) (omega arith) (omega arith), omega arith)
 
 slice-aggregate-run-file-7 : tie.Need-slice-aggregate-run-file-7
 slice-aggregate-run-file-7 c = search needs
@@ -51,7 +52,7 @@ slice-aggregate-run-file-12 : tie.Need-slice-aggregate-run-file-12
 slice-aggregate-run-file-12 c = search needs
 
 run-file-requires-2 : tie.Need-run-file-requires-2
-run-file-requires-2 c κs = (omega arith, omega arith, omega arith, omega arith, omega arith)
+run-file-requires-2 c κs = (long-is _ _ _ _ (omega arith) (omega arith) (omega arith) (omega arith), omega arith)
 
 buffer-requires : tie.Need-buffer-requires
 buffer-requires c κs = search needs

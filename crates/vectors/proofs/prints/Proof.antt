@@ -1,92 +1,111 @@
 use borrow.Author.Needs.{needs}
-use Rattle.vectors.proofs.prints.Statement.{statement}
-use native.Mathlib.Omega.{arith}
-use mathlib.Core.Path.{sym, _∙_, ap}
+use Rattle.vectors.proofs.Texts.{Printing, print-done, print-more, print-no, print-start}
+use Rattle.program.proofs.Theorem.{falls-again}
+use Rattle.program.specs.Runs.{left}
+use Rattle.program.specs.Stages.{files}
+use borrow.Author.Tests.{not-false, not-true}
 use lib.Seq.{length-take-le}
-use lib.ListN.{length, take}
-use Rattle.model.specs.Text.{refusedLine}
-use Rattle.station_text.proofs.Changes.{room-short, room-whole}
+use lib.ListN.{length}
+use lib.Dec.{eqb}
+use Prim.Native.Nat.{ℕ}
+use mathlib.Core.Path.{ap, refl, sym, _∙_, _≡_}
 use Rattle.areas.specs.Lent.{lent}
-use Rattle.batch.specs.Applying.{resultWith}
-use Rattle.vectors.proofs.Texts.{files-open, files-refused, open-ready, written}
+use native.Mathlib.Omega.{arith}
+use Rattle.vectors.proofs.prints.Statement.{statement}
 use Rattle.vectors.proofs.prints.Tie as tie
 use Rattle.vectors.proofs.prints.Reads as reads
 use Rattle.vectors.proofs.prints.Lts as lts
-use Rattle.monitor.proofs.open.Reads as open-reads
-use Rattle.station_text.proofs.put_refused.Reads as put-refused-reads
-use Rattle.vectors.proofs.is_text.Reads as is-text-reads
-use Rattle.vectors.proofs.run_prints.Reads as run-prints-reads
 
-open-requires : tie.Need-open-requires
-open-requires c κs = search needs
+abbrev Inv-loop : tie.InvT-loop
+Inv-loop n b net file text rows₀ gained₀ lost₀ head₀ out₀ end at₀ stage₀ rows gained lost head out at stage = Printing (files n b net file) text stage (lent rows gained lost head) at × (length rows ≡ length rows₀) × (length gained ≡ length gained₀) × (length lost ≡ length lost₀) × (length head ≡ length head₀) × (length out ≡ length out₀) × (end ≡ length text)
 
-run-prints-requires : tie.Need-run-prints-requires
-run-prints-requires c κs = let a = (c .before .before .before .before .before .before .before .before .before .before .before .before .before .before .before .before .before .before .before .before .before .before .before .before .before .before .before .before .args) in (open-ready (a .net .now) (a .file .now) (lent (a .rows .now) (a .gained .now) (a .lost .now) (a .head .now)) (resultWith (c .before .before .before .before .before .before .before .before .before .before .before .before .before .before .before .«open» .result) (lent (c .before .before .before .before .before .before .before .before .before .before .before .before .before .before .before .«open» .last .1 .0) (c .before .before .before .before .before .before .before .before .before .before .before .before .before .before .before .«open» .last .1 .1 .0) (c .before .before .before .before .before .before .before .before .before .before .before .before .before .before .before .«open» .last .1 .1 .1 .0) (c .before .before .before .before .before .before .before .before .before .before .before .before .before .before .before .«open» .last .1 .1 .1 .1 .0))) (c .before .before .before .before .before .before .before .before .before .before .before .before .before .before .before .«open» .ensures) (c .before .before .before .before .before .if1 .taken), c .before .before .before .before .before .before .before .before .before .before .before .before .before .before .before .before .before .before .before .before .before .before .before .before .before .before .before .before .pre .4)
+abbrev μ-loop : tie.MeasureT-loop
+μ-loop n b net file text rows₀ gained₀ lost₀ head₀ out₀ end at₀ stage₀ rows gained lost head out at stage = left (files n b net file) stage
 
-same-length : tie.Need-same-length
-same-length c = search needs
+loop-holds : tie.Need-loop-holds Inv-loop μ-loop
+loop-holds c = let a = c .before .before .before .before .before .before .before .before .args in (print-start (files (a .n) (a .b) (a .net .now) (a .file .now)) (a .text .now) (lent (a .rows .now) (a .gained .now) (a .lost .now) (a .head .now)) (c .before .before .before .before .before .before .before .before .pre .0), refl, refl, refl, refl, refl, refl)
 
-same-length-2 : tie.Need-same-length-2
-same-length-2 c = search needs
+is-over-requires : tie.Need-is-over-requires Inv-loop μ-loop
+is-over-requires c κs = search needs
 
-same-length-3 : tie.Need-same-length-3
-same-length-3 c = search needs
+step-requires : tie.Need-step-requires Inv-loop μ-loop
+step-requires c κs = (c .before .before .before .before .before .before .before .loop .inv .0 .ready, omega (arith, c .before .before .before .before .before .before .before .loop .inv .5, c .before .before .before .before .before .before .before .before .before .before .before .before .before .before .before .before .pre .1))
 
-same-length-4 : tie.Need-same-length-4
-same-length-4 c = search needs
+slice-reshare-prefix-stands-at : tie.Need-slice-reshare-prefix-stands-at Inv-loop μ-loop
+slice-reshare-prefix-stands-at c = omega (arith, c .before .before .before .before .before .before .before .before .before .before .step .ensures .wrote .fits)
 
-same-length-5 : tie.Need-same-length-5
-same-length-5 c = search needs
+slice-aggregate-stands-at : tie.Need-slice-aggregate-stands-at Inv-loop μ-loop
+slice-aggregate-stands-at c = sym (length-take-le (c .before .before .before .before .before .before .before .before .before .before .before .step .result .size) (c .before .before .before .before .before .before .before .before .before .before .before .step .last .1 .1 .1 .1 .1 .1 .1 .1 .1 .0) (omega (arith, c .before .before .before .before .before .before .before .before .before .before .before .step .ensures .wrote .fits)))
 
-returns : tie.Need-returns
-returns c = let a = (c .before .before .before .before .before .before .before .before .before .before .before .before .before .before .before .before .before .before .before .before .before .before .before .before .before .before .before .before .before .before .before .before .before .before .before .before .before .before .before .args) in λ y. files-open (a .net .now) (a .file .now) (lent (a .rows .now) (a .gained .now) (a .lost .now) (a .head .now)) (resultWith (c .before .before .before .before .before .before .before .before .before .before .before .before .before .before .before .before .before .before .before .before .before .before .before .before .before .before .«open» .result) (lent (c .before .before .before .before .before .before .before .before .before .before .before .before .before .before .before .before .before .before .before .before .before .before .before .before .before .before .«open» .last .1 .0) (c .before .before .before .before .before .before .before .before .before .before .before .before .before .before .before .before .before .before .before .before .before .before .before .before .before .before .«open» .last .1 .1 .0) (c .before .before .before .before .before .before .before .before .before .before .before .before .before .before .before .before .before .before .before .before .before .before .before .before .before .before .«open» .last .1 .1 .1 .0) (c .before .before .before .before .before .before .before .before .before .before .before .before .before .before .before .before .before .before .before .before .before .before .before .before .before .before .«open» .last .1 .1 .1 .1 .0))) (c .before .before .before .before .before .before .before .before .before .before .before .before .before .before .before .before .before .before .before .before .before .before .before .before .before .before .«open» .ensures) (a .text .now) (c .before .before .before .before .before .before .before .before .before .before .before .before .before .before .before .before .if1 .taken) (c .before .before .before .before .before .before .before .before .before .before .run-prints .ensures y)
+stands-at-requires : tie.Need-stands-at-requires Inv-loop μ-loop
+stands-at-requires c κs = c .before .before .before .before .before .before .before .before .before .before .before .before .before .before .before .before .before .before .before .loop .inv .0 .inside
 
-put-refused-requires : tie.Need-put-refused-requires
-put-refused-requires c κs = search needs
+same-length : tie.Need-same-length Inv-loop μ-loop
+same-length c = omega (arith, c .before .before .before .before .before .before .before .before .before .before .before .before .before .before .before .before .before .before .before .before .before .loop .inv .1)
 
-slice-reshare-prefix-is-text : tie.Need-slice-reshare-prefix-is-text
-slice-reshare-prefix-is-text c = omega (arith, room-short _ 50 _ _ _ (c .before .before .put-refused .ensures), c .before .before .before .before .before .before .before .before .before .before .before .before .before .before .before .before .before .before .before .before .before .before .before .before .before .before .before .pre .4)
+same-length-2 : tie.Need-same-length-2 Inv-loop μ-loop
+same-length-2 c = omega (arith, c .before .before .before .before .before .before .before .before .before .before .before .before .before .before .before .before .before .before .before .before .before .loop .inv .2)
 
-slice-aggregate-is-text : tie.Need-slice-aggregate-is-text
-slice-aggregate-is-text c = sym (length-take-le (c .before .before .before .put-refused .result) (c .before .before .before .put-refused .last .0) (omega (arith, room-short _ 50 _ _ _ (c .before .before .before .put-refused .ensures), c .before .before .before .before .before .before .before .before .before .before .before .before .before .before .before .before .before .before .before .before .before .before .before .before .before .before .before .before .pre .4)))
+same-length-3 : tie.Need-same-length-3 Inv-loop μ-loop
+same-length-3 c = omega (arith, c .before .before .before .before .before .before .before .before .before .before .before .before .before .before .before .before .before .before .before .before .before .loop .inv .3)
 
-is-text-requires : tie.Need-is-text-requires
-is-text-requires c κs = search needs
+same-length-4 : tie.Need-same-length-4 Inv-loop μ-loop
+same-length-4 c = omega (arith, c .before .before .before .before .before .before .before .before .before .before .before .before .before .before .before .before .before .before .before .before .before .loop .inv .4)
 
-same-length-6 : tie.Need-same-length-6
-same-length-6 c = search needs
+same-length-5 : tie.Need-same-length-5 Inv-loop μ-loop
+same-length-5 c = omega (arith, c .before .before .before .before .before .before .before .before .before .before .before .before .before .before .before .before .before .before .before .before .before .loop .inv .5)
 
-same-length-7 : tie.Need-same-length-7
-same-length-7 c = search needs
+returns : tie.Need-returns Inv-loop μ-loop
+returns c = let a = c .before .before .before .before .before .before .before .before .before .before .before .before .before .before .before .before .before .before .before .before .before .before .before .before .before .before .before .before .before .before .args in print-no (files (a .n) (a .b) (a .net .now) (a .file .now)) (a .text .now) (c .before .before .before .before .before .before .before .before .before .before .before .before .before .before .before .before .before .before .before .before .before .loop .stage) (lent (c .before .before .before .before .before .before .before .before .before .before .before .before .before .before .before .before .before .before .before .before .before .loop .rows) (c .before .before .before .before .before .before .before .before .before .before .before .before .before .before .before .before .before .before .before .before .before .loop .gained) (c .before .before .before .before .before .before .before .before .before .before .before .before .before .before .before .before .before .before .before .before .before .loop .lost) (c .before .before .before .before .before .before .before .before .before .before .before .before .before .before .before .before .before .before .before .before .before .loop .head)) (c .before .before .before .before .before .before .before .before .before .before .before .before .before .before .before .before .before .before .before .before .before .loop .at) (c .before .before .before .before .before .before .before .before .before .before .before .before .before .before .before .before .before .before .before .before .before .loop .inv .0) (record { before = c .before .before .before .before .before .before .before .before .before .before .before .before .before .before .before .before .before .before .before .before .before .loop .out; out = (c .before .before .before .before .before .before .before .before .before .before .before .before .before .step .last .1 .1 .1 .1 .1 .1 .1 .1 .1 .0); areas = (lent (c .before .before .before .before .before .before .before .before .before .before .before .before .before .step .last .1 .1 .1 .1 .1 .0) (c .before .before .before .before .before .before .before .before .before .before .before .before .before .step .last .1 .1 .1 .1 .1 .1 .0) (c .before .before .before .before .before .before .before .before .before .before .before .before .before .step .last .1 .1 .1 .1 .1 .1 .1 .0) (c .before .before .before .before .before .before .before .before .before .before .before .before .before .step .last .1 .1 .1 .1 .1 .1 .1 .1 .0)); said = c .before .before .before .before .before .before .before .before .before .before .before .before .before .step .result }) (c .before .before .before .before .before .before .before .before .before .before .before .before .before .step .ensures) (sym (c .before .stands-at .ensures) ∙ not-true (c .before .stands-at .result) (c .if2 .taken))
 
-same-length-8 : tie.Need-same-length-8
-same-length-8 c = search needs
+add-at : tie.Need-add-at Inv-loop μ-loop
+add-at c = let a = c .before .before .before .before .before .before .before .before .before .before .before .before .before .before .before .before .before .before .before .before .before .before .before .before .before .before .before .before .before .before .args in omega (arith, print-more (files (a .n) (a .b) (a .net .now) (a .file .now)) (a .text .now) (c .before .before .before .before .before .before .before .before .before .before .before .before .before .before .before .before .before .before .before .before .before .loop .stage) (lent (c .before .before .before .before .before .before .before .before .before .before .before .before .before .before .before .before .before .before .before .before .before .loop .rows) (c .before .before .before .before .before .before .before .before .before .before .before .before .before .before .before .before .before .before .before .before .before .loop .gained) (c .before .before .before .before .before .before .before .before .before .before .before .before .before .before .before .before .before .before .before .before .before .loop .lost) (c .before .before .before .before .before .before .before .before .before .before .before .before .before .before .before .before .before .before .before .before .before .loop .head)) (c .before .before .before .before .before .before .before .before .before .before .before .before .before .before .before .before .before .before .before .before .before .loop .at) (c .before .before .before .before .before .before .before .before .before .before .before .before .before .before .before .before .before .before .before .before .before .loop .inv .0) (record { before = c .before .before .before .before .before .before .before .before .before .before .before .before .before .before .before .before .before .before .before .before .before .loop .out; out = (c .before .before .before .before .before .before .before .before .before .before .before .before .before .step .last .1 .1 .1 .1 .1 .1 .1 .1 .1 .0); areas = (lent (c .before .before .before .before .before .before .before .before .before .before .before .before .before .step .last .1 .1 .1 .1 .1 .0) (c .before .before .before .before .before .before .before .before .before .before .before .before .before .step .last .1 .1 .1 .1 .1 .1 .0) (c .before .before .before .before .before .before .before .before .before .before .before .before .before .step .last .1 .1 .1 .1 .1 .1 .1 .0) (c .before .before .before .before .before .before .before .before .before .before .before .before .before .step .last .1 .1 .1 .1 .1 .1 .1 .1 .0)); said = c .before .before .before .before .before .before .before .before .before .before .before .before .before .step .result }) (c .before .before .before .before .before .before .before .before .before .before .before .before .before .step .ensures) (sym (c .before .stands-at .ensures) ∙ not-false (c .before .stands-at .result) (c .if2 .left)) .inside, c .before .before .before .before .before .before .before .before .before .before .before .before .before .before .before .before .before .before .before .before .before .before .before .before .before .before .before .before .before .before .good .1 .1 .1 .1 .0 .0)
 
-same-length-9 : tie.Need-same-length-9
-same-length-9 c = search needs
+loop-less : tie.Need-loop-less Inv-loop μ-loop
+loop-less c = let a = c .before .before .before .before .before .before .before .before .before .before .before .before .before .before .before .before .before .before .before .before .before .before .before .before .before .before .before .before .before .before .args in falls-again (files (a .n) (a .b) (a .net .now) (a .file .now)) (c .before .before .before .before .before .before .before .before .before .before .before .before .before .before .before .before .before .before .before .before .before .loop .stage) (lent (c .before .before .before .before .before .before .before .before .before .before .before .before .before .before .before .before .before .before .before .before .before .loop .rows) (c .before .before .before .before .before .before .before .before .before .before .before .before .before .before .before .before .before .before .before .before .before .loop .gained) (c .before .before .before .before .before .before .before .before .before .before .before .before .before .before .before .before .before .before .before .before .before .loop .lost) (c .before .before .before .before .before .before .before .before .before .before .before .before .before .before .before .before .before .before .before .before .before .loop .head)) (c .before .before .before .before .before .before .before .before .before .before .before .before .before .before .before .before .before .before .before .before .before .loop .inv .0 .ready) (record { before = c .before .before .before .before .before .before .before .before .before .before .before .before .before .before .before .before .before .before .before .before .before .loop .out; out = (c .before .before .before .before .before .before .before .before .before .before .before .before .before .step .last .1 .1 .1 .1 .1 .1 .1 .1 .1 .0); areas = (lent (c .before .before .before .before .before .before .before .before .before .before .before .before .before .step .last .1 .1 .1 .1 .1 .0) (c .before .before .before .before .before .before .before .before .before .before .before .before .before .step .last .1 .1 .1 .1 .1 .1 .0) (c .before .before .before .before .before .before .before .before .before .before .before .before .before .step .last .1 .1 .1 .1 .1 .1 .1 .0) (c .before .before .before .before .before .before .before .before .before .before .before .before .before .step .last .1 .1 .1 .1 .1 .1 .1 .1 .0)); said = c .before .before .before .before .before .before .before .before .before .before .before .before .before .step .result }) (c .before .before .before .before .before .before .before .before .before .before .before .before .before .step .ensures) (sym (c .before .before .before .before .before .before .before .before .before .before .before .before .before .before .before .before .before .before .before .before .is-over .ensures) ∙ not-true (c .before .before .before .before .before .before .before .before .before .before .before .before .before .before .before .before .before .before .before .before .is-over .result) (c .before .before .before .before .before .before .before .before .before .before .before .before .before .before .before .before .before .before .before .if1 .taken))
 
-same-length-10 : tie.Need-same-length-10
-same-length-10 c = search needs
+loop-again : tie.Need-loop-again Inv-loop μ-loop
+loop-again c = let a = c .before .before .before .before .before .before .before .before .before .before .before .before .before .before .before .before .before .before .before .before .before .before .before .before .before .before .before .before .before .before .args in (print-more (files (a .n) (a .b) (a .net .now) (a .file .now)) (a .text .now) (c .before .before .before .before .before .before .before .before .before .before .before .before .before .before .before .before .before .before .before .before .before .loop .stage) (lent (c .before .before .before .before .before .before .before .before .before .before .before .before .before .before .before .before .before .before .before .before .before .loop .rows) (c .before .before .before .before .before .before .before .before .before .before .before .before .before .before .before .before .before .before .before .before .before .loop .gained) (c .before .before .before .before .before .before .before .before .before .before .before .before .before .before .before .before .before .before .before .before .before .loop .lost) (c .before .before .before .before .before .before .before .before .before .before .before .before .before .before .before .before .before .before .before .before .before .loop .head)) (c .before .before .before .before .before .before .before .before .before .before .before .before .before .before .before .before .before .before .before .before .before .loop .at) (c .before .before .before .before .before .before .before .before .before .before .before .before .before .before .before .before .before .before .before .before .before .loop .inv .0) (record { before = c .before .before .before .before .before .before .before .before .before .before .before .before .before .before .before .before .before .before .before .before .before .loop .out; out = (c .before .before .before .before .before .before .before .before .before .before .before .before .before .step .last .1 .1 .1 .1 .1 .1 .1 .1 .1 .0); areas = (lent (c .before .before .before .before .before .before .before .before .before .before .before .before .before .step .last .1 .1 .1 .1 .1 .0) (c .before .before .before .before .before .before .before .before .before .before .before .before .before .step .last .1 .1 .1 .1 .1 .1 .0) (c .before .before .before .before .before .before .before .before .before .before .before .before .before .step .last .1 .1 .1 .1 .1 .1 .1 .0) (c .before .before .before .before .before .before .before .before .before .before .before .before .before .step .last .1 .1 .1 .1 .1 .1 .1 .1 .0)); said = c .before .before .before .before .before .before .before .before .before .before .before .before .before .step .result }) (c .before .before .before .before .before .before .before .before .before .before .before .before .before .step .ensures) (sym (c .before .stands-at .ensures) ∙ not-false (c .before .stands-at .result) (c .if2 .left)), omega (arith, c .before .before .before .before .before .before .before .before .before .before .before .before .before .before .before .before .before .before .before .before .before .loop .inv .1), omega (arith, c .before .before .before .before .before .before .before .before .before .before .before .before .before .before .before .before .before .before .before .before .before .loop .inv .2), omega (arith, c .before .before .before .before .before .before .before .before .before .before .before .before .before .before .before .before .before .before .before .before .before .loop .inv .3), omega (arith, c .before .before .before .before .before .before .before .before .before .before .before .before .before .before .before .before .before .before .before .before .before .loop .inv .4), omega (arith, c .before .before .before .before .before .before .before .before .before .before .before .before .before .before .before .before .before .before .before .before .before .loop .inv .5), c .before .before .before .before .before .before .before .before .before .before .before .before .before .before .before .before .before .before .before .before .before .loop .inv .6)
 
-returns-2 : tie.Need-returns-2
-returns-2 c = let a = (c .before .before .before .before .before .before .before .before .before .before .before .before .before .before .before .before .before .before .before .before .before .before .before .before .before .before .before .before .before .args) in let q = room-whole (refusedLine (c .before .before .before .before .before .before .before .before .before .before .before .before .before .before .before .before .«open» .result .number) (c .before .before .before .before .before .before .before .before .before .before .before .before .before .before .before .before .«open» .result .place)) 50 (a .out .now) (c .before .before .before .before .put-refused .last .0) (c .before .before .before .before .put-refused .result) (c .before .before .before .before .put-refused .ensures) (omega (arith, c .before .before .before .before .before .before .before .before .before .before .before .before .before .before .before .before .before .before .before .before .before .before .before .before .before .before .before .before .before .pre .4)) in λ y. files-refused (a .net .now) (a .file .now) (lent (a .rows .now) (a .gained .now) (a .lost .now) (a .head .now)) (resultWith (c .before .before .before .before .before .before .before .before .before .before .before .before .before .before .before .before .«open» .result) (lent (c .before .before .before .before .before .before .before .before .before .before .before .before .before .before .before .before .«open» .last .1 .0) (c .before .before .before .before .before .before .before .before .before .before .before .before .before .before .before .before .«open» .last .1 .1 .0) (c .before .before .before .before .before .before .before .before .before .before .before .before .before .before .before .before .«open» .last .1 .1 .1 .0) (c .before .before .before .before .before .before .before .before .before .before .before .before .before .before .before .before .«open» .last .1 .1 .1 .1 .0))) (c .before .before .before .before .before .before .before .before .before .before .before .before .before .before .before .before .«open» .ensures) (a .text .now) (c .before .before .before .before .before .before .before .before .before .before .before .before .before .before .before .before .before .before .before .before .before .before .before .before .before .before .before .before .before .pre .0, c .before .before .before .before .before .before .before .before .before .before .before .before .before .before .before .before .before .before .before .before .before .before .before .before .before .before .before .before .before .pre .1, c .before .before .before .before .before .before .before .before .before .before .before .before .before .before .before .before .before .before .before .before .before .before .before .before .before .before .before .before .before .pre .2, c .before .before .before .before .before .before .before .before .before .before .before .before .before .before .before .before .before .before .before .before .before .before .before .before .before .before .before .before .before .pre .3) (c .before .before .before .before .before .before .if1 .left) (sym (ap (take (c .before .before .before .before .put-refused .result)) (q .bytes) ∙ written (a .out .now) (refusedLine (c .before .before .before .before .before .before .before .before .before .before .before .before .before .before .before .before .«open» .result .number) (c .before .before .before .before .before .before .before .before .before .before .before .before .before .before .before .before .«open» .result .place)) (c .before .before .before .before .put-refused .result) (omega (arith, q .next)) (omega (arith, room-short _ 50 _ _ _ (c .before .before .before .before .put-refused .ensures), c .before .before .before .before .before .before .before .before .before .before .before .before .before .before .before .before .before .before .before .before .before .before .before .before .before .before .before .before .before .pre .4))) ∙ c .is-text .ensures y)
+same-length-6 : tie.Need-same-length-6 Inv-loop μ-loop
+same-length-6 c = c .before .before .loop .inv .1
+
+same-length-7 : tie.Need-same-length-7 Inv-loop μ-loop
+same-length-7 c = c .before .before .loop .inv .2
+
+same-length-8 : tie.Need-same-length-8 Inv-loop μ-loop
+same-length-8 c = c .before .before .loop .inv .3
+
+same-length-9 : tie.Need-same-length-9 Inv-loop μ-loop
+same-length-9 c = c .before .before .loop .inv .4
+
+same-length-10 : tie.Need-same-length-10 Inv-loop μ-loop
+same-length-10 c = c .before .before .loop .inv .5
+
+returns-2 : tie.Need-returns-2 Inv-loop μ-loop
+returns-2 c = let a = c .before .before .before .before .before .before .before .before .before .before .before .args in ap (λ (n : ℕ). eqb (c .before .before .loop .at) n) (c .before .before .loop .inv .6) ∙ print-done (files (a .n) (a .b) (a .net .now) (a .file .now)) (a .text .now) (c .before .before .loop .stage) (lent (c .before .before .loop .rows) (c .before .before .loop .gained) (c .before .before .loop .lost) (c .before .before .loop .head)) (c .before .before .loop .at) (c .before .before .loop .inv .0) (sym (c .before .is-over .ensures) ∙ not-false (c .before .is-over .result) (c .if1 .left))
 
 pub prints-spec : {M : Type 1} → statement M
 prints-spec =
     tie.close
     (tie.spec
-    open-requires
-    run-prints-requires
+    Inv-loop
+    μ-loop
+    loop-holds
+    is-over-requires
+    step-requires
+    slice-reshare-prefix-stands-at
+    slice-aggregate-stands-at
+    stands-at-requires
     same-length
     same-length-2
     same-length-3
     same-length-4
     same-length-5
     returns
-    put-refused-requires
-    slice-reshare-prefix-is-text
-    slice-aggregate-is-text
-    is-text-requires
+    add-at
+    loop-less
+    loop-again
     same-length-6
     same-length-7
     same-length-8

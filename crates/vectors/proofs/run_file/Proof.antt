@@ -1,14 +1,10 @@
 use borrow.Author.Needs.{needs}
-use Rattle.vectors.proofs.run_file.Statement.{statement}
-use native.Mathlib.Omega.{arith}
-use lib.ListN.{length}
 use lib.Seq.{length-take-le}
+use native.Mathlib.Omega.{arith}
+use Rattle.vectors.proofs.run_file.Statement.{statement}
 use Rattle.vectors.proofs.run_file.Tie as tie
 use Rattle.vectors.proofs.run_file.Reads as reads
 use Rattle.vectors.proofs.run_file.Lts as lts
-use Rattle.io.proofs.read_full.Reads as read-full-reads
-use Rattle.os.proofs.open_read.Reads as open-read-reads
-use Rattle.vectors.proofs.run_vectors.Reads as run-vectors-reads
 
 open-read-requires : tie.Need-open-read-requires
 open-read-requires c κs = search needs
@@ -26,7 +22,7 @@ slice-aggregate-run-vectors : tie.Need-slice-aggregate-run-vectors
 slice-aggregate-run-vectors c = search needs
 
 run-vectors-requires : tie.Need-run-vectors-requires
-run-vectors-requires c κs = (omega (arith, length-take-le (c .before .before .before .before .before .before .before .read-full .result) (c .before .before .before .before .before .before .before .read-full .last .1 .0) (omega (arith, c .before .before .before .before .before .before .before .read-full .ensures .0)), c .before .before .before .before .before .before .before .read-full .ensures .0), c .before .before .before .before .before .before .before .before .before .before .before .before .before .before .before .before .pre .0, c .before .before .before .before .before .before .before .before .before .before .before .before .before .before .before .before .pre .1, c .before .before .before .before .before .before .before .before .before .before .before .before .before .before .before .before .pre .2, c .before .before .before .before .before .before .before .before .before .before .before .before .before .before .before .before .pre .3, c .before .before .before .before .before .before .before .before .before .before .before .before .before .before .before .before .pre .4)
+run-vectors-requires c κs = (omega (arith, length-take-le (c .before .before .before .before .before .before .before .read-full .result) (c .before .before .before .before .before .before .before .read-full .last .1 .0) (omega (arith, c .before .before .before .before .before .before .before .read-full .ensures .0)), c .before .before .before .before .before .before .before .read-full .ensures .0), c .before .before .before .before .before .before .before .before .before .before .before .before .before .before .before .before .pre .0, c .before .before .before .before .before .before .before .before .before .before .before .before .before .before .before .before .pre .1)
 
 same-length : tie.Need-same-length
 same-length c = search needs
@@ -44,7 +40,7 @@ same-length-5 : tie.Need-same-length-5
 same-length-5 c = search needs
 
 returns : tie.Need-returns
-returns c = (c .before .before .before .before .before .before .before .before .before .before .run-vectors .ensures .0, omega (arith, c .before .before .before .before .before .before .before .before .before .before .run-vectors .ensures .1, length-take-le (c .before .before .before .before .before .before .before .before .before .before .before .before .before .before .before .before .before .before .read-full .result) (c .before .before .before .before .before .before .before .before .before .before .before .before .before .before .before .before .before .before .read-full .last .1 .0) (omega (arith, c .before .before .before .before .before .before .before .before .before .before .before .before .before .before .before .before .before .before .read-full .ensures .0)), c .before .before .before .before .before .before .before .before .before .before .before .before .before .before .before .before .before .before .read-full .ensures .0))
+returns c = (c .before .before .before .before .before .before .before .before .before .before .run-vectors .ensures .fewer, omega (arith, c .before .before .before .before .before .before .before .before .before .before .run-vectors .ensures .few, length-take-le (c .before .before .before .before .before .before .before .before .before .before .before .before .before .before .before .before .before .before .read-full .result) (c .before .before .before .before .before .before .before .before .before .before .before .before .before .before .before .before .before .before .read-full .last .1 .0) (omega (arith, c .before .before .before .before .before .before .before .before .before .before .before .before .before .before .before .before .before .before .read-full .ensures .0)), c .before .before .before .before .before .before .before .before .before .before .before .before .before .before .before .before .before .before .read-full .ensures .0))
 
 pub run-file-spec : {M : Type 1} → statement M
 run-file-spec =

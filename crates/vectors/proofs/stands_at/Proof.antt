@@ -1,10 +1,9 @@
 use Rattle.vectors.proofs.stands_at.Statement.{statement}
-use native.Mathlib.Omega.{arith}
-use mathlib.Core.Bool.{true≢false}
-use mathlib.Core.Path.{refl, sym, _≡_}
-use Prim.Native.Nat.{_≤_, _+_, _-_}
+use Rattle.vectors.proofs.Texts.{stands-all, stands-more, stands-not, stands-short}
 use lib.ListN.{drop, length, take}
-use Rattle.vectors.proofs.Texts.{stands-all, stands-more}
+use Prim.Native.Nat.{_≤_, _+_, _-_}
+use mathlib.Core.Path.{refl, _≡_}
+use native.Mathlib.Omega.{arith}
 use Rattle.vectors.proofs.stands_at.Tie as tie
 use Rattle.vectors.proofs.stands_at.Reads as reads
 use Rattle.vectors.proofs.stands_at.Lts as lts
@@ -19,7 +18,7 @@ sub-if1 : tie.Need-sub-if1 Inv-loop μ-loop
 sub-if1 c = omega arith
 
 returns : tie.Need-returns Inv-loop μ-loop
-returns c = λ y. absurd (true≢false (sym y))
+returns c = let a = c .before .args in stands-short (a .text .now) (a .part .now) (a .at) (c .if1 .taken)
 
 loop-holds : tie.Need-loop-holds Inv-loop μ-loop
 loop-holds c = (omega arith, refl, omega (arith, c .before .pre, c .if1 .left), refl)
@@ -34,7 +33,7 @@ shared-slice-read-if2-2 : tie.Need-shared-slice-read-if2-2 Inv-loop μ-loop
 shared-slice-read-if2-2 c = omega (arith, c .before .before .before .loop .inv .1, c .before .before .loop-test .taken)
 
 returns-2 : tie.Need-returns-2 Inv-loop μ-loop
-returns-2 c = λ y. absurd (true≢false (sym y))
+returns-2 c = let a = c .before .before .before .before .before .before .args in stands-not (a .text .now) (a .part .now) (a .at) (c .before .before .before .before .loop .k) (omega (arith, c .before .before .before .before .loop .inv .1, c .before .before .before .loop-test .taken)) (c .if2 .taken)
 
 add-k : tie.Need-add-k Inv-loop μ-loop
 add-k c = omega (arith, c .before .before .before .before .loop .inv .1, c .before .before .before .before .loop .inv .2, c .before .before .before .loop-test .taken)
@@ -43,10 +42,10 @@ loop-less : tie.Need-loop-less Inv-loop μ-loop
 loop-less c = omega (arith, c .before .before .before .loop-test .taken)
 
 loop-again : tie.Need-loop-again Inv-loop μ-loop
-loop-again c = let a = (c .before .before .before .before .before .before .args) in (omega (arith, c .before .before .before .loop-test .taken), c .before .before .before .before .loop .inv .1, c .before .before .before .before .loop .inv .2, stands-more (a .text .now) (a .part .now) (a .at) (c .before .before .before .before .loop .k) (omega (arith, c .before .before .before .before .loop .inv .1, c .before .before .before .loop-test .taken)) (c .before .before .before .before .loop .inv .2) (c .before .before .before .before .loop .inv .3) (c .if2 .left))
+loop-again c = let a = c .before .before .before .before .before .before .args in (omega (arith, c .before .before .before .loop-test .taken), c .before .before .before .before .loop .inv .1, c .before .before .before .before .loop .inv .2, stands-more (a .text .now) (a .part .now) (a .at) (c .before .before .before .before .loop .k) (omega (arith, c .before .before .before .before .loop .inv .1, c .before .before .before .loop-test .taken)) (c .before .before .before .before .loop .inv .2) (c .before .before .before .before .loop .inv .3) (c .if2 .left))
 
 returns-3 : tie.Need-returns-3 Inv-loop μ-loop
-returns-3 c = let a = (c .before .before .before .args) in λ y. (c .before .loop .inv .2, stands-all (a .text .now) (a .part .now) (a .at) (c .before .loop .k) (omega (arith, c .before .loop .inv .0, c .before .loop .inv .1, c .loop-test .left)) (c .before .loop .inv .3))
+returns-3 c = let a = c .before .before .before .args in stands-all (a .text .now) (a .part .now) (a .at) (c .before .loop .k) (omega (arith, c .before .loop .inv .0, c .before .loop .inv .1, c .loop-test .left)) (c .before .loop .inv .3)
 
 pub stands-at-spec : {M : Type 1} → statement M
 stands-at-spec =
