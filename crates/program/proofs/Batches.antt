@@ -10,6 +10,7 @@ use Rattle.model.specs.Areas.{Areas, holding, layout, longEnough, stateIn}
 use Rattle.model.specs.Calls.{Applied, Keeps, Result, applyPromise, openCall, openVerdict, orElse, resultOf, settled, unless}
 use Rattle.model.proofs.Fits.{read-fits, read-small}
 use Rattle.demand3.proofs.Holds.{holding-coherent, holding-long, holding-state}
+use Rattle.model.specs.Batch.{actAll, readBatch}
 use Rattle.demand3.proofs.Steps.{Sound, step-sound}
 use Rattle.demand3.proofs.Coherence.{state-proper}
 use Rattle.demand3.proofs.Theorem.{Held, open-accepts, opened-coherent, opened-held, settled-on}
@@ -28,7 +29,8 @@ module _ (net : Bytes) (a : Areas) (k : Opened net a) (b : Bytes) where
       keeps : applyPromise net b a ≡ settled (resultOf ns a (stepOf net a b)) → Keeps (applyPromise net b a) a r → r ≡ resultOf (readNetwork net .network .nodes) a (stepOf net a b)
       keeps e p = rw e at p
 
-  sound : Sound (readNetwork net .network .nodes) (read-fits net) (stateOf net a) (state-proper (readNetwork net .network .nodes) (read-small net) a (k .whole)) b (stepOf net a b)
+  sound : Sound (readNetwork net .network .nodes) (stateOf net a) (actAll (readBatch (readNetwork net .network .nodes) b .events) (stateOf net a .tables))
+      (stepOf net a b)
   sound = step-sound ns (read-fits net) (stateOf net a) (state-proper ns (read-small net) a (k .whole)) b
 
   areas-are : (t : Bool) → isAccepted (stepOf net a b .verdict) ≡ t → areasAfter net a b ≡ cond t (holding layout (readNetwork net .network .nodes) (stepOf net a b .state) a) a
