@@ -155,7 +155,16 @@ fn cut(
         (lent (now (rows .exit)) (now (gained .exit)) (now (lost .exit)) (now (head .exit))) (now (out .entry)) (now (out .exit)) r ⌝ }
 {
     match station_text::next_piece(file, start) {
-        Piece::Batch(end) => apply(net, &file[start..end], end + 4, rows, gained, lost, head, out),
+        Piece::Batch(end) => apply(
+            net,
+            &file[start..end],
+            end + 4,
+            rows,
+            gained,
+            lost,
+            head,
+            out,
+        ),
         Piece::Broken(at) => {
             let size = station_text::put_refused(out, 10, at);
             Said {
