@@ -9,11 +9,11 @@ use native.Mathlib.Nat.{le-of-suc-le-suc, not-suc-le-zero, max-le}
 use lib.ListN.{getD, length, length-append, length-set, replicate, set}
 use lib.Dec.{eqb, leb, ltb}
 use borrow.Author.Tests.{eq-eqb, eqb-true, leb-false, leb-true, ltb-true, ne-eqb}
-use Rattle.model.specs.Row.{Relation, isEmpty, allOf}
+use Rattle.model.specs.Row.{Relation, allOf, isEmpty, maxRows}
 use Rattle.model.specs.Record.{Bytes, Rule, SmallVerdict, Verdict, accepted, firstBroken, isAccepted, isBroken, kindAt, lengthAt}
 use Rattle.model.specs.Record.{offsets, offsetsFrom, refused, rule}
 use Rattle.model.specs.Network.{Item, Kind, Network, Node, column, constant, difference, intersection, join, project, select, setOperation}
-use Rattle.model.specs.Network.{table, union, nodeItem, watchItem, kindOf, inputsOf, isTable, build, buildOn, highest, levelOf, levels}
+use Rattle.model.specs.Network.{table, union, nodeItem, watchItem, kindOf, build, buildOn, highest, levelOf, levels}
 use Rattle.model.specs.Network.{widths, kindNumbered, isUnknown, isWatch, within, hasShape, itemAt, itemFits, watchFits, recordFault}
 use Rattle.model.specs.Network.{noNetwork, withItem, readNetwork, readRecords, refusedReading}
 use Rattle.model.specs.Batch.{Event, actAll, eventAt, eventFault, eventFits, readBatch, readEvents}
@@ -121,7 +121,7 @@ over-below i [] k rest e = absurd (none e)
   where
     none : [] ≡ k ∷ rest → ⊥
     none f = let z : _≡_ {A = ℕ} 0 1 = cc in omega arith
-over-below i (r ∷ rels) k rest e = go (ltb 64 (length r)) e (over-below (suc i) rels k rest)
+over-below i (r ∷ rels) k rest e = go (ltb maxRows (length r)) e (over-below (suc i) rels k rest)
   where
     go : (t : Bool) → cond t (i ∷ overfull (suc i) rels) (overfull (suc i) rels) ≡ k ∷ rest →
         (overfull (suc i) rels ≡ k ∷ rest → k < suc i + length rels) → k < i + suc (length rels)
@@ -368,11 +368,11 @@ highest-most ls [] m h = zero-le
 highest-most ls (i ∷ inputs) m h = max-le (h i) (highest-most ls inputs m h)
 
 level-most : (n : Node) (ls : List ℕ) (m : ℕ) → ((i : ℕ) → getD ls i 0 ≤ m) → levelOf n ls ≤ suc m
-level-most n ls m h = go (isTable n)
-  where
-    go : (t : Bool) → cond t 0 (suc (highest ls (inputsOf n))) ≤ suc m
-    go true = zero-le
-    go false = omega (arith, highest-most ls (inputsOf n) m h)
+level-most (table w) ls m h = zero-le
+level-most (select i c k o) ls m h = omega (arith, highest-most ls (i ∷ []) m h)
+level-most (project i columns) ls m h = omega (arith, highest-most ls (i ∷ []) m h)
+level-most (join l r pairs columns) ls m h = omega (arith, highest-most ls (l ∷ r ∷ []) m h)
+level-most (setOperation o l r) ls m h = omega (arith, highest-most ls (l ∷ r ∷ []) m h)
 
 -- a level is at most the number of nodes
 levels-on : (nodes : List Node) (ls : List ℕ) (m : ℕ) → ((i : ℕ) → getD ls i 0 ≤ m) → (i : ℕ) → getD (buildOn levelOf ls nodes) i 0 ≤ m + length nodes
