@@ -1,11 +1,7 @@
 // A derived node's rows from those of its inputs.
 ghost use mathlib.Core.Path.{_≡_};
-ghost use mathlib.Core.Bool.{Bool, true, false};
-ghost use Prim.Native.Nat.{ℕ, _+_, _*_, _≤_, _<_};
-ghost use lib.ListN.{length};
-ghost use Rattle.model.specs.Row.{ascending};
+ghost use mathlib.Core.Bool.{true};
 ghost use Rattle.model.specs.Evaluation.{evaluateSet};
-ghost use Rattle.rows.specs.Rows.{stride, firstRows};
 ghost use Rattle.nodes.specs.Nodes.{operationOf};
 ghost use Rattle.network.specs.Reading.{slotNode, Shaped};
 ghost use Rattle.algebra.specs.Places.{Place, Blank, relationIn, Makes};
@@ -16,18 +12,26 @@ use network::Slot;
 use nodes::Node;
 use nodes::SetOperation;
 
-// The rows of a set operation, in an empty place: how many, or that they are more than 64.
+// The width of the rows of a place, and how many there are.
+pub struct Held {
+    pub width: usize,
+    pub count: usize,
+}
+
+// The rows of a set operation on two places of one width, in an empty place: how many, or that they are more than 64.
 fn set_rows(
     operation: SetOperation,
     left: &[u32],
-    n: usize,
+    l: Held,
     right: &[u32],
-    m: usize,
+    r: Held,
     out: &mut [u32],
 ) -> Made
-    requires { ⌜ (n ≤ 64) × (m ≤ 64) × (n * stride ≤ length (now left)) × (m * stride ≤ length (now right)) × (ascending (firstRows (now right) m) ≡ true) × Blank (now out) ⌝ }
-    ensures { λ r. ⌜ ((w : ℕ) → Place w (now (left .entry)) n → Place w (now (right .entry)) m → Makes (evaluateSet (operationOf operation) (relationIn w (now (left .entry)) n) (relationIn w (now (right .entry)) m)) (now (out .exit)) r) ⌝ }
+    requires { ⌜ Place (l .width) (now left) (l .count) × Place (l .width) (now right) (r .count) × Blank (now out) ⌝ }
+    ensures { λ made. ⌜ Makes (evaluateSet (operationOf operation) (relationIn (l .width) (now (left .entry)) (l .count)) (relationIn (l .width) (now (right .entry)) (r .count))) (now (out .exit)) made ⌝ }
 {
+    let n = l.count;
+    let m = r.count;
     match operation {
         SetOperation::Union => algebra::union_rows(left, n, right, m, out),
         SetOperation::Difference => Made::Rows(algebra::difference_rows(left, n, right, m, out)),
@@ -63,12 +67,6 @@ pub fn right_of(slot: Slot) -> usize
     }
 }
 
-// The width of the rows of a place, and how many there are.
-pub struct Held {
-    pub width: usize,
-    pub count: usize,
-}
-
 // A derived node's rows from those of its inputs, in an empty place: how many, or that they are more than 64. A table's kind gives none.
 pub fn evaluate(slot: Slot, left: &[u32], l: Held, right: &[u32], r: Held, out: &mut [u32]) -> Made
     requires { ⌜ Shaped slot × Place (l .width) (now left) (l .count) × Place (r .width) (now right) (r .count) × (fitsOn (l .width) (r .width) (slotNode slot) ≡ true) × Blank (now out) ⌝ }
@@ -93,6 +91,6 @@ pub fn evaluate(slot: Slot, left: &[u32], l: Held, right: &[u32], r: Held, out: 
             };
             algebra::join_rows(left, n, right, m, how, out)
         }
-        Node::Set(operation, _, _) => set_rows(operation, left, n, right, m, out),
+        Node::Set(operation, _, _) => set_rows(operation, left, l, right, r, out),
     }
 }

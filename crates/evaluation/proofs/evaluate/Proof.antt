@@ -58,8 +58,11 @@ enum-known-node-4 c = search needs
 
 set-rows-requires : tie.Need-set-rows-requires
 set-rows-requires c κs =
-    let a = c .before .before .before .before .before .before .before .args in
-    ((place-few (a .l .width) (a .left .now) (a .l .count) (c .before .before .before .before .before .before .before .pre .1)), (place-few (a .r .width) (a .right .now) (a .r .count) (c .before .before .before .before .before .before .before .pre .2)), omega (arith, c .before .before .before .before .before .before .before .pre .1 .long, (place-few (a .l .width) (a .left .now) (a .l .count) (c .before .before .before .before .before .before .before .pre .1))), omega (arith, c .before .before .before .before .before .before .before .pre .2 .long, (place-few (a .r .width) (a .right .now) (a .r .count) (c .before .before .before .before .before .before .before .pre .2))), rows-ascend (a .r .width) (a .right .now) (a .r .count) (c .before .before .before .before .before .before .before .pre .2), c .before .before .before .before .before .before .before .pre .4)
+    let s = c .before .before .before .before .before .before .before in
+    let a = s .args in
+    let g = c .before .before .node4 .given in
+    let same = set-inside (a .l .width) (a .r .width) (g .0 .1 .0) (g .0 .1 .1 .0) (operationOf (g .0 .0)) (rw (g .1) at (s .pre .3)) in
+    (s .pre .1, rw (← same) at (s .pre .2), s .pre .4)
 
 returns : tie.Need-returns
 unfolding evaluateOn
@@ -101,9 +104,11 @@ same-length-4 c = search needs
 returns-5 : tie.Need-returns-5
 unfolding evaluateOn evaluateSet
 returns-5 c =
-    let a = c .before .before .before .before .before .before .before .before .before .before .args in
-    let same = set-inside (a .l .width) (a .r .width) (c .before .before .before .before .before .node4 .given .0 .1 .0) (c .before .before .before .before .before .node4 .given .0 .1 .1 .0) (operationOf (c .before .before .before .before .before .node4 .given .0 .0)) (rw (c .before .before .before .before .before .node4 .given .1) at (c .before .before .before .before .before .before .before .before .before .before .pre .3)) in
-    rw (c .before .before .before .before .before .node4 .given .1) (rw (← same) (c .before .before .set-rows .ensures (a .l .width) (c .before .before .before .before .before .before .before .before .before .before .pre .1) (rw (← same) at (c .before .before .before .before .before .before .before .before .before .before .pre .2))))
+    let s = c .before .before .before .before .before .before .before .before .before .before in
+    let a = s .args in
+    let g = c .before .before .before .before .before .node4 .given in
+    let same = set-inside (a .l .width) (a .r .width) (g .0 .1 .0) (g .0 .1 .1 .0) (operationOf (g .0 .0)) (rw (g .1) at (s .pre .3)) in
+    rw (g .1) (rw (← same) (c .before .before .set-rows .ensures))
 
 pub evaluate-spec : {M : Type 1} → statement M
 evaluate-spec =
