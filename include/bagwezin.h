@@ -12,7 +12,8 @@
  * range lent to that call; ranges that it only reads may overlap. C cannot check any of this, and the proofs rest on it.
  *
  * ANSWERS. Each function returns one number of 64 bits. Its upper 32 bits are 0, or the number of the refusal. Its lower 32 bits are the place of a
- * refusal; else the value: the length of a report, 1 (coherent) or 0 of the check, and 0 of the others. A refusal writes nothing.
+ * refusal; else the value: the length of a report, 1 (coherent) or 0 of the check, and 0 of the others. A refusal writes nothing. Every number is
+ * below 27, and every place and value fits 32 bits, for every input: no bit is lost. This is proved.
  *
  * AREAS. The caller lends four areas of 32-bit words: rows, gained and lost of at least BAGWEZIN_AREA words, head of at least BAGWEZIN_HEAD. Longer
  * ones will do; words past these are never read or written. Opening sets all named words to 0, whatever they were. Between calls the areas may be
