@@ -28,7 +28,9 @@ fn set_rows(
     out: &mut [u32],
 ) -> Made
     requires { ⌜ Place (l .width) (now left) (l .count) × Place (l .width) (now right) (r .count) × Blank (now out) ⌝ }
-    ensures { λ made. ⌜ Makes (evaluateSet (operationOf operation) (relationIn (l .width) (now (left .entry)) (l .count)) (relationIn (l .width) (now (right .entry)) (r .count))) (now (out .exit)) made ⌝ }
+    ensures { λ made. ⌜ Makes
+        (evaluateSet (operationOf operation) (relationIn (l .width) (now (left .entry)) (l .count)) (relationIn (l .width) (now (right .entry)) (r .count)))
+        (now (out .exit)) made ⌝ }
 {
     let n = l.count;
     let m = r.count;

@@ -42,7 +42,8 @@ fn case_at(bytes: &[u8], at: usize) -> Case
 // A line of a word and 32 numbers: its length.
 fn put_list(text: &mut [u8], word: &[u8], list: [usize; 32]) -> usize
     requires { ⌜ length (now word) + 672 < length (now text) ⌝ }
-    ensures { λ r. ⌜ (now (text .exit) ≡ sets (now (text .entry)) 0 (line (now (word .entry)) list)) × (r ≡ length (line (now (word .entry)) list)) × (r ≤ length (now (text .entry))) ⌝ }
+    ensures { λ r. ⌜ (now (text .exit) ≡ sets (now (text .entry)) 0 (line (now (word .entry)) list))
+        × (r ≡ length (line (now (word .entry)) list)) × (r ≤ length (now (text .entry))) ⌝ }
 {
     lines::put_line(text, word, &list)
 }

@@ -16,7 +16,8 @@ sub-if1 c = search needs
 returns : tie.Need-returns
 returns c =
     let a = c .before .before .args in
-    record { is = rw (lt-leb (caseIn (a .bytes .now) (a .at) .next) (length (a .bytes .now)) (omega arith)); after = omega arith; name = omega arith; net = omega arith; whole = omega arith }
+    let short = lt-leb (caseIn (a .bytes .now) (a .at) .next) (length (a .bytes .now)) (omega arith) in
+    record { is = rw short; after = omega arith; name = omega arith; net = omega arith; whole = omega arith }
 
 add-name : tie.Need-add-name
 add-name c = search needs
@@ -42,7 +43,8 @@ add-next c = omega (arith, c .before .shared-slice-known2 .given (c .before .bef
 returns-2 : tie.Need-returns-2
 returns-2 c =
     let a = c .before .before .before .before .before .args in
-    record { is = rw (lt-leb (caseIn (a .bytes .now) (a .at) .next) (length (a .bytes .now)) (omega (arith, c .before .u16-at .ensures .is))); after = omega arith; name = omega arith; net = omega arith; whole = omega arith }
+    let short = lt-leb (caseIn (a .bytes .now) (a .at) .next) (length (a .bytes .now)) (omega (arith, c .before .u16-at .ensures .is)) in
+    record { is = rw short; after = omega arith; name = omega arith; net = omega arith; whole = omega arith }
 
 returns-3 : tie.Need-returns-3
 returns-3 c =

@@ -18,7 +18,8 @@ sub-if1 c = search needs
 returns : tie.Need-returns
 returns c =
     let a = c .before .before .args in
-    record { is = rw (lt-leb (operationIn (a .bytes .now) (a .at) .next) (length (a .bytes .now)) (omega arith)); after = omega arith; text = omega arith; whole = omega arith }
+    let short = lt-leb (operationIn (a .bytes .now) (a .at) .next) (length (a .bytes .now)) (omega arith) in
+    record { is = rw short; after = omega arith; text = omega arith; whole = omega arith }
 
 add-from : tie.Need-add-from
 add-from c = search needs
@@ -35,7 +36,8 @@ add-next c = search needs
 returns-2 : tie.Need-returns-2
 returns-2 c =
     let a = c .before .before .before .before .args in
-    record { is = rw (lt-leb (operationIn (a .bytes .now) (a .at) .next) (length (a .bytes .now)) (omega (arith, c .before .u16-at .ensures .is))); after = omega arith; text = omega arith; whole = omega arith }
+    let short = lt-leb (operationIn (a .bytes .now) (a .at) .next) (length (a .bytes .now)) (omega (arith, c .before .u16-at .ensures .is)) in
+    record { is = rw short; after = omega arith; text = omega arith; whole = omega arith }
 
 shared-slice-read-t11 : tie.Need-shared-slice-read-t11
 shared-slice-read-t11 c = search needs
@@ -69,7 +71,12 @@ returns-3 c =
     let a = c .before .before .before .before .before .before .before .before .args in
     let u = c .before .before .before .before .before .u16-at in
     let fits = le-leb (operationIn (a .bytes .now) (a .at) .next) (length (a .bytes .now)) (omega (arith, c .before .before .before .before .if2 .left, u .ensures .is)) in
-    record { is = rw (fits, c .before .u16-at2 .ensures .is, c .u32-at .ensures, u .ensures .is); after = omega arith; text = omega arith; whole = omega (arith, c .before .before .before .before .if2 .left) }
+    record {
+      is = rw (fits, c .before .u16-at2 .ensures .is, c .u32-at .ensures, u .ensures .is);
+      after = omega arith;
+      text = omega arith;
+      whole = omega (arith, c .before .before .before .before .if2 .left);
+    }
 
 pub operation-at-spec : {M : Type 1} → statement M
 operation-at-spec =
