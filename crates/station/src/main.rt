@@ -1,7 +1,7 @@
 // The station program: reads network.bin and batch.bin of the folder that it runs in, and prints what each batch gave.
 // What it prints comes from `program::step`; here files are opened and read, and what a step wrote is handed to the system.
 ghost use mathlib.Core.Path.{_≡_};
-ghost use mathlib.Core.Bool.{true};
+ghost use mathlib.Core.Bool.{true, false};
 ghost use Prim.Native.Nat.{_≤_};
 ghost use lib.ListN.{length};
 ghost use Rattle.model.specs.Areas.{layout, longEnough};
@@ -70,22 +70,6 @@ fn write_once(bytes: &[u8]) -> Outcome
     Outcome::Moved(io::count(put, bytes))
 }
 
-// Opens a file for reading: its descriptor, or a negative number.
-fn open_file(path: &[u8]) -> i32 {
-    let mut tries = TRIES;
-    while 0 < tries {
-        let fd = os::open_read(path);
-        if fd >= 0 {
-            return fd;
-        }
-        if os::errno() != libc::EINTR {
-            return fd;
-        }
-        tries -= 1;
-    }
-    -1
-}
-
 // Reads until the file ends or there is no room left. A read that fails is not the end of the file: then nothing is found.
 fn read_all(fd: i32, bytes: &mut [u8]) -> Contents
     ensures { λ r. ⌜ r .size ≤ length (now (bytes .entry)) ⌝ }
@@ -127,20 +111,28 @@ fn read_all(fd: i32, bytes: &mut [u8]) -> Contents
     }
 }
 
-// A file's bytes, as far as there is room; not found where it is missing or cannot be read.
+// A file's bytes, as far as there is room; not found where it is missing or cannot be read. An open that was interrupted is tried again.
 fn read_file(path: &[u8], bytes: &mut [u8]) -> Contents
     ensures { λ r. ⌜ r .size ≤ length (now (bytes .entry)) ⌝ }
 {
-    let fd = open_file(path);
-    if fd < 0 {
-        return Contents {
-            found: false,
-            size: 0,
-        };
+    let none = Contents {
+        found: false,
+        size: 0,
+    };
+    let mut tries = TRIES;
+    while 0 < tries {
+        let fd = os::open_read(path);
+        if fd >= 0 {
+            let read = read_all(fd, bytes);
+            libc::close(fd);
+            return read;
+        }
+        if os::errno() != libc::EINTR {
+            return none;
+        }
+        tries -= 1;
     }
-    let read = read_all(fd, bytes);
-    libc::close(fd);
-    read
+    none
 }
 
 // Writes the bytes to standard output: how many of them the system took, all unless a write failed.
@@ -172,15 +164,18 @@ fn write_out(bytes: &[u8]) -> usize
     at
 }
 
-// One line on the error output: that a write failed, and why.
-fn complain() {
-    os::fail(b"station: the output was not written");
-}
-
 // How many bytes of the output the system took, and whether the program came to its end.
 pub struct Ran {
     told: usize,
     whole: bool,
+}
+
+// A run that stopped: one line on the error output says that a write failed, and why.
+fn stopped(told: usize) -> Ran
+    ensures { λ r. ⌜ r ≡ record { told = told; whole = false } ⌝ }
+{
+    os::fail(b"station: the output was not written");
+    Ran { told, whole: false }
 }
 
 // The steps from the beginning to the end; where a write fails it stops, and one line on the error output says so.
@@ -207,8 +202,7 @@ fn run(
         let taken = write_out(&out[..size]);
         told += taken;
         if taken < size {
-            complain();
-            return Ran { told, whole: false };
+            return stopped(told);
         }
         stage = said.stage;
     }
