@@ -30,7 +30,8 @@ map-snoc f (y ∷ l) x = ap (λ (m : List ℕ). f y ∷ m) (map-snoc f l x)
 pub row-started : (f : ℕ → ℕ) (columns : List ℕ) → replicate 4 0 ≡ filled f columns 0
 row-started f columns = refl
 
-pub row-filled : (f : ℕ → ℕ) (columns : List ℕ) (k : ℕ) (row : List ℕ) (x : ℕ) → k < length columns → k < 4 → row ≡ filled f columns k → x ≡ f (getD columns k 0) → set row k x ≡ filled f columns (k + 1)
+pub row-filled : (f : ℕ → ℕ) (columns : List ℕ) (k : ℕ) (row : List ℕ) (x : ℕ) → k < length columns → k < 4 → row ≡ filled f columns k → x ≡ f (getD columns k 0) →
+    set row k x ≡ filled f columns (k + 1)
 row-filled f columns k row x h g e v =
     let one : take (k + 1) columns ≡ take k columns ++ (getD columns k 0 ∷ []) = rw add-one (take-suc columns k 0 h) in
     let size : length (map f (take k columns)) ≡ k = length-map (take k columns) f ∙ length-take-le k columns (omega arith) in
@@ -55,11 +56,14 @@ agreesFrom pairs p l r k = agree (pairsOf (p - k) (drop (2 * k) pairs)) l r
 pub pair-below : (pairs : List ℕ) (p k : ℕ) → pairsBelow 4 4 (pairsOf p pairs) ≡ true → k < p → (getD pairs (2 * k) 0 < 4) × (getD pairs (2 * k + 1) 0 < 4)
 pair-below pairs zero k e h = absurd (not-suc-le-zero h)
 pair-below pairs (suc p) zero e h =
-    let b : (ltb (getD pairs 0 0) 4 && ltb (getD pairs 1 0) 4) ≡ true = and-first (ltb (getD pairs 0 0) 4 && ltb (getD pairs 1 0) 4) (pairsBelow 4 4 (pairsOf p (drop 2 pairs))) e in
-    (ltb-true (getD pairs 0 0) 4 (and-first (ltb (getD pairs 0 0) 4) (ltb (getD pairs 1 0) 4) b), ltb-true (getD pairs 1 0) 4 (and-second (ltb (getD pairs 0 0) 4) (ltb (getD pairs 1 0) 4) b))
+    let b : (ltb (getD pairs 0 0) 4 && ltb (getD pairs 1 0) 4) ≡ true = and-first (ltb (getD pairs 0 0) 4 && ltb (getD pairs 1 0) 4) (pairsBelow 4 4 (pairsOf p (drop 2 pairs))) e in (
+      ltb-true (getD pairs 0 0) 4 (and-first (ltb (getD pairs 0 0) 4) (ltb (getD pairs 1 0) 4) b),
+      ltb-true (getD pairs 1 0) 4 (and-second (ltb (getD pairs 0 0) 4) (ltb (getD pairs 1 0) 4) b),
+    )
 pair-below pairs (suc p) (suc k) e h =
     let b : (ltb (getD pairs 0 0) 4 && ltb (getD pairs 1 0) 4) ≡ true = and-first (ltb (getD pairs 0 0) 4 && ltb (getD pairs 1 0) 4) (pairsBelow 4 4 (pairsOf p (drop 2 pairs))) e in
-    let ih : (getD (drop 2 pairs) (2 * k) 0 < 4) × (getD (drop 2 pairs) (2 * k + 1) 0 < 4) = pair-below (drop 2 pairs) p k (and-second (ltb (getD pairs 0 0) 4 && ltb (getD pairs 1 0) 4) (pairsBelow 4 4 (pairsOf p (drop 2 pairs))) e) (le-of-suc-le-suc h) in
+    let ih : (getD (drop 2 pairs) (2 * k) 0 < 4) × (getD (drop 2 pairs) (2 * k + 1) 0 < 4) = pair-below (drop 2 pairs) p k
+    (and-second (ltb (getD pairs 0 0) 4 && ltb (getD pairs 1 0) 4) (pairsBelow 4 4 (pairsOf p (drop 2 pairs))) e) (le-of-suc-le-suc h) in
     let f : 2 * suc k ≡ 2 + 2 * k = omega arith in
     let g : 2 * suc k + 1 ≡ 2 + (2 * k + 1) = omega arith in
     (rw (f, ← getD-drop 2 pairs (2 * k) 0) (ih .0), rw (g, ← getD-drop 2 pairs (2 * k + 1) 0) (ih .1))

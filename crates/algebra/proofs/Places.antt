@@ -1,7 +1,7 @@
 -- Places: what a place of good form holds, and rows kept or put into an empty one. Assumes nothing.
-use mathlib.Core.Path.{_≡_, refl, sym, ap, ap₂, _∙_, subst}
+use mathlib.Core.Path.{_≡_, refl, sym, ap, ap₂, _∙_}
 use mathlib.Core.Bool.{Bool, true, false, not, _&&_, Bool·beq}
-use mathlib.Core.List.{List, [], _∷_, _++_, map, append-assoc, append-nil}
+use mathlib.Core.List.{List, [], _∷_, _++_, map, append-nil}
 use Prim.Native.Nat.{ℕ, zero, suc, _+_, _-_, _*_, _≤_, _<_}
 use native.Mathlib.Nat.{zero-add, le-refl, not-suc-le-zero, le-of-suc-le-suc}
 use native.Mathlib.Omega.{arith}
@@ -15,13 +15,13 @@ use Rattle.model.specs.Evaluation.{evaluateSelect}
 use Rattle.nodes.specs.Nodes.{operandOf}
 use Rattle.nodes.specs.declared.Operand.{Operand}
 use Rattle.nodes.specs.declared.Operand.the-variants.{Constant, Column}
-use Rattle.model.specs.Areas.{layout, fields, heldIn, unusedZero, goodPlace, padded, placeOf}
-use Rattle.model.proofs.Sets.{Ascending, ascending-holds, and-first, and-second}
+use Rattle.model.specs.Areas.{layout, fields, unusedZero, goodPlace, padded, placeOf}
+use Rattle.model.proofs.Sets.{and-first, and-second}
 use Rattle.rows.specs.Rows.{rowAt, rowsFrom, firstRows, words, stored}
-use Rattle.rows.proofs.Words.{Wide, length-row, length-words, rows-words, words-append, rows-snoc, keep-append, wide-keep, wide-rows, stored-push, paste-sets, fields-part, drop-zeros}
-use Rattle.rows.proofs.Place.{held-wide, length-held, length-map-padded, place-words, placed-words, wide-padded, words-map}
+use Rattle.rows.proofs.Words.{Wide, length-row, length-words, rows-snoc, keep-append, wide-keep, wide-rows, stored-push, paste-sets, fields-part, drop-zeros}
+use Rattle.rows.proofs.Place.{held-wide, length-held, length-map-padded, place-words, words-map}
 use Rattle.rows.proofs.Padding.{ascending-padded, keep-padded, field-padded, member-padded}
-use Rattle.algebra.specs.Places.{relationIn, Place, Blank, passesRow, OperandIn, Selects, Fills, Kept}
+use Rattle.algebra.specs.Places.{relationIn, Place, Blank, passesRow, Selects, Fills, Kept}
 use Rattle.rows.proofs.Checked.{placed-rows}
 
 -- ---- a place of good form
@@ -66,7 +66,8 @@ rows-ascend w s n p = ap ascending (place-rows w s n p) ∙ ascending-padded 4 w
 pub stored-blank : (w : ℕ) (rel : Relation) → w ≤ 4 → Wide w rel → length rel ≤ 64 → stored (map (padded 4) rel) (replicate 256 0) ≡ placeOf layout rel
 unfolding stored placeOf
 stored-blank w rel h a f =
-    ap₂ {A = List ℕ} {B = List ℕ} {C = List ℕ} (λ x y. x ++ y) (words-map (padded 4) rel) (drop-zeros (length (words (map (padded 4) rel))) 256 ∙ ap (λ (l : List ℕ). replicate (256 - length l) 0) (words-map (padded 4) rel))
+    ap₂ {A = List ℕ} {B = List ℕ} {C = List ℕ} (λ x y. x ++ y) (words-map (padded 4) rel)
+    (drop-zeros (length (words (map (padded 4) rel))) 256 ∙ ap (λ (l : List ℕ). replicate (256 - length l) 0) (words-map (padded 4) rel))
 
 -- the rows that pass a test, copied one after the other into an empty place
 module _ (p : Row → Bool) (s : List ℕ) where
@@ -112,7 +113,8 @@ module _ (p : Row → Bool) (s : List ℕ) where
       stored-size l wl h = length-append (words l) (drop (length (words l)) (replicate 256 0)) ∙ rw (length-drop, length-replicate, length-words 4 l wl) (omega arith)
 
 -- the same, with the words that the copy left
-pub kept-copied : (p : Row → Bool) (s : List ℕ) (i : ℕ) (out after : List ℕ) (m : ℕ) → p (rowAt 4 s i) ≡ true → i < 64 → i * 4 + 4 ≤ length s → Kept p s i out m → after ≡ paste out (m * 4) (drop (i * 4) s) 4 → Kept p s (i + 1) after (m + 1)
+pub kept-copied : (p : Row → Bool) (s : List ℕ) (i : ℕ) (out after : List ℕ) (m : ℕ) → p (rowAt 4 s i) ≡ true → i < 64 → i * 4 + 4 ≤ length s → Kept p s i out m →
+    after ≡ paste out (m * 4) (drop (i * 4) s) 4 → Kept p s (i + 1) after (m + 1)
 kept-copied p s i out after m e h f k a = rw a (kept-yes p s i out m e h f k)
 
 -- ---- fields of a row in words
@@ -131,7 +133,8 @@ row-cell s i k h = row-field 4 s (i * 4) k h
 -- ---- the model's rows
 
 -- rows kept from a place are the model's rows kept, in their place
-pub kept-fills : (w : ℕ) (s : List ℕ) (n : ℕ) (p q : Row → Bool) (out : List ℕ) (m : ℕ) → Place w s n → ((r : Row) → length r ≡ w → p (padded 4 r) ≡ q r) → Kept p s n out m → Fills (keep q (relationIn w s n)) out m
+pub kept-fills : (w : ℕ) (s : List ℕ) (n : ℕ) (p q : Row → Bool) (out : List ℕ) (m : ℕ) → Place w s n → ((r : Row) → length r ≡ w → p (padded 4 r) ≡ q r) → Kept p s n out m →
+    Fills (keep q (relationIn w s n)) out m
 kept-fills w s n p q out m pl e k =
     let rel : Relation = relationIn w s n in
     let same : keep p (firstRows s n) ≡ map (padded 4) (keep q rel) = ap (keep p) (place-rows w s n pl) ∙ keep-padded 4 w p q rel (place-wide w s n pl) e in
@@ -145,7 +148,8 @@ kept-fills w s n p q out m pl e k =
     }
 
 -- kinds 2 and 3
-pub select-fills : (w column code : ℕ) (o : Operand) (s : List ℕ) (n : ℕ) (out : List ℕ) (m : ℕ) → Place w s n → Selects w column o → Kept (passesRow column code (operandOf o)) s n out m → Fills (evaluateSelect column code (operandOf o) (relationIn w s n)) out m
+pub select-fills : (w column code : ℕ) (o : Operand) (s : List ℕ) (n : ℕ) (out : List ℕ) (m : ℕ) → Place w s n → Selects w column o → Kept (passesRow column code (operandOf o)) s n out m →
+    Fills (evaluateSelect column code (operandOf o) (relationIn w s n)) out m
 unfolding evaluateSelect selectConstant selectColumns
 select-fills w column code (Constant v) s n out m pl x k =
     kept-fills w s n (passesRow column code (operandOf (Constant v))) (λ r. holdsOf code (compareFields (getD r column 0) v)) out m pl
@@ -170,7 +174,8 @@ module _ (w : ℕ) (l : List ℕ) (n : ℕ) (r : List ℕ) (m : ℕ) (pl : Place
   pub difference-fills : (out : List ℕ) (k : ℕ) → Kept (λ x. Bool·beq (member x (firstRows r m)) false) l n out k → Fills (differenceRows (relationIn w l n) (relationIn w r m)) out k
   unfolding differenceRows
   difference-fills out k h =
-      kept-fills w l n (λ x. Bool·beq (member x (firstRows r m)) false) (λ x. not (member x (relationIn w r m))) out k pl (λ x e. beq-false (member (padded 4 x) (firstRows r m)) ∙ ap not (in-right x e)) h
+      kept-fills w l n (λ x. Bool·beq (member x (firstRows r m)) false) (λ x. not (member x (relationIn w r m))) out k pl
+      (λ x e. beq-false (member (padded 4 x) (firstRows r m)) ∙ ap not (in-right x e)) h
 
   -- kind 8
   pub intersect-fills : (out : List ℕ) (k : ℕ) → Kept (λ x. Bool·beq (member x (firstRows r m)) true) l n out k → Fills (intersectRows (relationIn w l n) (relationIn w r m)) out k

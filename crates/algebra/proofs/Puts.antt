@@ -105,7 +105,8 @@ module _ (f : Row → List Row) (b : List Row) (s : List ℕ) (n : ℕ) (wf : (r
       put-turn (i - 1) (omega arith) ∙ ap (λ (k : ℕ). insertAll (f (rowAt 4 s (i - 1))) (putFrom f b s n k)) e
 
   -- what one row more brings
-  pub put-more : (i : ℕ) (out out′ : List ℕ) (count : ℕ) (made : Made) → 0 < i → i ≤ n → Stands (putFrom f b s n i) out count → Stored (insertAll (f (rowAt 4 s (i - 1))) (firstRows out count)) out′ made → Stored (putFrom f b s n (i - 1)) out′ made
+  pub put-more : (i : ℕ) (out out′ : List ℕ) (count : ℕ) (made : Made) → 0 < i → i ≤ n → Stands (putFrom f b s n i) out count →
+      Stored (insertAll (f (rowAt 4 s (i - 1))) (firstRows out count)) out′ made → Stored (putFrom f b s n (i - 1)) out′ made
   put-more i out out′ count made p h t x =
       let turn : putFrom f b s n (i - 1) ≡ insertAll (f (rowAt 4 s (i - 1))) (firstRows out count) =
       put-last i p h ∙ ap (insertAll (f (rowAt 4 s (i - 1)))) (sym (stands-rows (putFrom f b s n i) (put-wide i) out count t)) in
@@ -139,14 +140,16 @@ module _ (x : List Row) (rel : Relation) (v : ℕ) (narrow : v ≤ 4) (wide : Wi
   pub model-exceeds : 64 < length x → 64 < length rel
   model-exceeds h = rw (sym (length-map-padded 4 rel) ∙ ap length (sym same)) h
 
-pub each-padded : (f g : Row → List Row) (w : ℕ) (rel : Relation) → Wide w rel → ((r : Row) → length r ≡ w → f (padded 4 r) ≡ map (padded 4) (g r)) → flatMap f (map (padded 4) rel) ≡ map (padded 4) (flatMap g rel)
+pub each-padded : (f g : Row → List Row) (w : ℕ) (rel : Relation) → Wide w rel → ((r : Row) → length r ≡ w → f (padded 4 r) ≡ map (padded 4) (g r)) → flatMap f (map (padded 4) rel)
+    ≡ map (padded 4) (flatMap g rel)
 unfolding flatMap
 each-padded f g w [] h e = refl
 each-padded f g w (r ∷ rel) h e =
     ap₂ {A = List Row} {B = List Row} {C = List Row} (λ a b. a ++ b) (e r (h .0)) (each-padded f g w rel (h .1) e) ∙ sym (map-append 4 (g r) (flatMap g rel))
 
 -- the rows that f makes of a place's rows, put into an empty place
-module _ (f g : Row → List Row) (w v : ℕ) (s : List ℕ) (n : ℕ) (pl : Place w s n) (e : (r : Row) → length r ≡ w → f (padded 4 r) ≡ map (padded 4) (g r)) (wg : (r : Row) → length r ≡ w → Wide v (g r)) where
+module _ (f g : Row → List Row) (w v : ℕ) (s : List ℕ) (n : ℕ) (pl : Place w s n) (e : (r : Row) → length r ≡ w → f (padded 4 r) ≡ map (padded 4) (g r))
+    (wg : (r : Row) → length r ≡ w → Wide v (g r)) where
   pub made-wide : Wide v (setOf (flatMap g (relationIn w s n)))
   made-wide = wide-setOf 4 v (flatMap g (relationIn w s n)) (wide-each v g (relationIn w s n) w (place-wide w s n pl) wg)
 
@@ -207,7 +210,8 @@ row-made row r e h = ap (λ (x : Row). rowAt 4 x 0) e ∙ row-itself r h
 pub columns-more : (k m : ℕ) (columns : List ℕ) → k ≤ m → columnsBelow k columns ≡ true → columnsBelow m columns ≡ true
 columns-more k m [] h e = refl
 columns-more k m (c ∷ columns) h e =
-    and-both (ltb c m) (columnsBelow m columns) (lt-ltb c m (le-trans (ltb-true c k (and-first (ltb c k) (columnsBelow k columns) e)) h)) (columns-more k m columns h (and-second (ltb c k) (columnsBelow k columns) e))
+    and-both (ltb c m) (columnsBelow m columns) (lt-ltb c m (le-trans (ltb-true c k (and-first (ltb c k) (columnsBelow k columns) e)) h))
+    (columns-more k m columns h (and-second (ltb c k) (columnsBelow k columns) e))
 
 pub joined-length : (split : ℕ) (columns : List ℕ) (l r : Row) → length columns ≤ 4 → length (joinedRow split columns l r) ≡ 4
 joined-length split columns l r h = length-padded 4 (map (joinedField split l r) columns) (rw (length-map columns (joinedField split l r)) h)
@@ -215,7 +219,8 @@ joined-length split columns l r h = length-padded 4 (map (joinedField split l r)
 pub columns-same : (k : ℕ) (columns : List ℕ) (f g : ℕ → ℕ) → columnsBelow k columns ≡ true → ((c : ℕ) → c < k → f c ≡ g c) → map f columns ≡ map g columns
 columns-same k [] f g e h = refl
 columns-same k (c ∷ columns) f g e h =
-    ap₂ {A = ℕ} {B = List ℕ} {C = List ℕ} (λ x l. x ∷ l) (h c (ltb-true c k (and-first (ltb c k) (columnsBelow k columns) e))) (columns-same k columns f g (and-second (ltb c k) (columnsBelow k columns) e) h)
+    ap₂ {A = ℕ} {B = List ℕ} {C = List ℕ} (λ x l. x ∷ l) (h c (ltb-true c k (and-first (ltb c k) (columnsBelow k columns) e)))
+    (columns-same k columns f g (and-second (ltb c k) (columnsBelow k columns) e) h)
 
 -- the row that a projection makes of a row
 abbrev pub projected : List ℕ → Row → List Row
@@ -273,7 +278,8 @@ module _ (how : Joining) (fits : JoinFits how) where
   each-joined l (r ∷ right) = go (agree (pairsOf (how .p) (how .pairs)) l r) (each-joined l right)
     where
       go : (t : Bool) → flatMap (joinedIf how l) right ≡ joinedWith how right l →
-          keepIf t (joinedRow (how .split) (take (how .n) (how .columns)) l r) [] ++ flatMap (joinedIf how l) right ≡ map (joinedRow (how .split) (take (how .n) (how .columns)) l) (keepIf t r (keep (agree (pairsOf (how .p) (how .pairs)) l) right))
+          keepIf t (joinedRow (how .split) (take (how .n) (how .columns)) l r) [] ++ flatMap (joinedIf how l) right ≡ map (joinedRow (how .split) (take (how .n) (how .columns)) l)
+          (keepIf t r (keep (agree (pairsOf (how .p) (how .pairs)) l) right))
       go true ih = ap (λ (m : List Row). joinedRow (how .split) (take (how .n) (how .columns)) l r ∷ m) ih
       go false ih = ih
 
@@ -312,31 +318,39 @@ module _ (how : Joining) (w : ℕ) (left : List ℕ) (n : ℕ) (right : List ℕ
   joined-rows l f [] h = refl
   joined-rows l f (r ∷ rel) h =
       ap₂ {A = Row} {B = List Row} {C = List Row} (λ x y. x ∷ y)
-      (ap (padded 4) (columns-same (how .split + w) (take (how .n) (how .columns)) (joinedField (how .split) (padded 4 l) (padded 4 r)) (λ c. getD (l ++ r) c 0) (inside .columns) (λ c k. joined-cell (how .split) w l r c f (h .0) k)))
+      (ap (padded 4) (columns-same (how .split + w) (take (how .n) (how .columns)) (joinedField (how .split) (padded 4 l) (padded 4 r)) (λ c. getD (l ++ r) c 0) (inside .columns)
+      (λ c k. joined-cell (how .split) w l r c f (h .0) k)))
       (joined-rows l f rel (h .1))
 
-  one-padded : (l : Row) → length l ≡ how .split → joinedWith how (firstRows right m) (padded 4 l) ≡ map (padded 4) (joinOne (pairsOf (how .p) (how .pairs)) (take (how .n) (how .columns)) (relationIn w right m) l)
+  one-padded : (l : Row) → length l ≡ how .split → joinedWith how (firstRows right m) (padded 4 l)
+      ≡ map (padded 4) (joinOne (pairsOf (how .p) (how .pairs)) (take (how .n) (how .columns)) (relationIn w right m) l)
   unfolding joinOne
   one-padded l f =
       let pairs : List Pair = pairsOf (how .p) (how .pairs) in
       ap (map (joinedRow (how .split) (take (how .n) (how .columns)) (padded 4 l)))
-      (ap (keep (agree pairs (padded 4 l))) (place-rows w right m pr) ∙ keep-padded 4 w (agree pairs (padded 4 l)) (agree pairs l) (relationIn w right m) (place-wide w right m pr) (λ r e. agree-padded pairs (how .split) w l r (inside .pairs) f e))
+      (ap (keep (agree pairs (padded 4 l))) (place-rows w right m pr) ∙ keep-padded 4 w (agree pairs (padded 4 l)) (agree pairs l) (relationIn w right m) (place-wide w right m pr)
+      (λ r e. agree-padded pairs (how .split) w l r (inside .pairs) f e))
       ∙ joined-rows l f (keep (agree pairs l) (relationIn w right m)) (wide-keep w (agree pairs l) (relationIn w right m) (place-wide w right m pr))
 
   map-wide : (l : Row) (rel : List Row) → Wide (length (take (how .n) (how .columns))) (map (λ r. columnsOf (take (how .n) (how .columns)) (l ++ r)) rel)
   map-wide l [] = tt
   map-wide l (r ∷ rel) = (length-map (take (how .n) (how .columns)) (λ c. getD (l ++ r) c 0), map-wide l rel)
 
-  one-wide : (l : Row) → length l ≡ how .split → Wide (length (take (how .n) (how .columns))) (joinOne (pairsOf (how .p) (how .pairs)) (take (how .n) (how .columns)) (relationIn w right m) l)
+  one-wide : (l : Row) → length l ≡ how .split →
+      Wide (length (take (how .n) (how .columns))) (joinOne (pairsOf (how .p) (how .pairs)) (take (how .n) (how .columns)) (relationIn w right m) l)
   unfolding joinOne
   one-wide l f = map-wide l (keep (agree (pairsOf (how .p) (how .pairs)) l) (relationIn w right m))
 
-  pub join-is : putFrom (joinedWith how (firstRows right m)) [] left n 0 ≡ map (padded 4) (joinRows (pairsOf (how .p) (how .pairs)) (take (how .n) (how .columns)) (relationIn (how .split) left n) (relationIn w right m))
+  pub join-is : putFrom (joinedWith how (firstRows right m)) [] left n 0
+      ≡ map (padded 4) (joinRows (pairsOf (how .p) (how .pairs)) (take (how .n) (how .columns)) (relationIn (how .split) left n) (relationIn w right m))
   unfolding joinRows
   join-is =
-      made-is (joinedWith how (firstRows right m)) (joinOne (pairsOf (how .p) (how .pairs)) (take (how .n) (how .columns)) (relationIn w right m)) (how .split) (length (take (how .n) (how .columns))) left n pl one-padded one-wide
+      made-is (joinedWith how (firstRows right m)) (joinOne (pairsOf (how .p) (how .pairs)) (take (how .n) (how .columns)) (relationIn w right m)) (how .split)
+      (length (take (how .n) (how .columns))) left n pl one-padded one-wide
 
-  pub join-wide : Wide (length (take (how .n) (how .columns))) (joinRows (pairsOf (how .p) (how .pairs)) (take (how .n) (how .columns)) (relationIn (how .split) left n) (relationIn w right m))
+  pub join-wide : Wide (length (take (how .n) (how .columns)))
+      (joinRows (pairsOf (how .p) (how .pairs)) (take (how .n) (how .columns)) (relationIn (how .split) left n) (relationIn w right m))
   unfolding joinRows
   join-wide =
-      made-wide (joinedWith how (firstRows right m)) (joinOne (pairsOf (how .p) (how .pairs)) (take (how .n) (how .columns)) (relationIn w right m)) (how .split) (length (take (how .n) (how .columns))) left n pl one-padded one-wide
+      made-wide (joinedWith how (firstRows right m)) (joinOne (pairsOf (how .p) (how .pairs)) (take (how .n) (how .columns)) (relationIn w right m)) (how .split)
+      (length (take (how .n) (how .columns))) left n pl one-padded one-wide

@@ -1,6 +1,6 @@
 // Relational algebra on places: each operator's rows from its inputs' rows, at most 64 of them.
 ghost use mathlib.Core.Path.{_≡_};
-ghost use mathlib.Core.Bool.{Bool, true, false, Bool·beq};
+ghost use mathlib.Core.Bool.{true, false, Bool·beq};
 ghost use Prim.Native.Nat.{ℕ, _+_, _*_, _≤_, _<_};
 ghost use lib.Dec.{eqb};
 ghost use lib.ListN.{length, getD, take};
@@ -10,7 +10,8 @@ ghost use Rattle.model.specs.Network.{columnsBelow, pairsBelow};
 ghost use Rattle.model.specs.Evaluation.{evaluateSelect};
 ghost use Rattle.rows.specs.Rows.{stride, rowAt, firstRows, orderOf};
 ghost use Rattle.nodes.specs.Nodes.{operandOf, pairsOf};
-ghost use Rattle.algebra.specs.Places.{joinedField, joinedRow, insertAll, JoinFits, JoinsIn, joinedWith, passesRow, OperandBelow, Selects, Place, Blank, relationIn, Fills, Kept, Stands, Stored, Makes};
+ghost use Rattle.algebra.specs.Places.{joinedField, joinedRow, insertAll, JoinFits, JoinsIn, joinedWith, passesRow, OperandBelow, Selects};
+ghost use Rattle.algebra.specs.Places.{Place, Blank, relationIn, Fills, Kept, Stands, Stored, Makes};
 use nodes::Operand;
 use rows::Inserted;
 use rows::Order;
@@ -69,7 +70,8 @@ pub fn select_rows(
     out: &mut [u32],
 ) -> usize
     requires { ⌜ (n ≤ 64) × (n * stride ≤ length (now input)) × (column < stride) × (code < 6) × OperandBelow operand × Blank (now out) ⌝ }
-    ensures { λ r. ⌜ ((w : ℕ) → Place w (now (input .entry)) n → Selects w column operand → Fills (evaluateSelect column code (operandOf operand) (relationIn w (now (input .entry)) n)) (now (out .exit)) r) ⌝ }
+    ensures { λ r. ⌜ ((w : ℕ) → Place w (now (input .entry)) n → Selects w column operand →
+        Fills (evaluateSelect column code (operandOf operand) (relationIn w (now (input .entry)) n)) (now (out .exit)) r) ⌝ }
 {
     let mut count = 0;
     let mut i = 0;
@@ -93,7 +95,8 @@ fn keep_rows(
     wanted: bool,
     out: &mut [u32],
 ) -> usize
-    requires { ⌜ (n ≤ 64) × (n * stride ≤ length (now left)) × (m * stride ≤ length (now right)) × (ascending (firstRows (now right) m) ≡ true) × Blank (now out) ⌝ }
+    requires { ⌜ (n ≤ 64) × (n * stride ≤ length (now left)) × (m * stride ≤ length (now right)) × (ascending (firstRows (now right) m) ≡ true)
+        × Blank (now out) ⌝ }
     ensures { λ r. ⌜ Kept (λ row. Bool·beq (member row (firstRows (now (right .entry)) m)) wanted) (now (left .entry)) n (now (out .exit)) r ⌝ }
 {
     let mut count = 0;
@@ -111,23 +114,28 @@ fn keep_rows(
 
 // The left place's rows that are not in the right one, in an empty place: how many.
 pub fn difference_rows(left: &[u32], n: usize, right: &[u32], m: usize, out: &mut [u32]) -> usize
-    requires { ⌜ (n ≤ 64) × (n * stride ≤ length (now left)) × (m * stride ≤ length (now right)) × (ascending (firstRows (now right) m) ≡ true) × Blank (now out) ⌝ }
-    ensures { λ r. ⌜ ((w : ℕ) → Place w (now (left .entry)) n → Place w (now (right .entry)) m → Fills (differenceRows (relationIn w (now (left .entry)) n) (relationIn w (now (right .entry)) m)) (now (out .exit)) r) ⌝ }
+    requires { ⌜ (n ≤ 64) × (n * stride ≤ length (now left)) × (m * stride ≤ length (now right)) × (ascending (firstRows (now right) m) ≡ true)
+        × Blank (now out) ⌝ }
+    ensures { λ r. ⌜ ((w : ℕ) → Place w (now (left .entry)) n → Place w (now (right .entry)) m →
+        Fills (differenceRows (relationIn w (now (left .entry)) n) (relationIn w (now (right .entry)) m)) (now (out .exit)) r) ⌝ }
 {
     keep_rows(left, n, right, m, false, out)
 }
 
 // The left place's rows that are in the right one too, in an empty place: how many.
 pub fn intersect_rows(left: &[u32], n: usize, right: &[u32], m: usize, out: &mut [u32]) -> usize
-    requires { ⌜ (n ≤ 64) × (n * stride ≤ length (now left)) × (m * stride ≤ length (now right)) × (ascending (firstRows (now right) m) ≡ true) × Blank (now out) ⌝ }
-    ensures { λ r. ⌜ ((w : ℕ) → Place w (now (left .entry)) n → Place w (now (right .entry)) m → Fills (intersectRows (relationIn w (now (left .entry)) n) (relationIn w (now (right .entry)) m)) (now (out .exit)) r) ⌝ }
+    requires { ⌜ (n ≤ 64) × (n * stride ≤ length (now left)) × (m * stride ≤ length (now right)) × (ascending (firstRows (now right) m) ≡ true)
+        × Blank (now out) ⌝ }
+    ensures { λ r. ⌜ ((w : ℕ) → Place w (now (left .entry)) n → Place w (now (right .entry)) m →
+        Fills (intersectRows (relationIn w (now (left .entry)) n) (relationIn w (now (right .entry)) m)) (now (out .exit)) r) ⌝ }
 {
     keep_rows(left, n, right, m, true, out)
 }
 
 // Row i of src put among the rows of a place, which ascend.
 fn put_row(out: &mut [u32], n: usize, src: &[u32], i: usize) -> Made
-    requires { ⌜ Stands (firstRows (now out) n) (now out) n × (i * stride + stride ≤ length (now src)) × (ascending (firstRows (now out) n) ≡ true) × (length (now out) ≡ 256) ⌝ }
+    requires { ⌜ Stands (firstRows (now out) n) (now out) n × (i * stride + stride ≤ length (now src)) × (ascending (firstRows (now out) n) ≡ true)
+        × (length (now out) ≡ 256) ⌝ }
     ensures { λ r. ⌜ Stored (insertRow (rowAt stride (now (src .entry)) i) (firstRows (now (out .entry)) n)) (now (out .exit)) r ⌝ }
 {
     match rows::insert(out, n, src, i, 64) {
@@ -139,8 +147,10 @@ fn put_row(out: &mut [u32], n: usize, src: &[u32], i: usize) -> Made
 
 // The rows of both places, in an empty place: how many, or that they are more than 64.
 pub fn union_rows(left: &[u32], n: usize, right: &[u32], m: usize, out: &mut [u32]) -> Made
-    requires { ⌜ (n * stride ≤ length (now left)) × (m ≤ 64) × (m * stride ≤ length (now right)) × (ascending (firstRows (now right) m) ≡ true) × Blank (now out) ⌝ }
-    ensures { λ r. ⌜ ((w : ℕ) → Place w (now (left .entry)) n → Place w (now (right .entry)) m → Makes (unionRows (relationIn w (now (left .entry)) n) (relationIn w (now (right .entry)) m)) (now (out .exit)) r) ⌝ }
+    requires { ⌜ (n * stride ≤ length (now left)) × (m ≤ 64) × (m * stride ≤ length (now right)) × (ascending (firstRows (now right) m) ≡ true)
+        × Blank (now out) ⌝ }
+    ensures { λ r. ⌜ ((w : ℕ) → Place w (now (left .entry)) n → Place w (now (right .entry)) m →
+        Makes (unionRows (relationIn w (now (left .entry)) n) (relationIn w (now (right .entry)) m)) (now (out .exit)) r) ⌝ }
 {
     words::copy_run(right, 0, out, 0, m * STRIDE);
     let mut count = m;
@@ -181,7 +191,8 @@ fn columns_row(
     columns: &[usize],
     n: usize,
 ) -> [u32; STRIDE]
-    requires { ⌜ (i * stride + stride ≤ length (now left)) × (j * stride + stride ≤ length (now right)) × (split ≤ stride) × (n ≤ 4) × (n ≤ length (now columns)) × (columnsBelow (split + stride) (take n (now columns)) ≡ true) ⌝ }
+    requires { ⌜ (i * stride + stride ≤ length (now left)) × (j * stride + stride ≤ length (now right)) × (split ≤ stride) × (n ≤ 4)
+        × (n ≤ length (now columns)) × (columnsBelow (split + stride) (take n (now columns)) ≡ true) ⌝ }
     ensures { λ r. ⌜ r ≡ joinedRow split (take n (now (columns .entry))) (rowAt stride (now (left .entry)) i) (rowAt stride (now (right .entry)) j) ⌝ }
 {
     let mut row = [0u32; STRIDE];
@@ -195,8 +206,10 @@ fn columns_row(
 
 // The named columns of a place's rows, in an empty place: how many rows, or that they are more than 64.
 pub fn project_rows(input: &[u32], n: usize, columns: &[usize], c: usize, out: &mut [u32]) -> Made
-    requires { ⌜ (n * stride ≤ length (now input)) × (c ≤ 4) × (c ≤ length (now columns)) × (columnsBelow stride (take c (now columns)) ≡ true) × Blank (now out) ⌝ }
-    ensures { λ r. ⌜ ((w : ℕ) → Place w (now (input .entry)) n → columnsBelow w (take c (now (columns .entry))) ≡ true → Makes (projectRows (take c (now (columns .entry))) (relationIn w (now (input .entry)) n)) (now (out .exit)) r) ⌝ }
+    requires { ⌜ (n * stride ≤ length (now input)) × (c ≤ 4) × (c ≤ length (now columns)) × (columnsBelow stride (take c (now columns)) ≡ true)
+        × Blank (now out) ⌝ }
+    ensures { λ r. ⌜ ((w : ℕ) → Place w (now (input .entry)) n → columnsBelow w (take c (now (columns .entry))) ≡ true →
+        Makes (projectRows (take c (now (columns .entry))) (relationIn w (now (input .entry)) n)) (now (out .exit)) r) ⌝ }
 {
     let mut count = 0;
     let mut i = n;
@@ -217,15 +230,18 @@ pub fn project_rows(input: &[u32], n: usize, columns: &[usize], c: usize, out: &
 
 // Whether row i of the left place and row j of the right one agree on pair k: its columns stand in turn, left and right.
 fn agrees_on(left: &[u32], i: usize, right: &[u32], j: usize, pairs: &[usize], k: usize) -> bool
-    requires { ⌜ (i * stride + stride ≤ length (now left)) × (j * stride + stride ≤ length (now right)) × (2 * k + 2 ≤ length (now pairs)) × (getD (now pairs) (2 * k) 0 < stride) × (getD (now pairs) (2 * k + 1) 0 < stride) ⌝ }
-    ensures { λ r. ⌜ r ≡ eqb (getD (rowAt stride (now (left .entry)) i) (getD (now (pairs .entry)) (2 * k) 0) 0) (getD (rowAt stride (now (right .entry)) j) (getD (now (pairs .entry)) (2 * k + 1) 0) 0) ⌝ }
+    requires { ⌜ (i * stride + stride ≤ length (now left)) × (j * stride + stride ≤ length (now right)) × (2 * k + 2 ≤ length (now pairs))
+        × (getD (now pairs) (2 * k) 0 < stride) × (getD (now pairs) (2 * k + 1) 0 < stride) ⌝ }
+    ensures { λ r. ⌜ r ≡ eqb (getD (rowAt stride (now (left .entry)) i) (getD (now (pairs .entry)) (2 * k) 0) 0)
+        (getD (rowAt stride (now (right .entry)) j) (getD (now (pairs .entry)) (2 * k + 1) 0) 0) ⌝ }
 {
     left[i * STRIDE + pairs[2 * k]] == right[j * STRIDE + pairs[2 * k + 1]]
 }
 
 // Whether row i of the left place and row j of the right one agree on all p pairs.
 fn rows_agree(left: &[u32], i: usize, right: &[u32], j: usize, pairs: &[usize], p: usize) -> bool
-    requires { ⌜ (i * stride + stride ≤ length (now left)) × (j * stride + stride ≤ length (now right)) × (2 * p ≤ length (now pairs)) × (pairsBelow stride stride (pairsOf p (now pairs)) ≡ true) ⌝ }
+    requires { ⌜ (i * stride + stride ≤ length (now left)) × (j * stride + stride ≤ length (now right)) × (2 * p ≤ length (now pairs))
+        × (pairsBelow stride stride (pairsOf p (now pairs)) ≡ true) ⌝ }
     ensures { λ r. ⌜ r ≡ agree (pairsOf p (now (pairs .entry))) (rowAt stride (now (left .entry)) i) (rowAt stride (now (right .entry)) j) ⌝ }
 {
     let mut k = 0;
@@ -257,8 +273,11 @@ fn join_row(
     out: &mut [u32],
     count: usize,
 ) -> Made
-    requires { ⌜ (i * stride + stride ≤ length (now left)) × (m * stride ≤ length (now right)) × JoinFits how × Stands (firstRows (now out) count) (now out) count × (ascending (firstRows (now out) count) ≡ true) × (length (now out) ≡ 256) ⌝ }
-    ensures { λ r. ⌜ Stored (insertAll (joinedWith how (firstRows (now (right .entry)) m) (rowAt stride (now (left .entry)) i)) (firstRows (now (out .entry)) count)) (now (out .exit)) r ⌝ }
+    requires { ⌜ (i * stride + stride ≤ length (now left)) × (m * stride ≤ length (now right)) × JoinFits how
+        × Stands (firstRows (now out) count) (now out) count × (ascending (firstRows (now out) count) ≡ true) × (length (now out) ≡ 256) ⌝ }
+    ensures { λ r. ⌜ Stored
+        (insertAll (joinedWith how (firstRows (now (right .entry)) m) (rowAt stride (now (left .entry)) i)) (firstRows (now (out .entry)) count))
+        (now (out .exit)) r ⌝ }
 {
     let mut rows = count;
     let mut j = m;
@@ -289,7 +308,9 @@ pub fn join_rows(
     out: &mut [u32],
 ) -> Made
     requires { ⌜ (n * stride ≤ length (now left)) × (m * stride ≤ length (now right)) × JoinFits how × Blank (now out) ⌝ }
-    ensures { λ r. ⌜ ((w : ℕ) → Place (how .split) (now (left .entry)) n → Place w (now (right .entry)) m → JoinsIn how w → Makes (joinRows (pairsOf (how .p) (how .pairs)) (take (how .n) (how .columns)) (relationIn (how .split) (now (left .entry)) n) (relationIn w (now (right .entry)) m)) (now (out .exit)) r) ⌝ }
+    ensures { λ r. ⌜ ((w : ℕ) → Place (how .split) (now (left .entry)) n → Place w (now (right .entry)) m → JoinsIn how w →
+        Makes (joinRows (pairsOf (how .p) (how .pairs)) (take (how .n) (how .columns)) (relationIn (how .split) (now (left .entry)) n)
+        (relationIn w (now (right .entry)) m)) (now (out .exit)) r) ⌝ }
 {
     let mut count = 0;
     let mut i = n;

@@ -2,17 +2,16 @@
 use mathlib.Core.Bool.{_&&_, Bool, cond, false, true}
 use mathlib.Core.List.{List}
 use mathlib.Core.Path.{ap, ap₂, refl, sym, _∙_, _≡_}
-use Prim.Native.Nat.{_*_, _+_, _<_, suc, zero, ℕ, _≤_, _-_}
+use Prim.Native.Nat.{_*_, _+_, _<_, ℕ, _≤_, _-_}
 use native.Mathlib.Omega.{arith}
 use lib.ListN.{drop, getD, length, take}
 use lib.Dec.{eqb, ltb, leb}
 use lib.Seq.{getD-take, length-take-le, slice}
 use borrow.Author.Tests.{lt-leb, ltb-true, leb-true}
-use Rattle.model.specs.Row.{allOf, countFrom, numbersBelow}
+use Rattle.model.specs.Row.{allOf, numbersBelow}
 use Rattle.model.specs.Areas.{allZero, emptyPlace, goodArea, goodPlace, heldIn, layout, goodForm, goodStamps, goodWorked, longEnough}
 use Rattle.rows.specs.Rows.{firstRows, goodRows}
 use Rattle.rows.proofs.Checked.{place-checked}
-use Rattle.rows.proofs.Form.{slice-part}
 use Rattle.areas.proofs.All.{all-ext}
 use Rattle.model.specs.Network.{Node, widths}
 use Rattle.model.proofs.Sets.{and-first, and-second}
@@ -69,18 +68,22 @@ nodeGood ws n count area i = cond (ltb i n) (goodPlace layout (getD ws i 0) (cou
 pub area-is : (ws : List ℕ) (n : ℕ) (count : ℕ → ℕ) (area : List ℕ) → n ≤ length ws → goodArea layout (take n ws) count area ≡ allOf (nodeGood ws n count area) (numbersBelow 32)
 unfolding goodArea
 area-is ws n count area h =
-    all-ext (λ i. cond (ltb i (length (take n ws))) (goodPlace layout (getD (take n ws) i 0) (count i) area i) (emptyPlace layout (count i) area i)) (nodeGood ws n count area) 0 32 (λ i. go i (ltb i n) refl)
+    all-ext (λ i. cond (ltb i (length (take n ws))) (goodPlace layout (getD (take n ws) i 0) (count i) area i) (emptyPlace layout (count i) area i)) (nodeGood ws n count area) 0 32
+    (λ i. go i (ltb i n) refl)
   where
-    go : (i : ℕ) (t : Bool) → ltb i n ≡ t → cond (ltb i (length (take n ws))) (goodPlace layout (getD (take n ws) i 0) (count i) area i) (emptyPlace layout (count i) area i) ≡ nodeGood ws n count area i
+    go : (i : ℕ) (t : Bool) → ltb i n ≡ t → cond (ltb i (length (take n ws))) (goodPlace layout (getD (take n ws) i 0) (count i) area i) (emptyPlace layout (count i) area i)
+        ≡ nodeGood ws n count area i
     go i true e = rw (length-take-le n ws h, e, getD-take n ws i 0 (ltb-true i n e))
     go i false e = rw (length-take-le n ws h, e)
 
 -- ---- all four areas
 
-pub long-parts : (rows gained lost head : List ℕ) → longEnough layout (lent rows gained lost head) ≡ true → (8192 ≤ length rows) × (8192 ≤ length gained) × (8192 ≤ length lost) × (162 ≤ length head)
+pub long-parts : (rows gained lost head : List ℕ) → longEnough layout (lent rows gained lost head) ≡ true → (8192 ≤ length rows) × (8192 ≤ length gained) × (8192 ≤ length lost)
+    × (162 ≤ length head)
 unfolding longEnough
 long-parts rows gained lost head e =
-    let three : (leb 8192 (length rows) && leb 8192 (length gained) && leb 8192 (length lost)) ≡ true = and-first (leb 8192 (length rows) && leb 8192 (length gained) && leb 8192 (length lost)) (leb 162 (length head)) e in
+    let three : (leb 8192 (length rows) && leb 8192 (length gained) && leb 8192 (length lost))
+    ≡ true = and-first (leb 8192 (length rows) && leb 8192 (length gained) && leb 8192 (length lost)) (leb 162 (length head)) e in
     let two : (leb 8192 (length rows) && leb 8192 (length gained)) ≡ true = and-first (leb 8192 (length rows) && leb 8192 (length gained)) (leb 8192 (length lost)) three in (
       leb-true 8192 (length rows) (and-first (leb 8192 (length rows)) (leb 8192 (length gained)) two),
       leb-true 8192 (length gained) (and-second (leb 8192 (length rows)) (leb 8192 (length gained)) two),
@@ -90,11 +93,14 @@ long-parts rows gained lost head e =
 
 -- good form from the widths alone
 pub form-is : (n : ℕ) (ws rows gained lost head : List ℕ) (nodes : List Node) → n ≤ length ws → take n ws ≡ widths nodes → goodForm layout nodes (lent rows gained lost head)
-    ≡ (goodArea layout (take n ws) (countsFrom head 1) rows && goodArea layout (take n ws) (countsFrom head 65) gained && goodArea layout (take n ws) (countsFrom head 97) lost && goodStamps n head && goodWorked n head)
+    ≡ (goodArea layout (take n ws) (countsFrom head 1) rows && goodArea layout (take n ws) (countsFrom head 65) gained && goodArea layout (take n ws)
+    (countsFrom head 97) lost && goodStamps n head && goodWorked n head)
 unfolding goodForm
 form-is n ws rows gained lost head nodes h e =
     let size : length nodes ≡ n = sym (length-widths nodes) ∙ ap length (sym e) ∙ length-take-le n ws h in
-    ap₂ {A = List ℕ} {B = ℕ} {C = Bool} (λ v k. goodArea layout v (countsFrom head 1) rows && goodArea layout v (countsFrom head 65) gained && goodArea layout v (countsFrom head 97) lost && goodStamps k head && goodWorked k head) (sym e) size
+    ap₂ {A = List ℕ} {B = ℕ} {C = Bool}
+    (λ v k. goodArea layout v (countsFrom head 1) rows && goodArea layout v (countsFrom head 65) gained && goodArea layout v (countsFrom head 97) lost && goodStamps k head && goodWorked
+    k head) (sym e) size
 
 module _ (a b c d e : Bool) where
   pub form-first : a ≡ false → (a && b && c && d && e) ≡ false

@@ -56,8 +56,10 @@ module _ (area p : List ℕ) (i : ℕ) (fits : i * 256 + 256 ≤ length area) (s
     where
       go : (t : Bool) → ltb j i ≡ t → placeAt (paste area (i * 256) p 256) j ≡ placeAt area j
       go true e = let h : j < i = ltb-true j i e in rw (cut j) (pasted-before area p (i * 256) 256 fits size (j * 256) 256 (omega arith))
-      go false e = let h : i ≤ j = ltb-false j i e in let k : i < j = omega (arith, n) in ap (take (j * 256 + 256 - j * 256)) (pasted-after area p (i * 256) 256 fits size (j * 256) (omega arith))
+      go false e = let h : i ≤ j = ltb-false j i e in let k : i < j = omega (arith, n) in ap (take (j * 256 + 256 - j * 256))
+          (pasted-after area p (i * 256) 256 fits size (j * 256) (omega arith))
 
 -- a place has its words
 pub place-long : (area : List ℕ) (i : ℕ) → i < 32 → 8192 ≤ length area → length (placeAt area i) ≡ 256
-place-long area i h l = let e : i * 256 + 256 - i * 256 ≡ 256 = omega arith in ap (λ (m : ℕ). length (take m (drop (i * 256) area))) e ∙ length-take-le 256 (drop (i * 256) area) (rw (length-drop (i * 256) area) (omega arith))
+place-long area i h l = let e : i * 256 + 256 - i * 256 ≡ 256 = omega arith in ap (λ (m : ℕ). length (take m (drop (i * 256) area))) e
+    ∙ length-take-le 256 (drop (i * 256) area) (rw (length-drop (i * 256) area) (omega arith))

@@ -1,12 +1,12 @@
 // The areas that the caller lends: whether they are long enough, and of good form.
 ghost use mathlib.Core.Path.{_≡_};
-ghost use mathlib.Core.Bool.{Bool, true, false, cond};
+ghost use mathlib.Core.Bool.{true, false, cond};
 ghost use mathlib.Core.List.{List};
-ghost use Prim.Native.Nat.{ℕ, _+_, _*_, _≤_, _<_};
+ghost use Prim.Native.Nat.{_+_, _*_, _≤_, _<_};
 ghost use lib.Dec.{ltb, leb, eqb};
 ghost use lib.ListN.{length, getD, take};
 ghost use Rattle.model.specs.Network.{Node, widths};
-ghost use Rattle.model.specs.Areas.{layout, longEnough, goodPlace, emptyPlace, goodArea, goodStamps, goodWorked, goodForm, stampAt, batchNumber, workedAt, workedCount};
+ghost use Rattle.model.specs.Areas.{layout, longEnough, goodPlace, emptyPlace, goodArea, goodStamps, goodWorked, goodForm, stampAt, workedAt};
 ghost use Rattle.nodes.specs.Nodes.{Narrow};
 ghost use Rattle.areas.specs.Lent.{lent, countsFrom};
 use rows::STRIDE;
@@ -82,7 +82,9 @@ fn empty_place(area: &[u32], i: usize, count: usize) -> bool
 // Whether the place with number i is of good form, in a network of n nodes.
 fn good_node(area: &[u32], widths: &[usize], n: usize, head: &[u32], first: usize, i: usize) -> bool
     requires { ⌜ (i < 32) × (8192 ≤ length (now area)) × (n ≤ length (now widths)) × Narrow (now widths) × (162 ≤ length (now head)) × (first ≤ 130) ⌝ }
-    ensures { λ r. ⌜ r ≡ cond (ltb i n) (goodPlace layout (getD (now (widths .entry)) i 0) (countsFrom (now (head .entry)) first i) (now (area .entry)) i) (emptyPlace layout (countsFrom (now (head .entry)) first i) (now (area .entry)) i) ⌝ }
+    ensures { λ r. ⌜ r ≡ cond (ltb i n)
+        (goodPlace layout (getD (now (widths .entry)) i 0) (countsFrom (now (head .entry)) first i) (now (area .entry)) i)
+        (emptyPlace layout (countsFrom (now (head .entry)) first i) (now (area .entry)) i) ⌝ }
 {
     let count = head[first + i] as usize;
     if i < n {
@@ -175,7 +177,8 @@ pub fn good_form(
     head: &[u32],
 ) -> bool
     requires { ⌜ (n ≤ length (now widths)) × Narrow (now widths) × (longEnough layout (lent (now rows) (now gained) (now lost) (now head)) ≡ true) ⌝ }
-    ensures { λ r. ⌜ ((nodes : List Node) → take n (now (widths .entry)) ≡ Rattle.model.specs.Network.widths nodes → r ≡ goodForm layout nodes (lent (now (rows .entry)) (now (gained .entry)) (now (lost .entry)) (now (head .entry)))) ⌝ }
+    ensures { λ r. ⌜ ((nodes : List Node) → take n (now (widths .entry)) ≡ Rattle.model.specs.Network.widths nodes →
+        r ≡ goodForm layout nodes (lent (now (rows .entry)) (now (gained .entry)) (now (lost .entry)) (now (head .entry)))) ⌝ }
 {
     if !good_area(rows, widths, n, head, COUNTS) {
         return false;

@@ -121,7 +121,8 @@ module _ (net : Bytes) (answer : List ℕ) (x : ReadAnswer) (is : x ≡ readCall
   verdict-is = ap (λ (t : Bool). cond t (refused 1 0) (readCall net .verdict)) (le-ltb (length answer) 97 h)
 
   after-is : (t : Bool) → isAccepted (readCall net .verdict) ≡ t → readAfter net answer ≡ cond t (readWords (readCall net) ++ drop 97 answer) answer
-  after-is t e = ap (λ (v : Verdict). cond (isAccepted v) (readWords (readCall net) ++ drop 97 answer) answer) verdict-is ∙ ap (λ (b : Bool). cond b (readWords (readCall net) ++ drop 97 answer) answer) e
+  after-is t e = ap (λ (v : Verdict). cond (isAccepted v) (readWords (readCall net) ++ drop 97 answer) answer) verdict-is
+      ∙ ap (λ (b : Bool). cond b (readWords (readCall net) ++ drop 97 answer) answer) e
 
   answered : (r : ℕ) → Answers (x .verdict) 0 r → Answers (readVerdict net answer) 0 r
   answered r e = subst (λ (v : Verdict). Answers v 0 r) (ap (λ (y : ReadAnswer). y .verdict) is ∙ sym verdict-is) e
@@ -151,5 +152,6 @@ module _ (net : Bytes) (answer : List ℕ) (x : ReadAnswer) (is : x ≡ readCall
       let s3 : a3 ≡ sets answer 0 ((x .count ∷ []) ++ x .kinds ++ x .widths) = sets-more answer a2 a3 0 33 ((x .count ∷ []) ++ x .kinds) (x .widths) s2 (omega (arith, n2)) e3 in
       let s4 : a4 ≡ sets answer 0 (readWords x) = sets-more answer a3 a4 0 65 ((x .count ∷ []) ++ x .kinds ++ x .widths) (x .levels) s3 (omega (arith, n3)) e4 in (
         answered r (subst (λ (v : Verdict). Answers v 0 r) (sym (verdict-accepted z)) e),
-        s4 ∙ sets-first answer (readWords x) (rw n4 h) ∙ ap (λ (k : ℕ). readWords x ++ drop k answer) n4 ∙ ap (λ (y : ReadAnswer). readWords y ++ drop 97 answer) is ∙ sym (after-is true yes),
+        s4 ∙ sets-first answer (readWords x) (rw n4 h) ∙ ap (λ (k : ℕ). readWords x ++ drop k answer) n4 ∙ ap (λ (y : ReadAnswer). readWords y ++ drop 97 answer) is
+            ∙ sym (after-is true yes),
       )

@@ -114,12 +114,14 @@ pub extern "C" fn bagwezin_report(
 ) -> u64
     ensures answers { λ r. ⌜
         AnswersReport
-        (reportCall (now (net .entry)) node (lent (now (rows .entry)) (now (gained .entry)) (now (lost .entry)) (now (head .entry))) (now (out .entry)))
+        (reportCall (now (net .entry)) node (lent (now (rows .entry)) (now (gained .entry)) (now (lost .entry)) (now (head .entry)))
+        (now (out .entry)))
         r
         ⌝ }
     ensures bytes { λ _. ⌜
         now (out .exit)
-        ≡ reportCall (now (net .entry)) node (lent (now (rows .entry)) (now (gained .entry)) (now (lost .entry)) (now (head .entry))) (now (out .entry)) .out
+        ≡ reportCall (now (net .entry)) node (lent (now (rows .entry)) (now (gained .entry)) (now (lost .entry)) (now (head .entry)))
+        (now (out .entry)) .out
         ⌝ }
 {
     let v = monitor::report(net, node as usize, rows, gained, lost, head, out);

@@ -101,17 +101,21 @@ module _ (net : Network) (bs : Bytes) (rows gained lost head : List ℕ) (can : 
 
   -- ---- 9 to 13
 
-  refused-early : (v : Verdict) → st ≡ refusedStep v s → isAccepted v ≡ false → within 9 13 (v .number) ≡ true → AppliedTo net bs (lent rows gained lost head) (record { verdict = v; areas = lent rows gained lost head })
+  refused-early : (v : Verdict) → st ≡ refusedStep v s → isAccepted v ≡ false → within 9 13 (v .number) ≡ true →
+      AppliedTo net bs (lent rows gained lost head) (record { verdict = v; areas = lent rows gained lost head })
   refused-early v e n w =
       subst (λ (x : Step). Keeps (promiseOf (nodesOf net) (lent rows gained lost head) x) (lent rows gained lost head) (record { verdict = v; areas = lent rows gained lost head })) (sym e)
-      (settles (nodesOf net) (lent rows gained lost head) (refusedStep v s) (coherent layout (nodesOf net) (lent rows gained lost head)) refl (ap (λ (t : Bool). coherent layout (nodesOf net) (lent rows gained lost head) || t) w ∙ or-last (coherent layout (nodesOf net) (lent rows gained lost head))) (record { verdict = v; areas = lent rows gained lost head })
+      (settles (nodesOf net) (lent rows gained lost head) (refusedStep v s) (coherent layout (nodesOf net) (lent rows gained lost head)) refl
+      (ap (λ (t : Bool). coherent layout (nodesOf net) (lent rows gained lost head) || t) w ∙ or-last (coherent layout (nodesOf net) (lent rows gained lost head)))
+      (record { verdict = v; areas = lent rows gained lost head })
       (sym (result-refused (nodesOf net) (lent rows gained lost head) (refusedStep v s) n)))
 
   pub last-refused : batchNumber head ≡ lastNumber → AppliedTo net bs (lent rows gained lost head) (record { verdict = refused 9 0; areas = lent rows gained lost head })
   unfolding step stateIn
   last-refused e = refused-early (refused 9 0) (rw (eq-eqb (batchNumber head) lastNumber e) refl) refl refl
 
-  pub read-refused : (batchNumber head ≡ lastNumber → ⊥) → (v : Verdict) → v ≡ readBatch (nodesOf net) bs .verdict → isAccepted v ≡ false → AppliedTo net bs (lent rows gained lost head) (record { verdict = v; areas = lent rows gained lost head })
+  pub read-refused : (batchNumber head ≡ lastNumber → ⊥) → (v : Verdict) → v ≡ readBatch (nodesOf net) bs .verdict → isAccepted v ≡ false →
+      AppliedTo net bs (lent rows gained lost head) (record { verdict = v; areas = lent rows gained lost head })
   unfolding step stateIn
   read-refused n v e r =
       let no : isAccepted (readBatch (nodesOf net) bs .verdict) ≡ false = ap isAccepted (sym e) ∙ r in
@@ -151,7 +155,8 @@ module _ (net : Network) (bs : Bytes) (rows gained lost head : List ℕ) (can : 
     -- coherent areas hold the fresh evaluation of their tables
     old-fresh : coherent layout (nodesOf net) (lent rows gained lost head) ≡ true → rowsHeld net rows head ≡ evaluate (nodesOf net) (tablesOf (nodesOf net) (rowsHeld net rows head))
     unfolding coherent rowsIn
-    old-fresh c = same-eq (rowsHeld net rows head) (evaluate (nodesOf net) (tablesOf (nodesOf net) (rowsHeld net rows head))) (and-second (goodForm layout (nodesOf net) a) (sameRelations (rowsHeld net rows head) (evaluate (nodesOf net) (tablesOf (nodesOf net) (rowsHeld net rows head)))) c)
+    old-fresh c = same-eq (rowsHeld net rows head) (evaluate (nodesOf net) (tablesOf (nodesOf net) (rowsHeld net rows head)))
+        (and-second (goodForm layout (nodesOf net) a) (sameRelations (rowsHeld net rows head) (evaluate (nodesOf net) (tablesOf (nodesOf net) (rowsHeld net rows head)))) c)
 
     now-fresh : coherent layout (nodesOf net) (lent rows gained lost head) ≡ true → newRows net rows head bs ≡ evaluate (nodesOf net) (tablesAfter net rows head bs)
     now-fresh c = new-fresh (nodesOf net) fit (rowsHeld net rows head) (tablesAfter net rows head bs) (tablesOf (nodesOf net) (rowsHeld net rows head)) (old-fresh c)
@@ -206,7 +211,8 @@ module _ (net : Network) (bs : Bytes) (rows gained lost head : List ℕ) (can : 
       unfolding stateIn
       stamps-many =
           let earlier : length (map (stampAt head) (numbersBelow (length (nodesOf net)))) ≡ length (nodesOf net) = length-counted (stampAt head) 0 (length (nodesOf net)) in
-          rw (stamps-length (batchNumber head + 1) (next .changes) (map (stampAt head) (numbersBelow (length (nodesOf net)))) (changes-many ∙ sym (earlier ∙ nodes-count net (can .checkable .built))) ∙ earlier ∙ nodes-count net (can .checkable .built)) few
+          rw (stamps-length (batchNumber head + 1) (next .changes) (map (stampAt head) (numbersBelow (length (nodesOf net))))
+          (changes-many ∙ sym (earlier ∙ nodes-count net (can .checkable .built))) ∙ earlier ∙ nodes-count net (can .checkable .built)) few
 
       head-words : length (headOf (newRows net rows head bs) next) ≡ 162
       head-words =
@@ -217,8 +223,10 @@ module _ (net : Network) (bs : Bytes) (rows gained lost head : List ℕ) (can : 
       keeps-rest : KeepsRest layout (lent rows gained lost head) (holdingRows (newRows net rows head bs) next (lent rows gained lost head))
       keeps-rest =
           let r : length (areaOf layout (newRows net rows head bs)) ≡ 8192 = area-length (widths (nodesOf net)) (newRows net rows head bs) fits in
-          let g : length (areaOf layout (map (λ c. c .gained) (next .changes))) ≡ 8192 = area-length (widths (nodesOf net)) (map (λ c. c .gained) (next .changes)) (gained-fit net rows gained lost head work counts changed worked-out) in
-          let l : length (areaOf layout (map (λ c. c .lost) (next .changes))) ≡ 8192 = area-length (widths (nodesOf net)) (map (λ c. c .lost) (next .changes)) (lost-fit net rows gained lost head work counts changed worked-out) in
+          let g : length (areaOf layout (map (λ c. c .gained) (next .changes))) ≡ 8192 = area-length (widths (nodesOf net)) (map (λ c. c .gained) (next .changes))
+          (gained-fit net rows gained lost head work counts changed worked-out) in
+          let l : length (areaOf layout (map (λ c. c .lost) (next .changes))) ≡ 8192 = area-length (widths (nodesOf net)) (map (λ c. c .lost) (next .changes))
+          (lost-fit net rows gained lost head work counts changed worked-out) in
           record {
             rows-length = over-length (areaOf layout (newRows net rows head bs)) rows (rw r (longs .0));
             rows = over-rest (areaOf layout (newRows net rows head bs)) rows 8192 r;
@@ -231,7 +239,8 @@ module _ (net : Network) (bs : Bytes) (rows gained lost head : List ℕ) (can : 
           }
 
       -- from coherent areas they hold the plain station's next state
-      held : coherent layout (nodesOf net) (lent rows gained lost head) ≡ true → holdingRows (newRows net rows head bs) next (lent rows gained lost head) ≡ holding layout (nodesOf net) (advance (nodesOf net) s (tablesAfter net rows head bs)) (lent rows gained lost head)
+      held : coherent layout (nodesOf net) (lent rows gained lost head) ≡ true → holdingRows (newRows net rows head bs) next (lent rows gained lost head)
+          ≡ holding layout (nodesOf net) (advance (nodesOf net) s (tablesAfter net rows head bs)) (lent rows gained lost head)
       unfolding holding advance stateIn rowsIn
       held c =
           ap₂ {A = List Relation} {B = List Relation} {C = Areas} (λ x y. holdingRows y (nextState (nodesOf net) s (tablesAfter net rows head bs) x y) a) (old-fresh c) (now-fresh c)
@@ -240,10 +249,16 @@ module _ (net : Network) (bs : Bytes) (rows gained lost head : List ℕ) (can : 
           AppliedTo net bs (lent rows gained lost head) (record { verdict = v; areas = after })
       accepted-kept v after f e = rw (f, e) (go (coherent layout (nodesOf net) a) refl)
         where
-          go : (t : Bool) → coherent layout (nodesOf net) a ≡ t → AppliedTo net bs (lent rows gained lost head) (record { verdict = accepted; areas = holdingRows (newRows net rows head bs) next (lent rows gained lost head) })
+          go : (t : Bool) → coherent layout (nodesOf net) a ≡ t →
+              AppliedTo net bs (lent rows gained lost head) (record { verdict = accepted; areas = holdingRows (newRows net rows head bs) next (lent rows gained lost head) })
           go true c =
               let list : overfull 0 (evaluate (nodesOf net) (tablesAfter net rows head bs)) ≡ [] = ap (overfull 0) (sym (now-fresh c)) ∙ under in
-              let is : st ≡ record { verdict = accepted; state = advance (nodesOf net) s (tablesAfter net rows head bs) } = step-is ∙ ap (limit (nodesOf net) s (tablesAfter net rows head bs)) list ∙ limit-under (nodesOf net) s (tablesAfter net rows head bs) in
-              settles (nodesOf net) (lent rows gained lost head) st true c refl (record { verdict = accepted; areas = holdingRows (newRows net rows head bs) next (lent rows gained lost head) })
-              (ap (λ (x : Areas). record { verdict = accepted; areas = x }) (held c) ∙ sym (ap (resultOf (nodesOf net) (lent rows gained lost head)) is ∙ result-accepted (nodesOf net) (lent rows gained lost head) (record { verdict = accepted; state = advance (nodesOf net) s (tablesAfter net rows head bs) }) refl))
-          go false c = frees (nodesOf net) (lent rows gained lost head) st c number-free (record { verdict = accepted; areas = holdingRows (newRows net rows head bs) next (lent rows gained lost head) }) (freelyAccepted refl keeps-rest)
+              let is : st ≡ record { verdict = accepted; state = advance (nodesOf net) s (tablesAfter net rows head bs) } = step-is
+              ∙ ap (limit (nodesOf net) s (tablesAfter net rows head bs)) list ∙ limit-under (nodesOf net) s (tablesAfter net rows head bs) in
+              settles (nodesOf net) (lent rows gained lost head) st true c refl
+              (record { verdict = accepted; areas = holdingRows (newRows net rows head bs) next (lent rows gained lost head) })
+              (ap (λ (x : Areas). record { verdict = accepted; areas = x }) (held c)
+              ∙ sym (ap (resultOf (nodesOf net) (lent rows gained lost head)) is ∙ result-accepted (nodesOf net) (lent rows gained lost head)
+              (record { verdict = accepted; state = advance (nodesOf net) s (tablesAfter net rows head bs) }) refl))
+          go false c = frees (nodesOf net) (lent rows gained lost head) st c number-free
+              (record { verdict = accepted; areas = holdingRows (newRows net rows head bs) next (lent rows gained lost head) }) (freelyAccepted refl keeps-rest)

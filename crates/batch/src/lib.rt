@@ -1,7 +1,4 @@
 // A batch on areas of good form: refusals 9 to 14, or the next state.
-ghost use mathlib.Core.Path.{_≡_};
-ghost use mathlib.Core.Bool.{Bool, true, false};
-ghost use Prim.Native.Nat.{ℕ};
 ghost use Rattle.areas.specs.Lent.{lent};
 ghost use Rattle.batch.specs.Applying.{Applicable, AppliedTo, Unrefused, resultWith};
 use areas::AREA;
@@ -23,7 +20,8 @@ fn advance(
     head: &mut [u32],
 ) -> Verdict
     requires { ⌜ Applicable net (lent (now rows) (now gained) (now lost) (now head)) × Unrefused net (now bytes) (now head) ⌝ }
-    ensures { λ r. ⌜ AppliedTo net (now (bytes .entry)) (lent (now (rows .entry)) (now (gained .entry)) (now (lost .entry)) (now (head .entry))) (resultWith r (lent (now (rows .exit)) (now (gained .exit)) (now (lost .exit)) (now (head .exit)))) ⌝ }
+    ensures { λ r. ⌜ AppliedTo net (now (bytes .entry)) (lent (now (rows .entry)) (now (gained .entry)) (now (lost .entry)) (now (head .entry)))
+        (resultWith r (lent (now (rows .exit)) (now (gained .exit)) (now (lost .exit)) (now (head .exit)))) ⌝ }
 {
     let mut work = [0u32; AREA];
     let mut counts = [0u32; NODES];
@@ -46,7 +44,8 @@ pub fn apply_batch(
     head: &mut [u32],
 ) -> Verdict
     requires { ⌜ Applicable net (lent (now rows) (now gained) (now lost) (now head)) ⌝ }
-    ensures { λ r. ⌜ AppliedTo net (now (bytes .entry)) (lent (now (rows .entry)) (now (gained .entry)) (now (lost .entry)) (now (head .entry))) (resultWith r (lent (now (rows .exit)) (now (gained .exit)) (now (lost .exit)) (now (head .exit)))) ⌝ }
+    ensures { λ r. ⌜ AppliedTo net (now (bytes .entry)) (lent (now (rows .entry)) (now (gained .entry)) (now (lost .entry)) (now (head .entry)))
+        (resultWith r (lent (now (rows .exit)) (now (gained .exit)) (now (lost .exit)) (now (head .exit)))) ⌝ }
 {
     if head[0] == LAST {
         return Verdict {

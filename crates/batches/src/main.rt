@@ -1,5 +1,5 @@
 // Runs a script of batches from standard input and prints what each call gave.
-ghost use Prim.Native.Nat.{ℕ, _≤_};
+ghost use Prim.Native.Nat.{_≤_};
 ghost use lib.ListN.{length};
 ghost use Rattle.model.specs.Text.{bytesBetween};
 ghost use Rattle.model.specs.Calls.{Applied};
@@ -30,7 +30,9 @@ fn apply_part(
     head: &mut [u32],
 ) -> Verdict
     requires { ⌜ (from ≤ to) × (to ≤ length (now script)) × (start ≤ end) × (end ≤ length (now script)) ⌝ }
-    ensures { λ r. ⌜ Applied (bytesBetween (now (script .entry)) from to) (bytesBetween (now (script .entry)) start end) (lent (now (rows .entry)) (now (gained .entry)) (now (lost .entry)) (now (head .entry))) (resultWith r (lent (now (rows .exit)) (now (gained .exit)) (now (lost .exit)) (now (head .exit)))) ⌝ }
+    ensures { λ r. ⌜ Applied (bytesBetween (now (script .entry)) from to) (bytesBetween (now (script .entry)) start end)
+        (lent (now (rows .entry)) (now (gained .entry)) (now (lost .entry)) (now (head .entry)))
+        (resultWith r (lent (now (rows .exit)) (now (gained .exit)) (now (lost .exit)) (now (head .exit)))) ⌝ }
 {
     monitor::apply(
         &script[from..to],

@@ -42,15 +42,18 @@ fewer ws n m rows head h p =
 -- rows of one width and count with the same words are the same
 pub words-rows-same : (w : ℕ) (a b : Relation) → w ≤ 4 → Wide w a → Wide w b → length a ≤ 64 → length a ≡ length b → placeOf layout a ≡ placeOf layout b → a ≡ b
 words-rows-same w a b h wa wb few size e =
-    let read : (r : Relation) → Wide w r → length r ≤ 64 → map (take w) (firstRows (placeOf layout r) (length r)) ≡ r = λ r wr f. ap (map (take w)) (placed-rows w r h wr f) ∙ unpadded 4 w r wr in
+    let read : (r : Relation) → Wide w r → length r ≤ 64 → map (take w) (firstRows (placeOf layout r) (length r)) ≡ r = λ r wr f. ap (map (take w)) (placed-rows w r h wr f)
+    ∙ unpadded 4 w r wr in
     sym (read a wa few)
     ∙ ap₂ {A = List ℕ} {B = ℕ} {C = Relation} (λ s n. map (take w) (firstRows s n)) e size
     ∙ read b wb (rw (← size) few)
 
 -- two places with the rows of one width: the words are the same exactly if the rows are
-pub places-decide : (w : ℕ) (a b : Relation) (x y : List ℕ) → w ≤ 4 → Wide w a → Wide w b → length a ≤ 64 → length a ≡ length b → x ≡ placeOf layout a → y ≡ placeOf layout b → sameFirst 256 x y ≡ sameRows a b
+pub places-decide : (w : ℕ) (a b : Relation) (x y : List ℕ) → w ≤ 4 → Wide w a → Wide w b → length a ≤ 64 → length a ≡ length b → x ≡ placeOf layout a → y ≡ placeOf layout b →
+    sameFirst 256 x y ≡ sameRows a b
 places-decide w a b x y narrow wa wb few size ex ey =
-    let whole : (r : Relation) (s : List ℕ) → Wide w r → length r ≤ 64 → s ≡ placeOf layout r → take 256 s ≡ s = λ r s wr f e. take-all 256 s (rw (ap length e ∙ place-length w r narrow wr f) (le-refl 256)) in
+    let whole : (r : Relation) (s : List ℕ) → Wide w r → length r ≤ 64 → s ≡ placeOf layout r →
+    take 256 s ≡ s = λ r s wr f e. take-all 256 s (rw (ap length e ∙ place-length w r narrow wr f) (le-refl 256)) in
     let first : take 256 x ≡ x = whole a x wa few ex in
     let second : take 256 y ≡ y = whole b y wb (rw (← size) few) ey in
     bool-same (sameFirst 256 x y) (sameRows a b)
@@ -79,20 +82,24 @@ module _ (slot : Slot) (ws rows head : List ℕ) (i : ℕ) (p : Places ws (i + 1
   wide-given : Wide (getD ws i 0) (givenAt slot ws head rows)
   wide-given =
       rw (d .width ∙ width-on (slotNode slot) ws (d .derived))
-      (on-wide (getD ws (leftOf (slotNode slot)) 0) (getD ws (rightOf (slotNode slot)) 0) (slotNode slot) (heldAt ws head rows (leftOf (slotNode slot))) (heldAt ws head rows (rightOf (slotNode slot))) (d .derived) (d .fits)
+      (on-wide (getD ws (leftOf (slotNode slot)) 0) (getD ws (rightOf (slotNode slot)) 0) (slotNode slot) (heldAt ws head rows (leftOf (slotNode slot)))
+      (heldAt ws head rows (rightOf (slotNode slot))) (d .derived) (d .fits)
       (held-wide layout (getD ws (leftOf (slotNode slot)) 0) (rowCount head (leftOf (slotNode slot))) rows (leftOf (slotNode slot)))
       (held-wide layout (getD ws (rightOf (slotNode slot)) 0) (rowCount head (rightOf (slotNode slot))) rows (rightOf (slotNode slot))))
 
   -- another count: other rows
-  pub count-differs : (out : List ℕ) (count : ℕ) → Fills (givenAt slot ws head rows) out count → (rowCount head i ≡ count → ⊥) → sameRows (heldAt ws head rows i) (givenAt slot ws head rows) ≡ false
-  count-differs out count f e = sizes-differ (heldAt ws head rows i) (givenAt slot ws head rows) (λ g. e (sym (length-held layout (getD ws i 0) (rowCount head i) rows i) ∙ g ∙ sym (f .count)))
+  pub count-differs : (out : List ℕ) (count : ℕ) → Fills (givenAt slot ws head rows) out count → (rowCount head i ≡ count → ⊥) → sameRows (heldAt ws head rows i) (givenAt slot ws head rows)
+      ≡ false
+  count-differs out count f e = sizes-differ (heldAt ws head rows i) (givenAt slot ws head rows)
+      (λ g. e (sym (length-held layout (getD ws i 0) (rowCount head i) rows i) ∙ g ∙ sym (f .count)))
 
   -- too many: other rows
   pub over-differs : 64 < length (givenAt slot ws head rows) → sameRows (heldAt ws head rows i) (givenAt slot ws head rows) ≡ false
   over-differs o = sizes-differ (heldAt ws head rows i) (givenAt slot ws head rows) (λ g. absurd (omega (arith, o, g, rows-few ws (i + 1) rows head p i here)))
 
   -- the same count: the same rows exactly if the words are the same
-  pub words-decide : (out : List ℕ) (count : ℕ) → Fills (givenAt slot ws head rows) out count → rowCount head i ≡ count → sameFirst 256 (placeAt rows i) out ≡ sameRows (heldAt ws head rows i) (givenAt slot ws head rows)
+  pub words-decide : (out : List ℕ) (count : ℕ) → Fills (givenAt slot ws head rows) out count → rowCount head i ≡ count → sameFirst 256 (placeAt rows i) out
+      ≡ sameRows (heldAt ws head rows i) (givenAt slot ws head rows)
   words-decide out count f e =
       places-decide (getD ws i 0) (heldAt ws head rows i) (givenAt slot ws head rows) (placeAt rows i) out (p .narrow i) wide-held wide-given (rows-few ws (i + 1) rows head p i here)
       (length-held layout (getD ws i 0) (rowCount head i) rows i ∙ e ∙ f .count) (words-at ws (i + 1) rows head p i here) (f .is)

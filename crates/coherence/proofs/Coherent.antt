@@ -41,7 +41,8 @@ getD-map (x ∷ l) (suc i) h = getD-map l i (le-of-suc-le-suc h)
 -- the relation of a node among those of an area
 pub relation-at : (ws : List ℕ) (count : ℕ → ℕ) (area : List ℕ) (i : ℕ) → i < length ws → getD (relationsIn layout ws count area) i [] ≡ heldIn layout (getD ws i 0) (count i) area i
 unfolding relationsIn
-relation-at ws count area i h = counted-at [] (λ j. heldIn layout (getD ws j 0) (count j) area j) 0 (length ws) i h ∙ ap (λ (j : ℕ). heldIn layout (getD ws j 0) (count j) area j) (zero-add i)
+relation-at ws count area i h = counted-at [] (λ j. heldIn layout (getD ws j 0) (count j) area j) 0 (length ws) i h ∙ ap (λ (j : ℕ). heldIn layout (getD ws j 0) (count j) area j)
+    (zero-add i)
 
 pub relations-length : (ws : List ℕ) (count : ℕ → ℕ) (area : List ℕ) → length (relationsIn layout ws count area) ≡ length ws
 unfolding relationsIn
@@ -68,7 +69,8 @@ module _ (net : Network) (b : Built net) where
       go false e = rw (List·getD-eq-default (widths (nodesOf net)) 0 {n = i} (rw (length-widths (nodesOf net), nodes-count) (ltb-false i (net .count) e))) zero-le
 
   -- a node's level is 0 exactly if it is a table
-  pub level-at : (i : ℕ) → i < net .count → getD (net .levels) i 0 ≡ cond (isTable (slotNode (getD (net .slots) i noSlot))) 0 (suc (highest (take i (levels (nodesOf net))) (inputsOf (slotNode (getD (net .slots) i noSlot)))))
+  pub level-at : (i : ℕ) → i < net .count → getD (net .levels) i 0
+      ≡ cond (isTable (slotNode (getD (net .slots) i noSlot))) 0 (suc (highest (take i (levels (nodesOf net))) (inputsOf (slotNode (getD (net .slots) i noSlot)))))
   unfolding levels
   level-at i h =
       let k : i < length (nodesOf net) = rw (nodes-count) h in
@@ -88,9 +90,11 @@ module _ (net : Network) (b : Built net) (fit : AllFit (nodesOf net)) where
       let before : (leftOf (nodeAt (nodesOf net) i) < i) × (rightOf (nodeAt (nodesOf net) i) < i) = inputs-before (nodesOf net) fit i k e′ in
       let left : leftOf (slotNode (getD (net .slots) i noSlot)) < i = rw node at (before .0) in
       let right : rightOf (slotNode (getD (net .slots) i noSlot)) < i = rw node at (before .1) in
-      let columns : fitsOn (getD (widths (nodesOf net)) (leftOf (slotNode (getD (net .slots) i noSlot))) 0) (getD (widths (nodesOf net)) (rightOf (slotNode (getD (net .slots) i noSlot))) 0) (slotNode (getD (net .slots) i noSlot)) ≡ true =
+      let columns : fitsOn (getD (widths (nodesOf net)) (leftOf (slotNode (getD (net .slots) i noSlot))) 0) (getD (widths (nodesOf net)) (rightOf (slotNode (getD (net .slots) i noSlot))) 0)
+      (slotNode (getD (net .slots) i noSlot)) ≡ true =
       rw node at (columns-fit (nodesOf net) fit i k e′) in
-      let width : getD (widths (nodesOf net)) i 0 ≡ widthOn (getD (widths (nodesOf net)) (leftOf (slotNode (getD (net .slots) i noSlot))) 0) (slotNode (getD (net .slots) i noSlot)) = rw node at (width-at (nodesOf net) fit i k e′) in
+      let width : getD (widths (nodesOf net)) i 0 ≡ widthOn (getD (widths (nodesOf net)) (leftOf (slotNode (getD (net .slots) i noSlot))) 0) (slotNode (getD (net .slots) i noSlot)) = rw node
+      at (width-at (nodesOf net) fit i k e′) in
       record {
         shaped = b .shaped i h;
         derived = e;
@@ -141,7 +145,14 @@ module _ (net : Network) (b : Built net) (fit : AllFit (nodesOf net)) where
         go true e = rw (node, e)
         go false e =
             let d : Derived (getD (net .slots) i noSlot) (net .widths) i = derived-at i h e in
-            rw (node, e, rows-held i h, rows-held (leftOf (slotNode (getD (net .slots) i noSlot))) (omega (arith, d .left)), rows-held (rightOf (slotNode (getD (net .slots) i noSlot))) (omega (arith, d .right)))
+            rw (
+              node,
+              e,
+              rows-held i h,
+              rows-held (leftOf (slotNode (getD (net .slots) i noSlot))) (omega (arith, d .left)),
+              rows-held (rightOf (slotNode (getD (net .slots) i noSlot)))
+                  (omega (arith, d .right)),
+            )
 
     pub coherent-is : allOf agreesHere (numbersBelow (net .count)) ≡ freshIn net rows head
     coherent-is =

@@ -23,7 +23,9 @@ module _ (ws : List ℕ) (n : ℕ) (rows head : List ℕ) (p : Places ws n rows 
   few-rows : rowCount head j ≤ 64
   unfolding goodPlace
   few-rows =
-      leb-true (rowCount head j) 64 (and-first (leb (rowCount head j) 64) (ascending (heldAt ws head rows j)) (and-first (leb (rowCount head j) 64 && ascending (heldAt ws head rows j)) (unusedZero layout (getD ws j 0) (rowCount head j) rows j) (p .good j h)))
+      leb-true (rowCount head j) 64
+      (and-first (leb (rowCount head j) 64) (ascending (heldAt ws head rows j))
+      (and-first (leb (rowCount head j) 64 && ascending (heldAt ws head rows j)) (unusedZero layout (getD ws j 0) (rowCount head j) rows j) (p .good j h)))
 
   inside : 256 * j + 256 ≤ length rows
   inside = omega (arith, p .few, p .rows-long)

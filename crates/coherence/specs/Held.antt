@@ -2,12 +2,12 @@
 use mathlib.Core.Path.{_≡_}
 use mathlib.Core.Bool.{Bool, true, false, cond}
 use mathlib.Core.List.{List}
-use Prim.Native.Nat.{ℕ, _+_, _≤_, _<_}
+use Prim.Native.Nat.{ℕ, _≤_, _<_}
 use lib.ListN.{getD, length}
 use Rattle.model.specs.Row.{Relation, sameRows}
-use Rattle.model.specs.Areas.{layout, heldIn, goodPlace, rowCount, Areas, relationsIn, sameRelations, tablesOf}
+use Rattle.model.specs.Areas.{layout, heldIn, goodPlace, rowCount, relationsIn, sameRelations, tablesOf}
 use Rattle.nodes.specs.Nodes.{Narrow}
-use Rattle.network.specs.Reading.{slotNode, Shaped, nodesOf, Built, noSlot}
+use Rattle.network.specs.Reading.{slotNode, Shaped, nodesOf, Built}
 use Rattle.network.specs.declared.Slot.{Slot}
 use Rattle.network.specs.declared.Network.{Network}
 use Rattle.evaluation.specs.Derived.{leftOf, rightOf, evaluateOn, fitsOn}

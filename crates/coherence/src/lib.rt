@@ -1,16 +1,13 @@
 // Coherence: each derived node's rows in the areas are what its kind gives from its inputs' rows.
 ghost use mathlib.Core.Path.{_≡_};
-ghost use mathlib.Core.Bool.{Bool, true, false};
-ghost use mathlib.Core.List.{List};
-ghost use Prim.Native.Nat.{ℕ, _+_, _≤_, _<_};
-ghost use lib.ListN.{length, getD, replicate};
+ghost use mathlib.Core.Bool.{true, false};
+ghost use Prim.Native.Nat.{_+_, _≤_, _<_};
+ghost use lib.ListN.{length, getD};
 ghost use Rattle.model.specs.Row.{sameRows};
-ghost use Rattle.model.specs.Network.{AllFit, isTable};
-ghost use Rattle.model.specs.Evaluation.{evaluate};
-ghost use Rattle.model.specs.Areas.{layout, rowCount, goodForm, coherent};
-ghost use Rattle.network.specs.Reading.{slotNode, nodesOf, Built};
-ghost use Rattle.algebra.specs.Places.{Blank, Makes, relationIn};
-ghost use Rattle.areas.specs.Lent.{lent};
+ghost use Rattle.model.specs.Network.{isTable};
+ghost use Rattle.model.specs.Areas.{rowCount, coherent};
+ghost use Rattle.network.specs.Reading.{slotNode};
+ghost use Rattle.algebra.specs.Places.{Blank, Makes};
 ghost use Rattle.coherence.specs.Held.{heldAt, Places, Derived, givenAt, Checkable, slotAgrees, freshIn};
 use algebra::Made;
 use areas::COUNTS;
@@ -60,7 +57,8 @@ fn evaluate_held(
 // Whether a derived node's rows in the area, node i's, are what its kind gives from its inputs' rows there.
 fn rows_agree(slot: Slot, widths: &[usize], rows: &[u32], head: &[u32], i: usize) -> bool
     requires { ⌜ Places (now widths) (i + 1) (now rows) (now head) × Derived slot (now widths) i ⌝ }
-    ensures { λ r. ⌜ r ≡ sameRows (heldAt (now (widths .entry)) (now (head .entry)) (now (rows .entry)) i) (givenAt slot (now (widths .entry)) (now (head .entry)) (now (rows .entry))) ⌝ }
+    ensures { λ r. ⌜ r ≡ sameRows (heldAt (now (widths .entry)) (now (head .entry)) (now (rows .entry)) i)
+        (givenAt slot (now (widths .entry)) (now (head .entry)) (now (rows .entry))) ⌝ }
 {
     let mut out = [0u32; PLACE];
     match evaluate_held(slot, widths, rows, head, i, &mut out) {
@@ -83,7 +81,8 @@ fn node_agrees(
     head: &[u32],
     i: usize,
 ) -> bool
-    requires { ⌜ Places (now widths) (i + 1) (now rows) (now head) × (level ≡ 0 → isTable (slotNode slot) ≡ true) × ((level ≡ 0 → ⊥) → Derived slot (now widths) i) ⌝ }
+    requires { ⌜ Places (now widths) (i + 1) (now rows) (now head) × (level ≡ 0 → isTable (slotNode slot) ≡ true)
+        × ((level ≡ 0 → ⊥) → Derived slot (now widths) i) ⌝ }
     ensures { λ r. ⌜ r ≡ slotAgrees slot (now (widths .entry)) (now (head .entry)) (now (rows .entry)) i ⌝ }
 {
     if level == 0 {

@@ -45,6 +45,7 @@ agrees-at code o h =
     go Ordering·eq e = and-second (agrees code Ordering·lt) (agrees code Ordering·eq) (and-first (agrees code Ordering·lt && agrees code Ordering·eq) (agrees code Ordering·gt) e)
     go Ordering·gt e = and-second (agrees code Ordering·lt && agrees code Ordering·eq) (agrees code Ordering·gt) e
 
-pub truth : (code : ℕ) (o : Ordering) (k : ℕ) → code < 6 → k ≡ 3 * code + outcomeColumn o → eqb (getD (0 ∷ 1 ∷ 0 ∷ 1 ∷ 0 ∷ 1 ∷ 1 ∷ 0 ∷ 0 ∷ 1 ∷ 1 ∷ 0 ∷ 0 ∷ 0 ∷ 1 ∷ 0 ∷ 1 ∷ 1 ∷ []) k 0) 1 ≡ holdsOf code o
+pub truth : (code : ℕ) (o : Ordering) (k : ℕ) → code < 6 → k ≡ 3 * code + outcomeColumn o → eqb (getD (0 ∷ 1 ∷ 0 ∷ 1 ∷ 0 ∷ 1 ∷ 1 ∷ 0 ∷ 0 ∷ 1 ∷ 1 ∷ 0 ∷ 0 ∷ 0 ∷ 1 ∷ 0 ∷ 1 ∷ 1 ∷ []) k 0) 1
+    ≡ holdsOf code o
 unfolding agrees table
 truth code o k h e = rw e (same (eqb (getD table (3 * code + outcomeColumn o) 0) 1) (holdsOf code o) (agrees-at code o h))

@@ -1,6 +1,6 @@
 // Comparisons of two fields, by their codes.
 ghost use mathlib.Core.Path.{_≡_};
-ghost use Prim.Native.Nat.{ℕ, _<_};
+ghost use Prim.Native.Nat.{_<_};
 ghost use Rattle.model.specs.Algebra.{holdsOf};
 ghost use Rattle.rows.specs.Rows.{orderOf};
 use rows::Order;

@@ -8,7 +8,6 @@ use lib.Dec.{eqb}
 use lib.ListN.{length}
 use borrow.Author.Tests.{eq-eqb, ne-eqb}
 use Rattle.model.specs.Record.{Bytes, Verdict, accepted, isAccepted}
-use Rattle.model.specs.Row.{Relation}
 use Rattle.model.specs.Network.{Node, AllFit, nodesIn, readNetwork, within}
 use Rattle.model.specs.Batch.{actAll}
 use Rattle.model.specs.Evaluation.{evaluate}

@@ -33,7 +33,8 @@ same-eq (r ∷ l) [] e = absurd (true≢false (sym e))
 same-eq (r ∷ l) (s ∷ m) e =
     λ i. sameRows-eq r s (and-first (sameRows r s) (sameRelations l m) e) i ∷ same-eq l m (and-second (sameRows r s) (sameRelations l m) e) i
 
-pub tables-at : (nodes : List Node) (rels : List Relation) (j : ℕ) → length rels ≡ length nodes → j < length nodes → rowsAt (tablesOf nodes rels) j ≡ cond (isTable (nodeAt nodes j)) (rowsAt rels j) []
+pub tables-at : (nodes : List Node) (rels : List Relation) (j : ℕ) → length rels ≡ length nodes → j < length nodes → rowsAt (tablesOf nodes rels) j
+    ≡ cond (isTable (nodeAt nodes j)) (rowsAt rels j) []
 unfolding tablesOf zipWith
 tables-at [] rels j e h = absurd (not-suc-le-zero h)
 tables-at (n ∷ nodes) [] j e h = absurd (omega arith)
@@ -59,14 +60,17 @@ module _ (nodes : List Node) (fit : AllFit nodes) where
   pub inputs-before : (j : ℕ) → j < length nodes → isTable (nodeAt nodes j) ≡ false → (leftOf (nodeAt nodes j) < j) × (rightOf (nodeAt nodes j) < j)
   inputs-before j h e =
       let size : length (take j (widths nodes)) ≡ j = length-take-le j (widths nodes) (rw (length-widths nodes) (omega arith)) in
-      let f : (leftOf (nodeAt nodes j) < length (take j (widths nodes))) × (rightOf (nodeAt nodes j) < length (take j (widths nodes))) × (fitsOn (getD (take j (widths nodes)) (leftOf (nodeAt nodes j)) 0) (getD (take j (widths nodes)) (rightOf (nodeAt nodes j)) 0) (nodeAt nodes j) ≡ true) =
+      let f : (leftOf (nodeAt nodes j) < length (take j (widths nodes))) × (rightOf (nodeAt nodes j) < length (take j (widths nodes)))
+      × (fitsOn (getD (take j (widths nodes)) (leftOf (nodeAt nodes j)) 0) (getD (take j (widths nodes)) (rightOf (nodeAt nodes j)) 0) (nodeAt nodes j) ≡ true) =
       inputs-fit (take j (widths nodes)) (nodeAt nodes j) e (fit j h) in
       (omega (arith, f .0, size), omega (arith, f .1, size))
 
-  pub columns-fit : (j : ℕ) → j < length nodes → isTable (nodeAt nodes j) ≡ false → fitsOn (getD (widths nodes) (leftOf (nodeAt nodes j)) 0) (getD (widths nodes) (rightOf (nodeAt nodes j)) 0) (nodeAt nodes j) ≡ true
+  pub columns-fit : (j : ℕ) → j < length nodes → isTable (nodeAt nodes j) ≡ false →
+      fitsOn (getD (widths nodes) (leftOf (nodeAt nodes j)) 0) (getD (widths nodes) (rightOf (nodeAt nodes j)) 0) (nodeAt nodes j) ≡ true
   columns-fit j h e =
       let b : (leftOf (nodeAt nodes j) < j) × (rightOf (nodeAt nodes j) < j) = inputs-before j h e in
-      rw (← getD-take j (widths nodes) (leftOf (nodeAt nodes j)) 0 (b .0), ← getD-take j (widths nodes) (rightOf (nodeAt nodes j)) 0 (b .1)) (inputs-fit (take j (widths nodes)) (nodeAt nodes j) e (fit j h) .2)
+      rw (← getD-take j (widths nodes) (leftOf (nodeAt nodes j)) 0 (b .0), ← getD-take j (widths nodes) (rightOf (nodeAt nodes j)) 0 (b .1))
+      (inputs-fit (take j (widths nodes)) (nodeAt nodes j) e (fit j h) .2)
 
   -- a derived node's width, from that of its first input
   pub width-at : (j : ℕ) → j < length nodes → isTable (nodeAt nodes j) ≡ false → getD (widths nodes) j 0 ≡ widthOn (getD (widths nodes) (leftOf (nodeAt nodes j)) 0) (nodeAt nodes j)
@@ -88,7 +92,8 @@ module _ (nodes : List Node) (fit : AllFit nodes) where
         let b : (leftOf (nodeAt nodes j) < j) × (rightOf (nodeAt nodes j) < j) = inputs-before j h e in
         evaluate-at j nodes tables h
         ∙ on-inputs (nodeAt nodes j) (rowsAt tables j) (take j (evaluate nodes tables)) e
-        ∙ ap₂ {A = Relation} {B = Relation} {C = Relation} (λ x y. evaluateOn (nodeAt nodes j) x y) (getD-take j (evaluate nodes tables) (leftOf (nodeAt nodes j)) [] (b .0)) (getD-take j (evaluate nodes tables) (rightOf (nodeAt nodes j)) [] (b .1))
+        ∙ ap₂ {A = Relation} {B = Relation} {C = Relation} (λ x y. evaluateOn (nodeAt nodes j) x y) (getD-take j (evaluate nodes tables) (leftOf (nodeAt nodes j)) [] (b .0))
+        (getD-take j (evaluate nodes tables) (rightOf (nodeAt nodes j)) [] (b .1))
 
   module _ (rels : List Relation) (size : length rels ≡ length nodes) where
     -- node j is a table, or its rows are what its kind gives
@@ -106,19 +111,23 @@ module _ (nodes : List Node) (fit : AllFit nodes) where
     agreed-to zero g a j h = absurd (not-suc-le-zero h)
     agreed-to (suc k) g a j h = go (isTable (nodeAt nodes j)) refl (agreed-to k (omega arith) a)
       where
-        go : (t : Bool) → isTable (nodeAt nodes j) ≡ t → ((i : ℕ) → i < k → rowsAt rels i ≡ rowsAt (evaluate nodes (tablesOf nodes rels)) i) → rowsAt rels j ≡ rowsAt (evaluate nodes (tablesOf nodes rels)) j
+        go : (t : Bool) → isTable (nodeAt nodes j) ≡ t → ((i : ℕ) → i < k → rowsAt rels i ≡ rowsAt (evaluate nodes (tablesOf nodes rels)) i) →
+            rowsAt rels j ≡ rowsAt (evaluate nodes (tablesOf nodes rels)) j
         go true e ih = sym (fresh-own j (omega arith) e)
         go false e ih =
             let b : (leftOf (nodeAt nodes j) < j) × (rightOf (nodeAt nodes j) < j) = inputs-before j (omega arith) e in
-            let same : sameRows (rowsAt rels j) (givenBy nodes rels j) ≡ true = sym (ap (λ (t : Bool). cond t true (sameRows (rowsAt rels j) (givenBy nodes rels j))) e) ∙ a j (omega arith) in
+            let same : sameRows (rowsAt rels j) (givenBy nodes rels j) ≡ true = sym (ap (λ (t : Bool). cond t true (sameRows (rowsAt rels j) (givenBy nodes rels j))) e)
+            ∙ a j (omega arith) in
             sameRows-eq (rowsAt rels j) (givenBy nodes rels j) same
-            ∙ ap₂ {A = Relation} {B = Relation} {C = Relation} (λ x y. evaluateOn (nodeAt nodes j) x y) (ih (leftOf (nodeAt nodes j)) (omega (arith, b .0))) (ih (rightOf (nodeAt nodes j)) (omega (arith, b .1)))
+            ∙ ap₂ {A = Relation} {B = Relation} {C = Relation} (λ x y. evaluateOn (nodeAt nodes j) x y) (ih (leftOf (nodeAt nodes j)) (omega (arith, b .0)))
+            (ih (rightOf (nodeAt nodes j)) (omega (arith, b .1)))
             ∙ sym (fresh-derived (tablesOf nodes rels) j (omega arith) e)
 
     all-agree : ((j : ℕ) → j < length nodes → agreesAt j ≡ true) → sameRelations rels (evaluate nodes (tablesOf nodes rels)) ≡ true
     all-agree a =
         let same : rels ≡ evaluate nodes (tablesOf nodes rels) =
-        ext-getD [] rels (evaluate nodes (tablesOf nodes rels)) (size ∙ sym (length-evaluate nodes (tablesOf nodes rels))) (λ j h. agreed-to (length nodes) (le-refl (length nodes)) a j (rw (← size) h)) in
+        ext-getD [] rels (evaluate nodes (tablesOf nodes rels)) (size ∙ sym (length-evaluate nodes (tablesOf nodes rels)))
+        (λ j h. agreed-to (length nodes) (le-refl (length nodes)) a j (rw (← size) h)) in
         ap (sameRelations rels) (sym same) ∙ same-refl rels
 
     fresh-agree : sameRelations rels (evaluate nodes (tablesOf nodes rels)) ≡ true → (j : ℕ) → j < length nodes → agreesAt j ≡ true

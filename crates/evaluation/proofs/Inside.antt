@@ -30,8 +30,11 @@ use Rattle.model.specs.Network as model
 pub select-inside : (v w i c k : ℕ) (o : Operand) → fitsOn v w (model.select i c k (operandOf o)) ≡ true → (c < v) × (k < 6) × OperandIn v o
 unfolding fitsOn
 select-inside v w i c k o e =
-    let first : (ltb c v && ltb k 6) ≡ true = and-first (ltb c v && ltb k 6) (operandBelow v (operandOf o)) e in
-    (ltb-true c v (and-first (ltb c v) (ltb k 6) first), ltb-true k 6 (and-second (ltb c v) (ltb k 6) first), operand-inside o (and-second (ltb c v && ltb k 6) (operandBelow v (operandOf o)) e))
+    let first : (ltb c v && ltb k 6) ≡ true = and-first (ltb c v && ltb k 6) (operandBelow v (operandOf o)) e in (
+      ltb-true c v (and-first (ltb c v) (ltb k 6) first),
+      ltb-true k 6 (and-second (ltb c v) (ltb k 6) first),
+      operand-inside o (and-second (ltb c v && ltb k 6) (operandBelow v (operandOf o)) e),
+    )
   where
     operand-inside : (p : Operand) → operandBelow v (operandOf p) ≡ true → OperandIn v p
     operand-inside (Constant x) f = tt
@@ -45,7 +48,8 @@ pub project-inside : (v w i : ℕ) (columns : List ℕ) → fitsOn v w (model.pr
 unfolding fitsOn
 project-inside v w i columns e = e
 
-pub join-inside : (v w i j : ℕ) (pairs : List Pair) (columns : List ℕ) → fitsOn v w (model.join i j pairs columns) ≡ true → (pairsBelow v w pairs ≡ true) × (columnsBelow (v + w) columns ≡ true)
+pub join-inside : (v w i j : ℕ) (pairs : List Pair) (columns : List ℕ) → fitsOn v w (model.join i j pairs columns) ≡ true → (pairsBelow v w pairs ≡ true)
+    × (columnsBelow (v + w) columns ≡ true)
 unfolding fitsOn
 join-inside v w i j pairs columns e = (and-first (pairsBelow v w pairs) (columnsBelow (v + w) columns) e, and-second (pairsBelow v w pairs) (columnsBelow (v + w) columns) e)
 
@@ -58,7 +62,8 @@ pairs-more v w [] h g e = refl
 pairs-more v w (p ∷ pairs) h g e =
     let b : (ltb (p .left) v && ltb (p .right) w) ≡ true = and-first (ltb (p .left) v && ltb (p .right) w) (pairsBelow v w pairs) e in
     and-both (ltb (p .left) 4 && ltb (p .right) 4) (pairsBelow 4 4 pairs)
-    (and-both (ltb (p .left) 4) (ltb (p .right) 4) (lt-ltb (p .left) 4 (omega (arith, ltb-true (p .left) v (and-first (ltb (p .left) v) (ltb (p .right) w) b)))) (lt-ltb (p .right) 4 (omega (arith, ltb-true (p .right) w (and-second (ltb (p .left) v) (ltb (p .right) w) b)))))
+    (and-both (ltb (p .left) 4) (ltb (p .right) 4) (lt-ltb (p .left) 4 (omega (arith, ltb-true (p .left) v (and-first (ltb (p .left) v) (ltb (p .right) w) b))))
+    (lt-ltb (p .right) 4 (omega (arith, ltb-true (p .right) w (and-second (ltb (p .left) v) (ltb (p .right) w) b)))))
     (pairs-more v w pairs h g (and-second (ltb (p .left) v && ltb (p .right) w) (pairsBelow v w pairs) e))
 
 -- a join that fits its inputs
@@ -90,27 +95,41 @@ on-inputs (model.join l r pairs columns) own rels e = refl
 on-inputs (model.setOperation o l r) own rels e = refl
 
 -- the inputs come before the node, and it fits their widths
-pub inputs-fit : (ws : List ℕ) (n : model.Node) → isTable n ≡ false → nodeFits ws n ≡ true → (leftOf n < length ws) × (rightOf n < length ws) × (fitsOn (getD ws (leftOf n) 0) (getD ws (rightOf n) 0) n ≡ true)
+pub inputs-fit : (ws : List ℕ) (n : model.Node) → isTable n ≡ false → nodeFits ws n ≡ true → (leftOf n < length ws) × (rightOf n < length ws)
+    × (fitsOn (getD ws (leftOf n) 0) (getD ws (rightOf n) 0) n ≡ true)
 unfolding nodeFits fitsOn
 inputs-fit ws (model.table w) e f = absurd (true≢false e)
 inputs-fit ws (model.select i c k o) e f =
     let v : ℕ = getD ws i 0 in
     let f2 : (ltb i (length ws) && ltb c v && ltb k 6) ≡ true = and-first (ltb i (length ws) && ltb c v && ltb k 6) (operandBelow v o) f in
     let f1 : (ltb i (length ws) && ltb c v) ≡ true = and-first (ltb i (length ws) && ltb c v) (ltb k 6) f2 in
-    let h : i < length ws = ltb-true i (length ws) (and-first (ltb i (length ws)) (ltb c v) f1) in
-    (h, h, and-both (ltb c v && ltb k 6) (operandBelow v o) (and-both (ltb c v) (ltb k 6) (and-second (ltb i (length ws)) (ltb c v) f1) (and-second (ltb i (length ws) && ltb c v) (ltb k 6) f2)) (and-second (ltb i (length ws) && ltb c v && ltb k 6) (operandBelow v o) f))
+    let h : i < length ws = ltb-true i (length ws) (and-first (ltb i (length ws)) (ltb c v) f1) in (
+      h,
+      h,
+      and-both (ltb c v && ltb k 6) (operandBelow v o)
+          (and-both (ltb c v) (ltb k 6) (and-second (ltb i (length ws)) (ltb c v) f1) (and-second (ltb i (length ws) && ltb c v) (ltb k 6) f2))
+          (and-second (ltb i (length ws) && ltb c v && ltb k 6) (operandBelow v o) f),
+    )
 inputs-fit ws (model.project i columns) e f =
     let h : i < length ws = ltb-true i (length ws) (and-first (ltb i (length ws)) (columnsBelow (getD ws i 0) columns) f) in
     (h, h, and-second (ltb i (length ws)) (columnsBelow (getD ws i 0) columns) f)
 inputs-fit ws (model.join l r pairs columns) e f =
     let v : ℕ = getD ws l 0 in
     let w : ℕ = getD ws r 0 in
-    let f2 : (ltb l (length ws) && ltb r (length ws) && pairsBelow v w pairs) ≡ true = and-first (ltb l (length ws) && ltb r (length ws) && pairsBelow v w pairs) (columnsBelow (v + w) columns) f in
-    let f1 : (ltb l (length ws) && ltb r (length ws)) ≡ true = and-first (ltb l (length ws) && ltb r (length ws)) (pairsBelow v w pairs) f2 in
-    (ltb-true l (length ws) (and-first (ltb l (length ws)) (ltb r (length ws)) f1), ltb-true r (length ws) (and-second (ltb l (length ws)) (ltb r (length ws)) f1), and-both (pairsBelow v w pairs) (columnsBelow (v + w) columns) (and-second (ltb l (length ws) && ltb r (length ws)) (pairsBelow v w pairs) f2) (and-second (ltb l (length ws) && ltb r (length ws) && pairsBelow v w pairs) (columnsBelow (v + w) columns) f))
+    let f2 : (ltb l (length ws) && ltb r (length ws) && pairsBelow v w pairs) ≡ true = and-first (ltb l (length ws) && ltb r (length ws) && pairsBelow v w pairs)
+    (columnsBelow (v + w) columns) f in
+    let f1 : (ltb l (length ws) && ltb r (length ws)) ≡ true = and-first (ltb l (length ws) && ltb r (length ws)) (pairsBelow v w pairs) f2 in (
+      ltb-true l (length ws) (and-first (ltb l (length ws)) (ltb r (length ws)) f1),
+      ltb-true r (length ws) (and-second (ltb l (length ws)) (ltb r (length ws)) f1),
+      and-both (pairsBelow v w pairs) (columnsBelow (v + w) columns) (and-second (ltb l (length ws) && ltb r (length ws)) (pairsBelow v w pairs) f2)
+          (and-second (ltb l (length ws) && ltb r (length ws) && pairsBelow v w pairs) (columnsBelow (v + w) columns) f),
+    )
 inputs-fit ws (model.setOperation o l r) e f =
-    let f1 : (ltb l (length ws) && ltb r (length ws)) ≡ true = and-first (ltb l (length ws) && ltb r (length ws)) (eqb (getD ws l 0) (getD ws r 0)) f in
-    (ltb-true l (length ws) (and-first (ltb l (length ws)) (ltb r (length ws)) f1), ltb-true r (length ws) (and-second (ltb l (length ws)) (ltb r (length ws)) f1), and-second (ltb l (length ws) && ltb r (length ws)) (eqb (getD ws l 0) (getD ws r 0)) f)
+    let f1 : (ltb l (length ws) && ltb r (length ws)) ≡ true = and-first (ltb l (length ws) && ltb r (length ws)) (eqb (getD ws l 0) (getD ws r 0)) f in (
+      ltb-true l (length ws) (and-first (ltb l (length ws)) (ltb r (length ws)) f1),
+      ltb-true r (length ws) (and-second (ltb l (length ws)) (ltb r (length ws)) f1),
+      and-second (ltb l (length ws) && ltb r (length ws)) (eqb (getD ws l 0) (getD ws r 0)) f,
+    )
 
 -- ---- widths
 
@@ -153,6 +172,8 @@ pub on-wide : (v w : ℕ) (n : model.Node) (l r : Relation) → isTable n ≡ fa
 unfolding evaluateOn projectRows joinRows
 on-wide v w (model.table x) l r e f h g = absurd (true≢false e)
 on-wide v w (model.select i c k o) l r e f h g = wide-select v c k o l h
-on-wide v w (model.project i columns) l r e f h g = wide-setOf 4 (length columns) (map (columnsOf columns) l) (wide-map (columnsOf columns) (length columns) l (λ s. length-map columns (λ c. getD s c 0)))
-on-wide v w (model.join i j pairs columns) l r e f h g = wide-setOf 4 (length columns) (flatMap (joinOne pairs columns r) l) (wide-each (length columns) (joinOne pairs columns r) l v h (λ s k. wide-one pairs columns r s))
+on-wide v w (model.project i columns) l r e f h g = wide-setOf 4 (length columns) (map (columnsOf columns) l)
+    (wide-map (columnsOf columns) (length columns) l (λ s. length-map columns (λ c. getD s c 0)))
+on-wide v w (model.join i j pairs columns) l r e f h g = wide-setOf 4 (length columns) (flatMap (joinOne pairs columns r) l)
+    (wide-each (length columns) (joinOne pairs columns r) l v h (λ s k. wide-one pairs columns r s))
 on-wide v w (model.setOperation o i j) l r e f h g = let same : v ≡ w = set-inside v w i j o f in wide-operation v o l r h (rw same g)

@@ -29,7 +29,8 @@ fn set_rows(
 ) -> Made
     requires { ⌜ Place (l .width) (now left) (l .count) × Place (l .width) (now right) (r .count) × Blank (now out) ⌝ }
     ensures { λ made. ⌜ Makes
-        (evaluateSet (operationOf operation) (relationIn (l .width) (now (left .entry)) (l .count)) (relationIn (l .width) (now (right .entry)) (r .count)))
+        (evaluateSet (operationOf operation) (relationIn (l .width) (now (left .entry)) (l .count))
+        (relationIn (l .width) (now (right .entry)) (r .count)))
         (now (out .exit)) made ⌝ }
 {
     let n = l.count;
@@ -71,8 +72,11 @@ pub fn right_of(slot: Slot) -> usize
 
 // A derived node's rows from those of its inputs, in an empty place: how many, or that they are more than 64. A table's kind gives none.
 pub fn evaluate(slot: Slot, left: &[u32], l: Held, right: &[u32], r: Held, out: &mut [u32]) -> Made
-    requires { ⌜ Shaped slot × Place (l .width) (now left) (l .count) × Place (r .width) (now right) (r .count) × (fitsOn (l .width) (r .width) (slotNode slot) ≡ true) × Blank (now out) ⌝ }
-    ensures { λ made. ⌜ Makes (evaluateOn (slotNode slot) (relationIn (l .width) (now (left .entry)) (l .count)) (relationIn (r .width) (now (right .entry)) (r .count))) (now (out .exit)) made ⌝ }
+    requires { ⌜ Shaped slot × Place (l .width) (now left) (l .count) × Place (r .width) (now right) (r .count)
+        × (fitsOn (l .width) (r .width) (slotNode slot) ≡ true) × Blank (now out) ⌝ }
+    ensures { λ made. ⌜ Makes
+        (evaluateOn (slotNode slot) (relationIn (l .width) (now (left .entry)) (l .count)) (relationIn (r .width) (now (right .entry)) (r .count)))
+        (now (out .exit)) made ⌝ }
 {
     let n = l.count;
     let m = r.count;

@@ -74,9 +74,12 @@ module _ (net : Network) (b : Built net) (bs : Bytes) where
       node = ap model.isTable (slot-node net b t h)
 
       go : (u : Bool) → model.isTable (slotNode (getD (net .slots) t noSlot)) ≡ u → eqb (getD (net .levels) t 0) 0 ≡ model.isTable (model.nodeAt (nodesOf net) t)
-      go true e = eq-eqb (getD (net .levels) t 0) 0 (level-at net b t h ∙ ap (λ (u : Bool). cond u 0 (suc (model.highest (take t (model.levels (nodesOf net))) (model.inputsOf (slotNode (getD (net .slots) t noSlot)))))) e) ∙ sym (node ∙ e)
+      go true e = eq-eqb (getD (net .levels) t 0) 0
+          (level-at net b t h ∙ ap (λ (u : Bool). cond u 0 (suc (model.highest (take t (model.levels (nodesOf net))) (model.inputsOf (slotNode (getD (net .slots) t noSlot)))))) e)
+          ∙ sym (node ∙ e)
       go false e =
-          let up : getD (net .levels) t 0 ≡ suc (model.highest (take t (model.levels (nodesOf net))) (model.inputsOf (slotNode (getD (net .slots) t noSlot)))) = level-at net b t h ∙ ap (λ (u : Bool). cond u 0 (suc (model.highest (take t (model.levels (nodesOf net))) (model.inputsOf (slotNode (getD (net .slots) t noSlot)))))) e in
+          let up : getD (net .levels) t 0 ≡ suc (model.highest (take t (model.levels (nodesOf net))) (model.inputsOf (slotNode (getD (net .slots) t noSlot)))) = level-at net b t h
+          ∙ ap (λ (u : Bool). cond u 0 (suc (model.highest (take t (model.levels (nodesOf net))) (model.inputsOf (slotNode (getD (net .slots) t noSlot)))))) e in
           ne-eqb (getD (net .levels) t 0) 0 (λ z. absurd (omega arith)) ∙ sym (node ∙ e)
 
   fits-same : (at : ℕ) → eventFitsIn (net .count) (net .widths) (net .levels) bs at ≡ eventFits (nodesOf net) bs at
@@ -90,7 +93,9 @@ module _ (net : Network) (b : Built net) (bs : Bytes) where
       go true e =
           let h : fieldAt bs at 0 < net .count = ltb-true (fieldAt bs at 0) (net .count) e in
           rw (nodes-count net b, width-is net b (fieldAt bs at 0) h, level-says (fieldAt bs at 0) h)
-      go false e = rw (nodes-count net b, e) (both (leb 6 (lengthAt bs at)) (eqb (getD (net .levels) (fieldAt bs at 0) 0) 0) (eqb (lengthAt bs at) (6 + 4 * getD (net .widths) (fieldAt bs at 0) 0)) (model.isTable (model.nodeAt (nodesOf net) (fieldAt bs at 0))) (eqb (lengthAt bs at) (6 + 4 * getD (model.widths (nodesOf net)) (fieldAt bs at 0) 0)))
+      go false e = rw (nodes-count net b, e)
+          (both (leb 6 (lengthAt bs at)) (eqb (getD (net .levels) (fieldAt bs at 0) 0) 0) (eqb (lengthAt bs at) (6 + 4 * getD (net .widths) (fieldAt bs at 0) 0))
+          (model.isTable (model.nodeAt (nodesOf net) (fieldAt bs at 0))) (eqb (lengthAt bs at) (6 + 4 * getD (model.widths (nodesOf net)) (fieldAt bs at 0) 0)))
         where
           both : (p q r s u : Bool) → (p && false && q && r) ≡ (p && false && s && u)
           both true q r s u = refl
@@ -98,7 +103,9 @@ module _ (net : Network) (b : Built net) (bs : Bytes) where
 
   fault-same : (before at : ℕ) → eventFaultIn (net .count) (net .widths) (net .levels) before bs at ≡ eventFault (nodesOf net) before bs at
   unfolding eventFault
-  fault-same before at = ap (λ (f : Bool). firstBroken (rule 10 (isBroken bs at) ∷ rule 11 (not (eqb (kindAt bs at) 32 || eqb (kindAt bs at) 33)) ∷ rule 12 (leb maxEvents before) ∷ rule 13 (not f) ∷ [])) (fits-same at)
+  fault-same before at =
+      ap (λ (f : Bool). firstBroken (rule 10 (isBroken bs at) ∷ rule 11 (not (eqb (kindAt bs at) 32 || eqb (kindAt bs at) 33)) ∷ rule 12 (leb maxEvents before) ∷ rule 13 (not f) ∷ []))
+      (fits-same at)
 
   -- a reading by the arrays says what the rules say of the nodes
   pub reads-number : (before at : ℕ) (r : EventRecord) → ReadsEvent (net .count) (net .widths) (net .levels) before bs at r → numberOf r ≡ eventFault (nodesOf net) before bs at
@@ -130,9 +137,12 @@ unfolding readEvents verdictFrom
 verdict-is nodes bs done [] = refl
 verdict-is nodes bs done (at ∷ rest) = go (eqb (eventFault nodes (length done) bs at) 0) (verdict-is nodes bs (done ++ (eventAt (model.widths nodes) bs at ∷ [])) rest)
   where
-    go : (t : Bool) → readEvents nodes bs (done ++ (eventAt (model.widths nodes) bs at ∷ [])) rest .verdict ≡ verdictFrom nodes bs (length (done ++ (eventAt (model.widths nodes) bs at ∷ []))) rest →
-        cond t (readEvents nodes bs (done ++ (eventAt (model.widths nodes) bs at ∷ [])) rest) (record { verdict = refused (eventFault nodes (length done) bs at) at; events = [] }) .verdict ≡ cond t (verdictFrom nodes bs (suc (length done)) rest) (refused (eventFault nodes (length done) bs at) at)
-    go true ih = let size : length (done ++ (eventAt (model.widths nodes) bs at ∷ [])) ≡ suc (length done) = length-append done (eventAt (model.widths nodes) bs at ∷ []) ∙ omega arith in ih ∙ ap (λ (k : ℕ). verdictFrom nodes bs k rest) size
+    go : (t : Bool) → readEvents nodes bs (done ++ (eventAt (model.widths nodes) bs at ∷ [])) rest .verdict
+        ≡ verdictFrom nodes bs (length (done ++ (eventAt (model.widths nodes) bs at ∷ []))) rest →
+        cond t (readEvents nodes bs (done ++ (eventAt (model.widths nodes) bs at ∷ [])) rest) (record { verdict = refused (eventFault nodes (length done) bs at) at; events = [] }) .verdict
+        ≡ cond t (verdictFrom nodes bs (suc (length done)) rest) (refused (eventFault nodes (length done) bs at) at)
+    go true ih = let size : length (done ++ (eventAt (model.widths nodes) bs at ∷ [])) ≡ suc (length done) = length-append done (eventAt (model.widths nodes) bs at ∷ []) ∙ omega arith in ih
+        ∙ ap (λ (k : ℕ). verdictFrom nodes bs k rest) size
     go false ih = refl
 
 module _ (nodes : List model.Node) (bs : Bytes) where
@@ -183,7 +193,8 @@ module _ (nodes : List model.Node) (bs : Bytes) where
 
       go : (t : Bool) → isBroken bs at ≡ t → verdictFrom nodes bs k (remaining bs at) ≡ refused (eventFault nodes k bs at) at
       go true f = ap (verdictFrom nodes bs k) (remaining-broken bs at h f) ∙ ap (λ (t : Bool). cond t (verdictFrom nodes bs (suc k) []) (refused (eventFault nodes k bs at) at)) no
-      go false f = ap (verdictFrom nodes bs k) (remaining-whole bs at h f) ∙ ap (λ (t : Bool). cond t (verdictFrom nodes bs (suc k) (remaining bs (at + lengthAt bs at))) (refused (eventFault nodes k bs at) at)) no
+      go false f = ap (verdictFrom nodes bs k) (remaining-whole bs at h f)
+          ∙ ap (λ (t : Bool). cond t (verdictFrom nodes bs (suc k) (remaining bs (at + lengthAt bs at))) (refused (eventFault nodes k bs at) at)) no
 
   pub left-end : (k at : ℕ) → Left k at → length bs ≤ at → accepted ≡ readBatch nodes bs .verdict
   unfolding verdictFrom

@@ -1,10 +1,10 @@
 // Batches read from bytes: refusals 10 to 13.
 ghost use mathlib.Core.Path.{_≡_};
-ghost use mathlib.Core.Bool.{Bool, true, false, not, _||_};
-ghost use Prim.Native.Nat.{ℕ, _+_, _*_, _≤_, _<_};
+ghost use mathlib.Core.Bool.{true, false, _||_};
+ghost use Prim.Native.Nat.{_+_, _*_, _≤_, _<_};
 ghost use lib.Dec.{eqb};
-ghost use lib.ListN.{length, getD};
-ghost use Rattle.model.specs.Record.{kindAt, isBroken};
+ghost use lib.ListN.{length};
+ghost use Rattle.model.specs.Record.{isBroken};
 ghost use Rattle.model.specs.Batch.{readBatch};
 ghost use Rattle.nodes.specs.Nodes.{Narrow};
 ghost use Rattle.network.specs.Reading.{verdictOf, nodesOf, Built};
@@ -21,7 +21,8 @@ const MAX_EVENTS: usize = 64;
 
 // Whether a record of at least a header's length names a table and has its table's length: rule 13.
 fn event_fits(bytes: &[u8], at: usize, count: usize, widths: &[usize], levels: &[usize]) -> bool
-    requires { ⌜ (isBroken (now bytes) at ≡ false) × (count ≤ length (now widths)) × (count ≤ length (now levels)) × (count ≤ 32) × Narrow (now widths) ⌝ }
+    requires { ⌜ (isBroken (now bytes) at ≡ false) × (count ≤ length (now widths)) × (count ≤ length (now levels)) × (count ≤ 32)
+        × Narrow (now widths) ⌝ }
     ensures { λ r. ⌜ r ≡ eventFitsIn count (now (widths .entry)) (now (levels .entry)) (now (bytes .entry)) at ⌝ }
 {
     let size = records::u16_at(bytes, at);

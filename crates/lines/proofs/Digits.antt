@@ -123,7 +123,8 @@ last-digit d k (suc f) rest h g e = go (ltb rest 10) refl e
     front : take (k - 1) (take k d) ≡ take (k - 1) d
     front = take-take (k - 1) k d (omega arith)
 
-    go : (t : Bool) → ltb rest 10 ≡ t → cond t ((48 + rest) ∷ []) (digits f (rest / 10) ++ ((48 + (rest % 10)) ∷ [])) ≡ take k d → (getD d (k - 1) 0 ≡ 48 + (rest % 10)) × (0 < k - 1 → digits (suc f - 1) (rest / 10) ≡ take (k - 1) d)
+    go : (t : Bool) → ltb rest 10 ≡ t → cond t ((48 + rest) ∷ []) (digits f (rest / 10) ++ ((48 + (rest % 10)) ∷ [])) ≡ take k d → (getD d (k - 1) 0 ≡ 48 + (rest % 10))
+        × (0 < k - 1 → digits (suc f - 1) (rest / 10) ≡ take (k - 1) d)
     go true b w =
         let k1 : k - 1 ≡ 0 = omega (arith, ap length w, size) in
         let m : rest % 10 ≡ rest = omega (arith, ltb-true rest 10 b) in
@@ -142,7 +143,8 @@ pub digit-more : (x k rest : ℕ) (out₀ out : List ℕ) (at : ℕ) → 0 < k �
     (set out (at + (k - 1)) (48 + (rest % 10)) ≡ sets out₀ (at + (k - 1)) (drop (k - 1) (decimal x))) × Left x (k - 1) (rest / 10)
 digit-more x k rest out₀ out at h g l e =
     let d : List ℕ = decimal x in
-    let last : (getD (decimal x) (k - 1) 0 ≡ 48 + (rest % 10)) × (0 < k - 1 → digits (l .fuel - 1) (rest / 10) ≡ take (k - 1) (decimal x)) = last-digit (decimal x) k (l .fuel) rest h g (l .is h) in
+    let last : (getD (decimal x) (k - 1) 0 ≡ 48 + (rest % 10)) × (0 < k - 1 → digits (l .fuel - 1) (rest / 10) ≡ take (k - 1) (decimal x)) = last-digit (decimal x) k (l .fuel) rest h g
+    (l .is h) in
     let k1 : suc (k - 1) ≡ k = omega arith in
     let next : suc (at + (k - 1)) ≡ at + k = omega arith in
     let tail : drop (k - 1) (decimal x) ≡ (48 + (rest % 10)) ∷ drop k (decimal x) =
@@ -157,7 +159,8 @@ digit-more x k rest out₀ out at h g l e =
 
 pub numbers-more : (numbers : List ℕ) (k : ℕ) → k < length numbers → numbersText (take (k + 1) numbers) ≡ numbersText (take k numbers) ++ (space ∷ decimal (getD numbers k 0))
 numbers-more numbers k h =
-    ap numbersText (rw add-one (take-suc numbers k 0 h)) ∙ flat-append (λ n. space ∷ decimal n) (take k numbers) (getD numbers k 0 ∷ []) ∙ ap (λ (l : List ℕ). numbersText (take k numbers) ++ l) (flat-one (λ n. space ∷ decimal n) (getD numbers k 0))
+    ap numbersText (rw add-one (take-suc numbers k 0 h)) ∙ flat-append (λ n. space ∷ decimal n) (take k numbers) (getD numbers k 0 ∷ [])
+    ∙ ap (λ (l : List ℕ). numbersText (take k numbers) ++ l) (flat-one (λ n. space ∷ decimal n) (getD numbers k 0))
 
 pub numbers-none : (numbers : List ℕ) → numbersText (take 0 numbers) ≡ []
 unfolding flatMap

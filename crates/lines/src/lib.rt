@@ -1,10 +1,9 @@
 // Lines of text: a word, then numbers, written into lent bytes.
 ghost use mathlib.Core.Path.{_≡_};
-ghost use mathlib.Core.List.{List, [], _∷_};
-ghost use Prim.Native.Nat.{ℕ, _+_, _*_, _≤_, _<_};
-ghost use lib.ListN.{length, take};
+ghost use Prim.Native.Nat.{_+_, _*_, _≤_, _<_};
+ghost use lib.ListN.{length};
 ghost use lib.Seq.{sets};
-ghost use Rattle.model.specs.Text.{space, newline, decimal, line};
+ghost use Rattle.model.specs.Text.{space, decimal, line};
 ghost use Rattle.lines.specs.Numbers.{numbersText};
 
 // How many digits a number has.
@@ -61,7 +60,8 @@ pub fn put_bytes(out: &mut [u8], at: usize, text: &[u8]) -> usize
 // Numbers, a space before each, from an offset on: where the bytes after them begin.
 fn put_numbers(out: &mut [u8], at: usize, numbers: &[usize]) -> usize
     requires { ⌜ at + 21 * length (now numbers) ≤ length (now out) ⌝ }
-    ensures { λ r. ⌜ (now (out .exit) ≡ sets (now (out .entry)) at (numbersText (now (numbers .entry)))) × (r ≡ at + length (numbersText (now (numbers .entry)))) × (r ≤ at + 21 * length (now (numbers .entry))) ⌝ }
+    ensures { λ r. ⌜ (now (out .exit) ≡ sets (now (out .entry)) at (numbersText (now (numbers .entry))))
+        × (r ≡ at + length (numbersText (now (numbers .entry)))) × (r ≤ at + 21 * length (now (numbers .entry))) ⌝ }
 {
     let n = numbers.len();
     let mut to = at;
@@ -77,7 +77,9 @@ fn put_numbers(out: &mut [u8], at: usize, numbers: &[usize]) -> usize
 // A line: a word, then numbers, from an offset on: where the bytes after it begin.
 pub fn put_line_at(out: &mut [u8], at: usize, word: &[u8], numbers: &[usize]) -> usize
     requires { ⌜ at + length (now word) + 21 * length (now numbers) < length (now out) ⌝ }
-    ensures { λ r. ⌜ (now (out .exit) ≡ sets (now (out .entry)) at (line (now (word .entry)) (now (numbers .entry)))) × (r ≡ at + length (line (now (word .entry)) (now (numbers .entry)))) × (r ≤ at + length (now (word .entry)) + 21 * length (now (numbers .entry)) + 1) ⌝ }
+    ensures { λ r. ⌜ (now (out .exit) ≡ sets (now (out .entry)) at (line (now (word .entry)) (now (numbers .entry))))
+        × (r ≡ at + length (line (now (word .entry)) (now (numbers .entry))))
+        × (r ≤ at + length (now (word .entry)) + 21 * length (now (numbers .entry)) + 1) ⌝ }
 {
     let from = put_bytes(out, at, word);
     let end = put_numbers(out, from, numbers);
@@ -88,7 +90,8 @@ pub fn put_line_at(out: &mut [u8], at: usize, word: &[u8], numbers: &[usize]) ->
 // A line from the first byte on: its length.
 pub fn put_line(out: &mut [u8], word: &[u8], numbers: &[usize]) -> usize
     requires { ⌜ length (now word) + 21 * length (now numbers) < length (now out) ⌝ }
-    ensures { λ r. ⌜ (now (out .exit) ≡ sets (now (out .entry)) 0 (line (now (word .entry)) (now (numbers .entry)))) × (r ≡ length (line (now (word .entry)) (now (numbers .entry)))) × (r ≤ length (now (out .entry))) ⌝ }
+    ensures { λ r. ⌜ (now (out .exit) ≡ sets (now (out .entry)) 0 (line (now (word .entry)) (now (numbers .entry))))
+        × (r ≡ length (line (now (word .entry)) (now (numbers .entry)))) × (r ≤ length (now (out .entry))) ⌝ }
 {
     put_line_at(out, 0, word, numbers)
 }

@@ -7,7 +7,7 @@ use lib.Dec.{eqb, leb, ltb}
 use lib.ListN.{getD}
 use borrow.Author.Tests.{lt-ltb, le-ltb, le-leb, lt-leb, eq-eqb, ne-eqb}
 use native.Mathlib.Omega.{arith}
-use Rattle.model.specs.Row.{Row, Relation, order, sameRow, member, keep, keepIf, someOf, setOf, numbersBelow}
+use Rattle.model.specs.Row.{Row, Relation, sameRow, member, keep, keepIf, someOf, numbersBelow}
 use Rattle.model.specs.Algebra.{holdsOf, compareFields, columnsOf, Pair, agree, selectConstant, selectColumns, projectRows, joinOne, joinRows, unionRows, differenceRows, intersectRows}
 use Rattle.model.proofs.Order.{compare-says, sameRow-refl, sameRow-eq}
 use Rattle.model.proofs.Sets.{Ascending, member-keep, member-setOf, asc-keep, asc-setOf, ext}

@@ -227,7 +227,8 @@ module _ (bs : Bytes) (b : ByteList bs) where
 
     -- the event at an offset, given the verdict of those after it
     event-small : (done : List Event) (at : ℕ) (rest : List ℕ) → Done done at →
-        (Done (with-event done at) (at + lengthAt bs at) → SmallVerdict (readEvents nodes bs (with-event done at) rest .verdict)) → SmallVerdict (readEvents nodes bs done (at ∷ rest) .verdict)
+        (Done (with-event done at) (at + lengthAt bs at) → SmallVerdict (readEvents nodes bs (with-event done at) rest .verdict)) →
+        SmallVerdict (readEvents nodes bs done (at ∷ rest) .verdict)
     unfolding readEvents
     event-small done at rest p later = go (eqb (eventFault nodes (length done) bs at) 0) refl
       where

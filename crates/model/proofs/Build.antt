@@ -1,12 +1,12 @@
 -- One value for each node, each from the nodes before it: widths, levels, fresh evaluation. Assumes nothing.
 use mathlib.Core.Path.{_≡_, refl, sym, ap, _∙_}
 use mathlib.Core.List.{List, [], _∷_, _++_, append-assoc, append-nil}
-use Prim.Native.Nat.{ℕ, zero, suc, _+_, _≤_, _<_}
+use Prim.Native.Nat.{ℕ, suc, _+_, _≤_, _<_}
 use native.Mathlib.Omega.{arith}
 use lib.ListN.{length, getD, take, drop, length-append, take-append-drop}
 use lib.Seq.{take-suc, take-at, getD-take, getD-at, length-take-le}
 use Rattle.model.specs.Row.{Relation}
-use Rattle.model.specs.Network.{Node, table, nodeAt, buildOn, build, widths, widthOf, levels, levelOf}
+use Rattle.model.specs.Network.{Node, table, nodeAt, buildOn, build}
 use Rattle.model.specs.Evaluation.{evaluate, evaluateNext, evaluateNode, rowsAt}
 
 module _ {A : Type 0} (f : Node → List A → A) where

@@ -3,7 +3,7 @@ use mathlib.Core.Path.{_≡_, refl, _∙_}
 use mathlib.Core.Bool.{Bool, true, false, not, _&&_, _||_}
 use Rattle.model.specs.Row.{Row, Relation, member}
 use Rattle.model.specs.Algebra.{unionRows, differenceRows}
-use Rattle.model.specs.Delta.{Change, netChange, deltaUnion}
+use Rattle.model.specs.Delta.{netChange, deltaUnion}
 use Rattle.model.proofs.Sets.{Ascending, ext}
 use Rattle.model.proofs.Algebra.{member-union, member-difference, asc-union, asc-difference, union-comm}
 

@@ -9,7 +9,9 @@ use lib.ListN.{List·getD-append, length, length-append, take, getD}
 use lib.Dec.{eqb, leb, ltb}
 use lib.Seq.{getD-at, take-at}
 use borrow.Author.Tests.{eqb-true, ltb-false, ltb-true, eqb-false, leb-false, leb-true}
-use Rattle.model.specs.Network.{AllFit, Item, Kind, Network, Node, hasShape, isUnknown, isWatch, itemAt, itemFits, kindNumbered, noNetwork, nodeAt, nodeFits, nodeItem, readNetwork, readRecords, recordFault, refusedReading, table, watchItem, widthOf, widths, withItem, build, joinKind, joinShape, projectKind, projectShape, selectColumnKind, selectConstantKind, setKind, tableKind, unknownKind, watchKind, within}
+use Rattle.model.specs.Network.{AllFit, Item, Kind, Network, Node, hasShape, isUnknown, isWatch, itemAt, itemFits, kindNumbered, noNetwork, nodeAt, nodeFits, nodeItem, readNetwork}
+use Rattle.model.specs.Network.{readRecords, recordFault, refusedReading, table, watchItem, widthOf, widths, withItem, build, joinKind, joinShape, projectKind, projectShape}
+use Rattle.model.specs.Network.{selectColumnKind, selectConstantKind, setKind, tableKind, unknownKind, watchKind, within}
 use Rattle.model.specs.Record.{Bytes, firstBroken, isBroken, kindAt, offsets, rule, accepted, fieldAt, fieldsAt, lengthAt}
 use Rattle.model.proofs.Build.{build-more, length-build}
 use Rattle.model.specs.Row.{isEmpty, maxNodes, maxWidth}
@@ -78,7 +80,8 @@ records-fit bs net (at ∷ rest) all =
     next : Network
     next = withItem net (itemAt (kindNumbered (kindAt bs at)) bs at)
 
-    go : (t : Bool) → eqb (recordFault (widths (net .nodes)) (net .signs) bs at) 0 ≡ t → (AllFit (next .nodes) → AllFit (readRecords bs next rest .network .nodes)) → AllFit (cond t (readRecords bs next rest) (refusedReading (recordFault (widths (net .nodes)) (net .signs) bs at) at) .network .nodes)
+    go : (t : Bool) → eqb (recordFault (widths (net .nodes)) (net .signs) bs at) 0 ≡ t → (AllFit (next .nodes) → AllFit (readRecords bs next rest .network .nodes)) →
+        AllFit (cond t (readRecords bs next rest) (refusedReading (recordFault (widths (net .nodes)) (net .signs) bs at) at) .network .nodes)
     go true e ih =
         let none : recordFault (widths (net .nodes)) (net .signs) bs at ≡ 0 = eqb-true (recordFault (widths (net .nodes)) (net .signs) bs at) 0 e in
         ih (item-more net (itemAt (kindNumbered (kindAt bs at)) bs at) all (fault-fits (widths (net .nodes)) (net .signs) bs at none))
@@ -107,7 +110,10 @@ records-accepted bs net (at ∷ rest) z =
     fault : ℕ
     fault = recordFault (widths (net .nodes)) (net .signs) bs at
 
-    go : (t : Bool) → eqb (recordFault (widths (net .nodes)) (net .signs) bs at) 0 ≡ t → cond t (readRecords bs next rest) (refusedReading (recordFault (widths (net .nodes)) (net .signs) bs at) at) .verdict .number ≡ 0 → (readRecords bs next rest .verdict .number ≡ 0 → readRecords bs next rest .verdict ≡ accepted) → cond t (readRecords bs next rest) (refusedReading (recordFault (widths (net .nodes)) (net .signs) bs at) at) .verdict ≡ accepted
+    go : (t : Bool) → eqb (recordFault (widths (net .nodes)) (net .signs) bs at) 0 ≡ t →
+        cond t (readRecords bs next rest) (refusedReading (recordFault (widths (net .nodes)) (net .signs) bs at) at) .verdict .number ≡ 0 →
+        (readRecords bs next rest .verdict .number ≡ 0 → readRecords bs next rest .verdict ≡ accepted) →
+        cond t (readRecords bs next rest) (refusedReading (recordFault (widths (net .nodes)) (net .signs) bs at) at) .verdict ≡ accepted
     go true e y ih = ih y
     go false e y ih = absurd (eqb-false (recordFault (widths (net .nodes)) (net .signs) bs at) 0 e y)
 
@@ -115,7 +121,8 @@ pub read-accepted : (bs : Bytes) → readNetwork bs .verdict .number ≡ 0 → r
 unfolding readNetwork
 read-accepted bs z = go (isEmpty bs) z
   where
-    go : (t : Bool) → cond t (refusedReading 2 0) (readRecords bs noNetwork (offsets bs)) .verdict .number ≡ 0 → cond t (refusedReading 2 0) (readRecords bs noNetwork (offsets bs)) .verdict ≡ accepted
+    go : (t : Bool) → cond t (refusedReading 2 0) (readRecords bs noNetwork (offsets bs)) .verdict .number ≡ 0 → cond t (refusedReading 2 0) (readRecords bs noNetwork (offsets bs)) .verdict
+        ≡ accepted
     go true y = absurd (omega arith)
     go false y = records-accepted bs noNetwork (offsets bs) y
 
@@ -134,7 +141,8 @@ rules-hold false false true d e h = absurd (omega arith)
 rules-hold false false false false e h = absurd (omega arith)
 rules-hold false false false true e h = (refl, refl)
 
-pub fault-shape : (ws signs : List ℕ) (bs : Bytes) (at : ℕ) → recordFault ws signs bs at ≡ 0 → ((not (isWatch (kindNumbered (kindAt bs at))) && leb maxNodes (length ws)) ≡ false) × (hasShape (kindNumbered (kindAt bs at)) bs at ≡ true)
+pub fault-shape : (ws signs : List ℕ) (bs : Bytes) (at : ℕ) → recordFault ws signs bs at ≡ 0 → ((not (isWatch (kindNumbered (kindAt bs at))) && leb maxNodes (length ws)) ≡ false)
+    × (hasShape (kindNumbered (kindAt bs at)) bs at ≡ true)
 unfolding recordFault
 fault-shape ws signs bs at e =
     let kind : Kind = kindNumbered (kindAt bs at) in
@@ -147,7 +155,8 @@ length-fields-at bs at k (suc n) = ap suc (length-fields-at bs at (suc k) n)
 project-four : (bs : Bytes) (at : ℕ) → projectShape bs at ≡ true → fieldAt bs at 1 ≤ 4
 unfolding projectShape
 project-four bs at e =
-    let f : (leb 8 (lengthAt bs at) && within 1 maxWidth (fieldAt bs at 1)) ≡ true = and-first (leb 8 (lengthAt bs at) && within 1 maxWidth (fieldAt bs at 1)) (eqb (lengthAt bs at) (8 + 2 * fieldAt bs at 1)) e in
+    let f : (leb 8 (lengthAt bs at) && within 1 maxWidth (fieldAt bs at 1)) ≡ true = and-first (leb 8 (lengthAt bs at) && within 1 maxWidth (fieldAt bs at 1))
+    (eqb (lengthAt bs at) (8 + 2 * fieldAt bs at 1)) e in
     leb-true (fieldAt bs at 1) 4 (and-second (leb 1 (fieldAt bs at 1)) (leb (fieldAt bs at 1) maxWidth) (and-second (leb 8 (lengthAt bs at)) (within 1 maxWidth (fieldAt bs at 1)) f))
 
 join-four : (bs : Bytes) (at : ℕ) → joinShape bs at ≡ true → fieldAt bs at (3 + 2 * fieldAt bs at 2) ≤ 4
@@ -164,7 +173,8 @@ widthIs (nodeItem n) ws = widthOf n ws
 widthIs (watchItem w) ws = 0
 
 -- a node that comes next has at most 4 columns
-item-narrow : (kind : Kind) (ws signs : List ℕ) (bs : Bytes) (at : ℕ) → hasShape kind bs at ≡ true → itemFits ws signs (itemAt kind bs at) ≡ true → ((i : ℕ) → getD ws i 0 ≤ 4) → widthIs (itemAt kind bs at) ws ≤ 4
+item-narrow : (kind : Kind) (ws signs : List ℕ) (bs : Bytes) (at : ℕ) → hasShape kind bs at ≡ true → itemFits ws signs (itemAt kind bs at) ≡ true → ((i : ℕ) → getD ws i 0 ≤ 4) →
+    widthIs (itemAt kind bs at) ws ≤ 4
 unfolding hasShape itemFits itemAt nodeFits widthIs
 item-narrow unknownKind ws signs bs at h f narrow = absurd (true≢false (sym h))
 item-narrow tableKind ws signs bs at h f narrow = leb-true (fieldAt bs at 0) 4 (and-second (leb 1 (fieldAt bs at 0)) (leb (fieldAt bs at 0) maxWidth) f)
@@ -197,7 +207,8 @@ most-more (y ∷ l) x m f g (suc k) = most-more l x m (λ j. f (suc j)) g k
 widths-narrow : (nodes : List Node) (n : Node) → ((i : ℕ) → getD (widths nodes) i 0 ≤ 4) → widthOf n (widths nodes) ≤ 4 → (i : ℕ) → getD (widths (nodes ++ (n ∷ []))) i 0 ≤ 4
 widths-narrow nodes n h g i = rw (widths-more nodes n) (most-more (widths nodes) (widthOf n (widths nodes)) 4 h g i)
 
-small-more : (net : Network) (item : Item) → Small (net .nodes) → ((n : Node) → item ≡ nodeItem n → length (widths (net .nodes)) < 32) → widthIs item (widths (net .nodes)) ≤ 4 → Small (withItem net item .nodes)
+small-more : (net : Network) (item : Item) → Small (net .nodes) → ((n : Node) → item ≡ nodeItem n → length (widths (net .nodes)) < 32) → widthIs item (widths (net .nodes)) ≤ 4 →
+    Small (withItem net item .nodes)
 unfolding widthIs
 small-more net (nodeItem n) s room w =
     record { few = omega (arith, length-append (net .nodes) (n ∷ []), room n refl, length-widths (net .nodes)); narrow = widths-narrow (net .nodes) n (s .narrow) w }
@@ -216,11 +227,14 @@ records-small bs net (at ∷ rest) s =
     next : Network
     next = withItem net (itemAt (kindNumbered (kindAt bs at)) bs at)
 
-    go : (t : Bool) → eqb (recordFault (widths (net .nodes)) (net .signs) bs at) 0 ≡ t → (Small (next .nodes) → Small (readRecords bs next rest .network .nodes)) → Small (cond t (readRecords bs next rest) (refusedReading (recordFault (widths (net .nodes)) (net .signs) bs at) at) .network .nodes)
+    go : (t : Bool) → eqb (recordFault (widths (net .nodes)) (net .signs) bs at) 0 ≡ t → (Small (next .nodes) → Small (readRecords bs next rest .network .nodes)) →
+        Small (cond t (readRecords bs next rest) (refusedReading (recordFault (widths (net .nodes)) (net .signs) bs at) at) .network .nodes)
     go true e ih =
         let none : recordFault (widths (net .nodes)) (net .signs) bs at ≡ 0 = eqb-true (recordFault (widths (net .nodes)) (net .signs) bs at) 0 e in
-        let shape : ((not (isWatch (kindNumbered (kindAt bs at))) && leb maxNodes (length (widths (net .nodes)))) ≡ false) × (hasShape (kindNumbered (kindAt bs at)) bs at ≡ true) = fault-shape (widths (net .nodes)) (net .signs) bs at none in
-        ih (small-more net (itemAt (kindNumbered (kindAt bs at)) bs at) s (item-room (kindNumbered (kindAt bs at)) (widths (net .nodes)) bs at (shape .0)) (item-narrow (kindNumbered (kindAt bs at)) (widths (net .nodes)) (net .signs) bs at (shape .1) (fault-fits (widths (net .nodes)) (net .signs) bs at none) (s .narrow)))
+        let shape : ((not (isWatch (kindNumbered (kindAt bs at))) && leb maxNodes (length (widths (net .nodes)))) ≡ false)
+        × (hasShape (kindNumbered (kindAt bs at)) bs at ≡ true) = fault-shape (widths (net .nodes)) (net .signs) bs at none in
+        ih (small-more net (itemAt (kindNumbered (kindAt bs at)) bs at) s (item-room (kindNumbered (kindAt bs at)) (widths (net .nodes)) bs at (shape .0))
+        (item-narrow (kindNumbered (kindAt bs at)) (widths (net .nodes)) (net .signs) bs at (shape .1) (fault-fits (widths (net .nodes)) (net .signs) bs at none) (s .narrow)))
     go false e ih = no-nodes
 
 -- a network that is read has at most 32 nodes, of at most 4 columns

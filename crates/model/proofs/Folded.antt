@@ -76,7 +76,8 @@ one-row (put t r) rel a = go (member r rel) refl
         (λ x. rw (member-insert x r rel) (at f x .1))
 one-row (remove t r) rel a = go (member r rel) refl
   where
-    at : member r rel ≡ true → (x : Row) → (false ≡ (not (member x rel) && (not (sameRow x r) && member x rel))) × ((sameRow x r || false) ≡ (not (not (sameRow x r) && member x rel) && member x rel))
+    at : member r rel ≡ true → (x : Row) → (false ≡ (not (member x rel) && (not (sameRow x r) && member x rel)))
+        × ((sameRow x r || false) ≡ (not (not (sameRow x r) && member x rel) && member x rel))
     at f x = removed-old (sameRow x r) (member x rel) (λ e. ap (λ (y : Row). member y rel) (sameRow-eq x r e) ∙ f)
 
     go : (m : Bool) → member r rel ≡ m → cond m (record { gained = []; lost = r ∷ [] }) noChange ≡ netChange rel (deleteRow r rel)

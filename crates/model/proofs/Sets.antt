@@ -2,8 +2,8 @@
 -- Assumes nothing.
 use mathlib.Core.Path.{_≡_, refl, sym, ap, _∙_, subst}
 use mathlib.Core.Bool.{Bool, true, false, not, _&&_, _||_, or-self-left, or-assoc, or-comm, true≢false, and-false}
-use mathlib.Core.List.{List, [], _∷_, _++_}
-use Prim.Native.Nat.{ℕ, Ordering, Ordering·lt, Ordering·eq, Ordering·gt, suc, zero-le, _≤_}
+use mathlib.Core.List.{List, [], _∷_}
+use Prim.Native.Nat.{Ordering, Ordering·lt, Ordering·eq, Ordering·gt, suc, zero-le, _≤_}
 use native.Mathlib.Omega.{arith}
 use native.Mathlib.Nat.{le-refl}
 use lib.Dec.{isEq}
@@ -20,7 +20,9 @@ member-insert r s (x ∷ l) = go (order s x) refl (member-insert r s l)
     go : (o : Ordering) → order s x ≡ o → member r (insertRow s l) ≡ (sameRow r s || member r l) → member r (place o s x l (insertRow s l)) ≡ (sameRow r s || (sameRow r x || member r l))
     go Ordering·lt e ih = refl
     go Ordering·eq e ih = rw (order-eq s x e) (sym (or-self-left (sameRow r x) (member r l)))
-    go Ordering·gt e ih = rw ih (sym (or-assoc (sameRow r x) (sameRow r s) (member r l)) ∙ ap (λ (b : Bool). b || member r l) (or-comm (sameRow r x) (sameRow r s)) ∙ or-assoc (sameRow r s) (sameRow r x) (member r l))
+    go Ordering·gt e ih = rw ih
+        (sym (or-assoc (sameRow r x) (sameRow r s) (member r l)) ∙ ap (λ (b : Bool). b || member r l) (or-comm (sameRow r x) (sameRow r s))
+        ∙ or-assoc (sameRow r s) (sameRow r x) (member r l))
 
 pub member-keep : (p : Row → Bool) (r : Row) (l : List Row) → member r (keep p l) ≡ (p r && member r l)
 member-keep p r [] = sym (and-false (p r))
@@ -272,6 +274,7 @@ delete-present r (s ∷ l) a e = go (sameRow s r) refl (delete-present r l (a .1
         flipped true g = absurd (true≢false (sym (sameRow-refl r) ∙ ap (λ (x : Row). sameRow x r) (sameRow-eq r s g) ∙ f))
         flipped false g = g
 
-    go : (t : Bool) → sameRow s r ≡ t → (member r l ≡ true → suc (length (keep (λ x. not (sameRow x r)) l)) ≡ length l) → suc (length (keepIf (not t) s (keep (λ x. not (sameRow x r)) l))) ≡ suc (length l)
+    go : (t : Bool) → sameRow s r ≡ t → (member r l ≡ true → suc (length (keep (λ x. not (sameRow x r)) l)) ≡ length l) → suc (length (keepIf (not t) s (keep (λ x. not (sameRow x r)) l)))
+        ≡ suc (length l)
     go true f ih = ap (λ (m : List Row). suc (length m)) (rest f)
     go false f ih = ap suc (ih (later f))

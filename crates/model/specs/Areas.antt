@@ -5,7 +5,7 @@ use mathlib.Core.List.{List, [], _∷_, _++_, map, zipWith, flatMap}
 use Prim.Native.Nat.{ℕ, zero, suc, _+_, _-_, _*_}
 use lib.Dec.{leb, ltb, eqb}
 use lib.ListN.{getD, length, drop, replicate}
-use Rattle.model.specs.Row.{Row, Relation, maxRows, maxNodes, maxWidth, ascending, sameRows, allOf, numbersBelow}
+use Rattle.model.specs.Row.{Relation, maxRows, maxNodes, maxWidth, ascending, sameRows, allOf, numbersBelow}
 use Rattle.model.specs.Network.{Node, isTable, widths}
 use Rattle.model.specs.Evaluation.{evaluate}
 use Rattle.model.specs.Delta.{Change}

@@ -4,7 +4,7 @@ use mathlib.Core.List.{List, [], _∷_, _++_}
 use Prim.Native.Nat.{ℕ, zero, suc, _+_, _*_}
 use lib.Dec.{leb, ltb, eqb}
 use lib.ListN.{getD, length, set}
-use Rattle.model.specs.Row.{Row, Relation, maxRows, member, insertRow, deleteRow}
+use Rattle.model.specs.Row.{Row, Relation, member, insertRow, deleteRow}
 use Rattle.model.specs.Record.{Bytes, u32, lengthAt, kindAt, fieldAt, isBroken, offsets, Verdict, accepted, refused, rule, firstBroken}
 use Rattle.model.specs.Network.{Node, isTable, widths, nodeAt}
 use Rattle.model.specs.Delta.{Change, noChange, deltaUnion}

@@ -1,16 +1,16 @@
 -- What each call promises, for every input: its answer, and all lent memory afterwards. Document 01, "Refused, in this checking order".
 use mathlib.Core.Path.{_≡_}
 use mathlib.Core.Bool.{Bool, true, false, not, _&&_, _||_, cond}
-use mathlib.Core.List.{List, [], _∷_, _++_, map, flatMap}
+use mathlib.Core.List.{List, [], _++_, map, flatMap}
 use Prim.Native.Nat.{ℕ, _+_, _*_, _<_}
 use lib.Dec.{leb, ltb, eqb}
-use lib.ListN.{getD, length, drop}
-use Rattle.model.specs.Row.{Row, Relation, maxNodes}
+use lib.ListN.{length, drop}
+use Rattle.model.specs.Row.{Row, maxNodes}
 use Rattle.model.specs.Record.{Bytes, bytes16, bytes32, Verdict, accepted, refused, isAccepted}
 use Rattle.model.specs.Network.{Node, Network, Reading, readNetwork, kindOf, widths, levels, signOf, within}
 use Rattle.model.specs.Delta.{Change, changeAt}
-use Rattle.model.specs.Station.{State, Step, step}
-use Rattle.model.specs.Areas.{Areas, Layout, layout, goodForm, coherent, stateIn, changesIn, holding, cleared, padded, longEnough, KeepsRest}
+use Rattle.model.specs.Station.{Step, step}
+use Rattle.model.specs.Areas.{Areas, layout, goodForm, coherent, stateIn, changesIn, holding, cleared, padded, longEnough, KeepsRest}
 
 -- ---- refusals that calls share
 

@@ -1,9 +1,9 @@
 -- Net changes and delta-union: document 01, "Records" (last sentence) and "The plain station"; document 000's delta-sets.
 use mathlib.Core.Bool.{Bool, _&&_, not}
-use mathlib.Core.List.{List, [], _∷_, zipWith}
+use mathlib.Core.List.{List, [], zipWith}
 use Prim.Native.Nat.{ℕ}
 use lib.ListN.{getD}
-use Rattle.model.specs.Row.{Row, Relation, isEmpty}
+use Rattle.model.specs.Row.{Relation, isEmpty}
 use Rattle.model.specs.Algebra.{unionRows, differenceRows}
 
 -- a net change of one relation, document 000's delta-set: rows gained and rows lost

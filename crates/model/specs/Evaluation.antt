@@ -1,12 +1,13 @@
 -- Fresh evaluation: document 01, "The plain station", last paragraph but one.
-use mathlib.Core.Bool.{Bool, true, false, cond}
-use mathlib.Core.List.{List, [], _∷_, _++_, flatMap}
-use Prim.Native.Nat.{ℕ, suc, _+_}
+use mathlib.Core.Bool.{cond}
+use mathlib.Core.List.{List, [], _∷_, flatMap}
+use Prim.Native.Nat.{ℕ, suc}
 use lib.Dec.{ltb}
 use lib.ListN.{getD, length}
-use Rattle.model.specs.Row.{Row, Relation, maxRows}
+use Rattle.model.specs.Row.{Relation, maxRows}
 use Rattle.model.specs.Algebra.{selectConstant, selectColumns, projectRows, joinRows, unionRows, differenceRows, intersectRows}
-use Rattle.model.specs.Network.{Node, table, select, project, join, setOperation, Operand, constant, column, SetOperation, union, difference, intersection, build, isTable, inputsOf}
+use Rattle.model.specs.Network.{Node, table, select, project, join, setOperation, Operand, constant, column, SetOperation, union, difference}
+use Rattle.model.specs.Network.{intersection, build, isTable, inputsOf}
 
 -- the rows of a node's input, given the rows of the nodes before it
 abbrev pub rowsAt : List Relation → ℕ → Relation

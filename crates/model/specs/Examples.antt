@@ -92,7 +92,8 @@ shown v = v .number ∷ v .place ∷ []
 -- the verdicts on a network, then on each batch
 unfoldable pub verdictsOn : Bytes → List Bytes → List Row
 unfolding readNetwork verdicts opened
-verdictsOn network batches = shown (readNetwork network .verdict) ∷ map shown (verdicts (nodesIn network) (opened (nodesIn network)) (map apply batches))
+verdictsOn network batches = shown (readNetwork network .verdict) ∷ map shown
+    (verdicts (nodesIn network) (opened (nodesIn network)) (map apply batches))
 
 -- the state after the batches
 unfoldable pub after : Bytes → List Bytes → State
@@ -161,7 +162,8 @@ examples =
     ∷ case networkN (batch1 ∷ []) (passes ∷ passes ∷ []) (ask workedIs ((1 ∷ 2 ∷ 4 ∷ []) ∷ []) ∷ [])
     ∷ case networkN (batch1 ∷ batch2 ∷ []) (passes ∷ passes ∷ passes ∷ []) (ask workedIs ((1 ∷ 2 ∷ []) ∷ []) ∷ [])
     ∷ case networkN (batch1 ∷ batch2 ∷ batch3 ∷ []) (passes ∷ passes ∷ passes ∷ passes ∷ []) (ask workedIs ((4 ∷ []) ∷ []) ∷ [])
-    ∷ case networkN (batch1 ∷ batch2 ∷ batch3 ∷ batch4 ∷ []) (passes ∷ passes ∷ passes ∷ passes ∷ passes ∷ []) (ask workedIs ((1 ∷ 2 ∷ 4 ∷ []) ∷ []) ∷ [])
+    ∷ case networkN (batch1 ∷ batch2 ∷ batch3 ∷ batch4 ∷ []) (passes ∷ passes ∷ passes ∷ passes ∷ passes ∷ [])
+    (ask workedIs ((1 ∷ 2 ∷ 4 ∷ []) ∷ []) ∷ [])
     -- "put then remove of a new row nets to nothing", beside a put that acts
     ∷ case
     networkS
@@ -203,7 +205,8 @@ examples =
     networkS
     (put 0 (7 ∷ []) ∷ (remove 0 (7 ∷ []) ++ put 1 (7 ∷ [])) ∷ [])
     (passes ∷ passes ∷ passes ∷ [])
-    (ask (lostOf 0) ((7 ∷ []) ∷ []) ∷ ask (gainedOf 1) ((7 ∷ []) ∷ []) ∷ ask (gainedOf 4) [] ∷ ask (lostOf 4) [] ∷ ask (rowsOf 4) ((7 ∷ []) ∷ []) ∷ [])
+    (ask (lostOf 0) ((7 ∷ []) ∷ []) ∷ ask (gainedOf 1) ((7 ∷ []) ∷ []) ∷ ask (gainedOf 4) [] ∷ ask (lostOf 4) [] ∷ ask (rowsOf 4)
+    ((7 ∷ []) ∷ []) ∷ [])
     ∷ []
 
 -- the whole table is right

@@ -7,7 +7,8 @@ use lib.Dec.{leb, ltb, eqb}
 use lib.ListN.{getD, length, set, take}
 use Rattle.model.specs.Row.{maxWidth, maxNodes, allOf, isEmpty, place}
 use Rattle.model.specs.Algebra.{Pair}
-use Rattle.model.specs.Record.{Bytes, u32, lengthAt, kindAt, fieldAt, fieldsAt, isBroken, offsets, Verdict, accepted, refused, Rule, rule, firstBroken}
+use Rattle.model.specs.Record.{Bytes, u32, lengthAt, kindAt, fieldAt, fieldsAt, isBroken, offsets, Verdict, accepted, refused, rule}
+use Rattle.model.specs.Record.{firstBroken}
 
 -- ---- nodes
 
@@ -226,7 +227,8 @@ itemAt selectConstantKind bs at = nodeItem (select (fieldAt bs at 0) (fieldAt bs
 itemAt selectColumnKind bs at = nodeItem (select (fieldAt bs at 0) (fieldAt bs at 1) (fieldAt bs at 2) (column (fieldAt bs at 3)))
 itemAt projectKind bs at = nodeItem (project (fieldAt bs at 0) (fieldsAt bs at 2 (fieldAt bs at 1)))
 itemAt joinKind bs at =
-    nodeItem (join (fieldAt bs at 0) (fieldAt bs at 1) (pairsAt bs at 3 (fieldAt bs at 2)) (fieldsAt bs at (4 + 2 * fieldAt bs at 2) (fieldAt bs at (3 + 2 * fieldAt bs at 2))))
+    nodeItem (join (fieldAt bs at 0) (fieldAt bs at 1) (pairsAt bs at 3 (fieldAt bs at 2))
+    (fieldsAt bs at (4 + 2 * fieldAt bs at 2) (fieldAt bs at (3 + 2 * fieldAt bs at 2))))
 itemAt (setKind o) bs at = nodeItem (setOperation o (fieldAt bs at 0) (fieldAt bs at 1))
 itemAt watchKind bs at = watchItem (record { node = fieldAt bs at 0; sign = fieldAt bs at 1 })
 

@@ -1,5 +1,5 @@
 -- Records in bytes: document 01, "Records" ("House format, little-endian"), and the rule that 3 and 10 share.
-use mathlib.Core.Bool.{Bool, true, false, _||_, cond}
+use mathlib.Core.Bool.{Bool, _||_, cond}
 use mathlib.Core.List.{List, [], _∷_, _++_}
 use Prim.Native.Nat.{ℕ, zero, suc, _+_, _-_, _*_, _/_, _%_, _<_}
 use lib.Dec.{leb, ltb, eqb}

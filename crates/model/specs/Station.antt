@@ -1,12 +1,12 @@
 -- "The plain station": document 01, the section of that name, and its own term.
-use mathlib.Core.Bool.{Bool, true, false, not, _&&_, cond}
-use mathlib.Core.List.{List, [], _∷_, _++_, zipWith, flatMap}
-use Prim.Native.Nat.{ℕ, zero, suc, _+_}
+use mathlib.Core.Bool.{Bool, _&&_, cond}
+use mathlib.Core.List.{List, [], _∷_, zipWith, flatMap}
+use Prim.Native.Nat.{ℕ, _+_}
 use lib.Dec.{eqb}
 use lib.ListN.{getD, length, replicate}
-use Rattle.model.specs.Row.{Row, Relation, keep, someOf, numbersBelow}
+use Rattle.model.specs.Row.{Relation, keep, someOf, numbersBelow}
 use Rattle.model.specs.Record.{Bytes, Verdict, accepted, refused, isAccepted}
-use Rattle.model.specs.Network.{Node, Network, inputsOf, nodeAt, levels}
+use Rattle.model.specs.Network.{Node, inputsOf, nodeAt, levels}
 use Rattle.model.specs.Evaluation.{evaluate, overfull}
 use Rattle.model.specs.Batch.{Event, BatchReading, readBatch, actAll}
 use Rattle.model.specs.Delta.{Change, noChange, netChanges, isChanged, changeAt}
@@ -48,7 +48,8 @@ unfoldable pub workedAtLevel : List Node → List Change → ℕ → List ℕ
 unfolding levels
 workedAtLevel nodes changes level = keep (λ i. eqb (getD (levels nodes) i 0) level && hasChangedInput nodes changes i) (numbersBelow (length nodes))
 
--- "The worked list is the derived nodes with an input that gained or lost rows, by level, then number": a table has no input, and a level is below the number of nodes
+-- "The worked list is the derived nodes with an input that gained or lost rows, by level, then number":
+-- a table has no input, and a level is below the number of nodes
 unfoldable pub workedList : List Node → List Change → List ℕ
 unfolding workedAtLevel flatMap
 workedList nodes changes = flatMap (workedAtLevel nodes changes) (numbersBelow (length nodes))

@@ -1,12 +1,12 @@
 -- The station program: how it cuts its file into batches, and the lines it prints. Document 01, "Examples".
-use mathlib.Core.Bool.{Bool, true, false, _&&_, _||_, cond}
+use mathlib.Core.Bool.{Bool, _&&_, cond}
 use mathlib.Core.List.{List, [], _∷_, _++_, flatMap}
 use Prim.Native.Nat.{ℕ, zero, suc, _+_, _-_, _/_, _%_}
 use lib.Dec.{leb, ltb, eqb}
-use lib.ListN.{getD, length, take, drop}
-use Rattle.model.specs.Row.{Row, Relation, numbersBelow}
-use Rattle.model.specs.Record.{Bytes, lengthAt, kindAt, isBroken, offsets, Verdict, isAccepted}
-use Rattle.model.specs.Network.{Node, Network, Reading, readNetwork, signOf}
+use lib.ListN.{length, take, drop}
+use Rattle.model.specs.Row.{Relation, numbersBelow}
+use Rattle.model.specs.Record.{Bytes, lengthAt, kindAt, isBroken, offsets, isAccepted}
+use Rattle.model.specs.Network.{Network, Reading, readNetwork, signOf}
 use Rattle.model.specs.Delta.{Change, changeAt}
 use Rattle.model.specs.Station.{State, opened, Step, step}
 use Rattle.model.specs.Calls.{allowsGained, allowsLost}

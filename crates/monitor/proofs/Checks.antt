@@ -28,7 +28,8 @@ use Rattle.model.specs.Network as model
 -- ---- the parts of good form
 
 module _ (net : Network) (b : Built net) (rows gained lost head : List ℕ) (good : goodForm layout (nodesOf net) (lent rows gained lost head) ≡ true) where
-  parts : (goodArea layout (widths (nodesOf net)) (rowCount head) rows ≡ true) × (goodArea layout (widths (nodesOf net)) (gainedCount head) gained ≡ true) × (goodArea layout (widths (nodesOf net)) (lostCount head) lost ≡ true) × (goodStamps (length (nodesOf net)) head ≡ true) × (goodWorked (length (nodesOf net)) head ≡ true)
+  parts : (goodArea layout (widths (nodesOf net)) (rowCount head) rows ≡ true) × (goodArea layout (widths (nodesOf net)) (gainedCount head) gained ≡ true)
+      × (goodArea layout (widths (nodesOf net)) (lostCount head) lost ≡ true) × (goodStamps (length (nodesOf net)) head ≡ true) × (goodWorked (length (nodesOf net)) head ≡ true)
   parts = form-parts (nodesOf net) (lent rows gained lost head) good
 
   size : length (widths (nodesOf net)) ≡ net .count
@@ -74,12 +75,15 @@ module _ (net : Bytes) (rows gained lost head : List ℕ) (r : Reading) (f : For
       let no : isAccepted (formVerdict net a) ≡ false = ap isAccepted (sym v) ∙ ne-eqb (r .verdict .number) 0 n in
       λ i. record { verdict = v i; yes? = sym (ap (λ (t : Bool). t && coherent layout (readNetwork net .network .nodes) a) no) i }
 
-  pub apply-refused : (bs : Bytes) → (r .verdict .number ≡ 0 → ⊥) → Applied net bs (lent rows gained lost head) (record { verdict = verdictOf (r .verdict); areas = lent rows gained lost head })
+  pub apply-refused : (bs : Bytes) → (r .verdict .number ≡ 0 → ⊥) →
+      Applied net bs (lent rows gained lost head) (record { verdict = verdictOf (r .verdict); areas = lent rows gained lost head })
   unfolding applyPromise
   apply-refused bs n =
       let v : verdictOf (r .verdict) ≡ formVerdict net a = f .verdict in
       let no : isAccepted (formVerdict net a) ≡ false = ap isAccepted (sym v) ∙ ne-eqb (r .verdict .number) 0 n in
-      subst (λ (t : Bool). Keeps (cond t (promiseOf (readNetwork net .network .nodes) a (step (readNetwork net .network .nodes) (stateIn layout (readNetwork net .network .nodes) a) bs)) (settled (record { verdict = formVerdict net a; areas = a }))) a (record { verdict = verdictOf (r .verdict); areas = a })) (sym no)
+      subst (λ (t : Bool). Keeps
+      (cond t (promiseOf (readNetwork net .network .nodes) a (step (readNetwork net .network .nodes) (stateIn layout (readNetwork net .network .nodes) a) bs))
+      (settled (record { verdict = formVerdict net a; areas = a }))) a (record { verdict = verdictOf (r .verdict); areas = a })) (sym no)
       (ap (λ (y : Verdict). record { verdict = y; areas = a }) v)
 
   module _ (z : r .verdict .number ≡ 0) where
@@ -105,7 +109,9 @@ module _ (net : Bytes) (rows gained lost head : List ℕ) (r : Reading) (f : For
     unfolding applyPromise
     applied bs x k =
         let same : nodesOf (r .network) ≡ readNetwork net .network .nodes = ap (λ (y : model.Network). y .nodes) same-network in
-        subst (λ (t : Bool). Keeps (cond t (promiseOf (readNetwork net .network .nodes) a (step (readNetwork net .network .nodes) (stateIn layout (readNetwork net .network .nodes) a) bs)) (settled (record { verdict = formVerdict net a; areas = a }))) a x) (sym form-accepted)
+        subst (λ (t : Bool). Keeps
+        (cond t (promiseOf (readNetwork net .network .nodes) a (step (readNetwork net .network .nodes) (stateIn layout (readNetwork net .network .nodes) a) bs))
+        (settled (record { verdict = formVerdict net a; areas = a }))) a x) (sym form-accepted)
         (subst (λ (l : List model.Node). Keeps (promiseOf l a (step l (stateIn layout l a) bs)) a x) same k)
 
     pub reportable : Changes (r .network) gained lost head
@@ -115,5 +121,6 @@ module _ (net : Bytes) (rows gained lost head : List ℕ) (r : Reading) (f : For
     unfolding checkCall coherent rowsIn
     check-answered answer e =
         let whole : coherent layout (readNetwork net .network .nodes) a ≡ answer =
-        ap (λ (l : List model.Node). coherent layout l a) (sym (ap (λ (x : model.Network). x .nodes) same-network)) ∙ ap (λ (t : Bool). t && freshIn (r .network) rows head) (f .good z) ∙ sym e in
+        ap (λ (l : List model.Node). coherent layout l a) (sym (ap (λ (x : model.Network). x .nodes) same-network)) ∙ ap (λ (t : Bool). t && freshIn (r .network) rows head) (f .good z)
+        ∙ sym e in
         λ i. record { verdict = f .verdict i; yes? = sym (ap₂ {A = Bool} {B = Bool} {C = Bool} (λ s t. s && t) form-accepted whole) i }

@@ -9,9 +9,7 @@ use lib.ListN.{drop, length-replicate, replicate, take}
 use lib.Dec.{eqb}
 use lib.Seq.{paste, take-all}
 use borrow.Author.Tests.{eq-eqb, ne-eqb}
-use Rattle.network.specs.declared.Network.{Network}
 use Rattle.network.specs.declared.Reading.{Reading}
-use Rattle.rows.proofs.Place.{all-below}
 use Rattle.model.specs.Areas.{Areas, cleared, goodForm, layout, longEnough, over}
 use Rattle.network.specs.Reading.{Built, ReadsNetwork, nodesOf, readingOf, verdictOf}
 use Rattle.model.specs.Record.{Bytes, Verdict, accepted, refused, isAccepted}
@@ -65,13 +63,16 @@ module _ (net : Bytes) (a : Areas) where
   unfolding formVerdict
   form-unread v e f g =
       let open-is : openVerdict net a ≡ v = open-read e ∙ sym f in
-      ap (λ (x : Verdict). orElse x (unless (goodForm layout (readNetwork net .network .nodes) a) 8)) open-is ∙ or-refused v (unless (goodForm layout (readNetwork net .network .nodes) a) 8) g
+      ap (λ (x : Verdict). orElse x (unless (goodForm layout (readNetwork net .network .nodes) a) 8)) open-is
+      ∙ or-refused v (unless (goodForm layout (readNetwork net .network .nodes) a) 8) g
 
-  form-bad : (v : Verdict) → longEnough layout a ≡ true → v ≡ readNetwork net .verdict → eqb (v .number) 0 ≡ true → goodForm layout (readNetwork net .network .nodes) a ≡ false → formVerdict net a ≡ refused 8 0
+  form-bad : (v : Verdict) → longEnough layout a ≡ true → v ≡ readNetwork net .verdict → eqb (v .number) 0 ≡ true → goodForm layout (readNetwork net .network .nodes) a ≡ false →
+      formVerdict net a ≡ refused 8 0
   unfolding formVerdict openVerdict
   form-bad v e f g h = rw (h, e, ← f, g)
 
-  form-good : (v : Verdict) → longEnough layout a ≡ true → v ≡ readNetwork net .verdict → eqb (v .number) 0 ≡ true → goodForm layout (readNetwork net .network .nodes) a ≡ true → formVerdict net a ≡ accepted
+  form-good : (v : Verdict) → longEnough layout a ≡ true → v ≡ readNetwork net .verdict → eqb (v .number) 0 ≡ true → goodForm layout (readNetwork net .network .nodes) a ≡ true →
+      formVerdict net a ≡ accepted
   unfolding formVerdict openVerdict
   form-good v e f g h = rw (h, e, ← f, g)
 
@@ -108,13 +109,15 @@ module _ (net : Bytes) (a : Areas) where
         }
 
     pub forms-bad : (s : Reading) → r .verdict .number ≡ 0 → goodForm layout (nodesOf (r .network)) a ≡ false → readingOf s ≡ refusedReading 8 0 → Built (s .network) → Forms net a s
-    forms-bad s z g e b = refusal 8 s (omega arith) e b (form-bad (verdictOf (r .verdict)) long same-verdict (eq-eqb (r .verdict .number) 0 z) (ap (λ (l : List model.Node). goodForm layout l a) (sym same-nodes) ∙ g))
+    forms-bad s z g e b = refusal 8 s (omega arith) e b
+        (form-bad (verdictOf (r .verdict)) long same-verdict (eq-eqb (r .verdict .number) 0 z) (ap (λ (l : List model.Node). goodForm layout l a) (sym same-nodes) ∙ g))
 
     pub forms-good : r .verdict .number ≡ 0 → goodForm layout (nodesOf (r .network)) a ≡ true → Forms net a r
     forms-good z g =
         let zero-read : readNetwork net .verdict .number ≡ 0 = ap (λ (v : Verdict). v .number) (sym same-verdict) ∙ z in
         record {
-          verdict = same-verdict ∙ read-accepted net zero-read ∙ sym (form-good (verdictOf (r .verdict)) long same-verdict (eq-eqb (r .verdict .number) 0 z) (ap (λ (l : List model.Node). goodForm layout l a) (sym same-nodes) ∙ g));
+          verdict = same-verdict ∙ read-accepted net zero-read
+              ∙ sym (form-good (verdictOf (r .verdict)) long same-verdict (eq-eqb (r .verdict .number) 0 z) (ap (λ (l : List model.Node). goodForm layout l a) (sym same-nodes) ∙ g));
           built = is .built;
           network = λ y. ap (λ (x : model.Reading). x .network) (is .is);
           long = λ y. long;

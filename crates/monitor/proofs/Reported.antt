@@ -27,7 +27,8 @@ use Rattle.network.specs.declared.Reading.{Reading}
 use Rattle.monitor.proofs.Forms.{or-accepted, or-refused}
 use Rattle.model.specs.Network as model
 
-pub zip-at : (a b : List Relation) (i : ℕ) → i < length a → i < length b → changeAt (zipWith (λ g l. record { gained = g; lost = l }) a b) i ≡ record { gained = getD a i []; lost = getD b i [] }
+pub zip-at : (a b : List Relation) (i : ℕ) → i < length a → i < length b → changeAt (zipWith (λ g l. record { gained = g; lost = l }) a b) i
+    ≡ record { gained = getD a i []; lost = getD b i [] }
 unfolding zipWith
 zip-at [] b i h g = absurd (not-suc-le-zero h)
 zip-at (x ∷ a) [] i h g = absurd (not-suc-le-zero g)
@@ -56,22 +57,26 @@ module _ (net : Network) (b : Built net) (node : ℕ) (gained lost head : List �
   in-widths : node < net .count → node < length (widths (nodesOf net))
   in-widths h = rw (length-widths (nodesOf net), nodes-count net b) h
 
-  held-is : (count : ℕ → ℕ) (area : List ℕ) → node < net .count → getD (relationsIn layout (widths (nodesOf net)) count area) node [] ≡ heldIn layout (getD (net .widths) node 0) (count node) area node
+  held-is : (count : ℕ → ℕ) (area : List ℕ) → node < net .count → getD (relationsIn layout (widths (nodesOf net)) count area) node []
+      ≡ heldIn layout (getD (net .widths) node 0) (count node) area node
   held-is count area h = relation-at (widths (nodesOf net)) count area node (in-widths h) ∙ ap (λ (w : ℕ). heldIn layout w (count node) area node) (width-is net b node h)
 
   pub change-at : node < net .count → changeAt (changesIn layout (nodesOf net) (lent [] gained lost head)) node ≡ changeIn net node gained lost head
   unfolding changesIn
   change-at h =
-      zip-at (relationsIn layout (widths (nodesOf net)) (gainedCount head) gained) (relationsIn layout (widths (nodesOf net)) (lostCount head) lost) node (rw (relations-length (widths (nodesOf net)) (gainedCount head) gained) (in-widths h)) (rw (relations-length (widths (nodesOf net)) (lostCount head) lost) (in-widths h))
+      zip-at (relationsIn layout (widths (nodesOf net)) (gainedCount head) gained) (relationsIn layout (widths (nodesOf net)) (lostCount head) lost) node
+      (rw (relations-length (widths (nodesOf net)) (gainedCount head) gained) (in-widths h)) (rw (relations-length (widths (nodesOf net)) (lostCount head) lost) (in-widths h))
       ∙ ap₂ {A = Relation} {B = Relation} {C = Change} (λ g l. record { gained = g; lost = l }) (held-is (gainedCount head) gained h) (held-is (lostCount head) lost h)
 
   -- the report's bytes
-  report-is : (sign : ℕ) → sign ≡ getD (take (net .count) (net .signs)) node 0 → node < net .count → reportOf (networkOf net) node (lent [] gained lost head) ≡ reportBytes sign node (changeIn net node gained lost head)
+  report-is : (sign : ℕ) → sign ≡ getD (take (net .count) (net .signs)) node 0 → node < net .count → reportOf (networkOf net) node (lent [] gained lost head)
+      ≡ reportBytes sign node (changeIn net node gained lost head)
   unfolding reportOf
   report-is sign e h = ap₂ {A = ℕ} {B = Change} {C = List ℕ} (λ s x. reportBytes s node x) (sym e) (change-at h)
 
   module _ (out : List ℕ) where
-    pub unwatched : (sign : ℕ) → sign ≡ getD (take (net .count) (net .signs)) node 0 → sign ≡ 0 → record { verdict = refused 15 0; size = 0; out = out } ≡ reportIn (networkOf net) node (lent [] gained lost head) out
+    pub unwatched : (sign : ℕ) → sign ≡ getD (take (net .count) (net .signs)) node 0 → sign ≡ 0 → record { verdict = refused 15 0; size = 0; out = out }
+        ≡ reportIn (networkOf net) node (lent [] gained lost head) out
     unfolding reportIn
     unwatched sign e z =
         let zero-sign : getD (take (net .count) (net .signs)) node 0 ≡ 0 = sym e ∙ z in
@@ -86,7 +91,8 @@ module _ (net : Network) (b : Built net) (node : ℕ) (gained lost head : List �
         ap₂ {A = Bool} {B = Bool} {C = Bool} (λ x y. x && not y) inside set
 
     module _ (sign size : ℕ) (e : sign ≡ getD (take (net .count) (net .signs)) node 0) (n : sign ≡ 0 → ⊥)
-        (s : size ≡ cond (allowsGained sign) (gainedCount head node * (6 + 4 * getD (net .widths) node 0)) 0 + cond (allowsLost sign) (lostCount head node * (6 + 4 * getD (net .widths) node 0)) 0) where
+        (s : size ≡ cond (allowsGained sign) (gainedCount head node * (6 + 4 * getD (net .widths) node 0)) 0 + cond (allowsLost sign)
+        (lostCount head node * (6 + 4 * getD (net .widths) node 0)) 0) where
       inside : node < net .count
       inside = sign-inside sign e n
 
@@ -99,10 +105,12 @@ module _ (net : Network) (b : Built net) (node : ℕ) (gained lost head : List �
           let no : leb (length (reportOf (networkOf net) node (lent [] gained lost head))) (length out) ≡ false = ap (λ (k : ℕ). leb k (length out)) length-is ∙ lt-leb size (length out) h in
           rw (watched sign e n, no)
 
-      pub written : (after : List ℕ) → size ≤ length out → after ≡ writtenTo out (reportBytes sign node (changeIn net node gained lost head)) → record { verdict = accepted; size = size; out = after } ≡ reportIn (networkOf net) node (lent [] gained lost head) out
+      pub written : (after : List ℕ) → size ≤ length out → after ≡ writtenTo out (reportBytes sign node (changeIn net node gained lost head)) →
+          record { verdict = accepted; size = size; out = after } ≡ reportIn (networkOf net) node (lent [] gained lost head) out
       unfolding reportIn
       written after h f =
-          let yes-fits : leb (length (reportOf (networkOf net) node (lent [] gained lost head))) (length out) ≡ true = ap (λ (k : ℕ). leb k (length out)) length-is ∙ le-leb size (length out) h in
+          let yes-fits : leb (length (reportOf (networkOf net) node (lent [] gained lost head))) (length out) ≡ true = ap (λ (k : ℕ). leb k (length out)) length-is
+          ∙ le-leb size (length out) h in
           let same : after ≡ writtenTo out (reportOf (networkOf net) node (lent [] gained lost head)) = f ∙ ap (writtenTo out) (sym (report-is sign e inside)) in
           rw (watched sign e n, yes-fits) (λ i. record { verdict = accepted; size = sym length-is i; out = same i })
 
@@ -125,7 +133,8 @@ module _ (net : Bytes) (node : ℕ) (rows gained lost head out : List ℕ) (r : 
   refused-answer : (v : Verdict) → isAccepted v ≡ false → answer v ≡ record { verdict = v; size = 0; out = out }
   unfolding answer
   refused-answer v e =
-      let none : cond (isAccepted v) (reportOf (readNetwork net .network) node (lent rows gained lost head)) [] ≡ [] = ap (λ (t : Bool). cond t (reportOf (readNetwork net .network) node (lent rows gained lost head)) []) e in
+      let none : cond (isAccepted v) (reportOf (readNetwork net .network) node (lent rows gained lost head)) []
+      ≡ [] = ap (λ (t : Bool). cond t (reportOf (readNetwork net .network) node (lent rows gained lost head)) []) e in
       λ i. record { verdict = v; size = length (none i); out = writtenTo out (none i) }
 
   call-is : reportCall net node (lent rows gained lost head) out ≡ answer (orElse form later)

@@ -1,6 +1,6 @@
 -- What the calls answer, in the model's terms.
 use mathlib.Core.Path.{_≡_}
-use mathlib.Core.Bool.{Bool, true, cond}
+use mathlib.Core.Bool.{true, cond}
 use mathlib.Core.List.{List, []}
 use Prim.Native.Nat.{ℕ, _<_, _≤_}
 use lib.ListN.{getD, length}
@@ -53,4 +53,8 @@ pub record Changes (net : Network) (gained lost head : List ℕ) : Type 0 where
 -- a node's gained and lost rows
 abbrev pub changeIn : Network → ℕ → List ℕ → List ℕ → List ℕ → Change
 changeIn net node gained lost head =
-    record { gained = heldIn layout (getD (net .widths) node 0) (gainedCount head node) gained node; lost = heldIn layout (getD (net .widths) node 0) (lostCount head node) lost node }
+    record {
+      gained = heldIn layout (getD (net .widths) node 0) (gainedCount head node) gained node;
+      lost = heldIn layout (getD (net .widths) node 0)
+          (lostCount head node) lost node;
+    }

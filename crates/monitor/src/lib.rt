@@ -1,10 +1,9 @@
 // The calls of the condition monitor: open, apply, check, report.
 ghost use mathlib.Core.Path.{_≡_};
-ghost use mathlib.Core.Bool.{Bool, true, false};
+ghost use mathlib.Core.Bool.{true, false};
 ghost use mathlib.Core.List.{[]};
-ghost use Prim.Native.Nat.{ℕ, _+_, _≤_, _<_};
+ghost use Prim.Native.Nat.{_+_, _≤_, _<_};
 ghost use lib.ListN.{length, getD, take};
-ghost use Rattle.model.specs.Network.{readNetwork};
 ghost use Rattle.model.specs.Areas.{layout, longEnough, cleared};
 ghost use Rattle.model.specs.Calls.{openCall, Applied, checkCall, reportCall};
 ghost use Rattle.network.specs.Reading.{Built, networkOf};
@@ -24,7 +23,8 @@ use network::Verdict;
 // Every named word set to 0.
 fn clear(rows: &mut [u32], gained: &mut [u32], lost: &mut [u32], head: &mut [u32])
     requires { ⌜ longEnough layout (lent (now rows) (now gained) (now lost) (now head)) ≡ true ⌝ }
-    ensures { λ _. ⌜ lent (now (rows .exit)) (now (gained .exit)) (now (lost .exit)) (now (head .exit)) ≡ cleared layout (lent (now (rows .entry)) (now (gained .entry)) (now (lost .entry)) (now (head .entry))) ⌝ }
+    ensures { λ _. ⌜ lent (now (rows .exit)) (now (gained .exit)) (now (lost .exit)) (now (head .exit))
+        ≡ cleared layout (lent (now (rows .entry)) (now (gained .entry)) (now (lost .entry)) (now (head .entry))) ⌝ }
 {
     words::clear_run(rows, 0, AREA);
     words::clear_run(gained, 0, AREA);
@@ -40,7 +40,8 @@ pub fn open(
     lost: &mut [u32],
     head: &mut [u32],
 ) -> Verdict
-    ensures { λ r. ⌜ resultWith r (lent (now (rows .exit)) (now (gained .exit)) (now (lost .exit)) (now (head .exit))) ≡ openCall (now (net .entry)) (lent (now (rows .entry)) (now (gained .entry)) (now (lost .entry)) (now (head .entry))) ⌝ }
+    ensures { λ r. ⌜ resultWith r (lent (now (rows .exit)) (now (gained .exit)) (now (lost .exit)) (now (head .exit)))
+        ≡ openCall (now (net .entry)) (lent (now (rows .entry)) (now (gained .entry)) (now (lost .entry)) (now (head .entry))) ⌝ }
 {
     if !areas::long_enough(rows, gained, lost, head) {
         return Verdict {
@@ -89,7 +90,9 @@ pub fn apply(
     lost: &mut [u32],
     head: &mut [u32],
 ) -> Verdict
-    ensures { λ r. ⌜ Applied (now (net .entry)) (now (batch .entry)) (lent (now (rows .entry)) (now (gained .entry)) (now (lost .entry)) (now (head .entry))) (resultWith r (lent (now (rows .exit)) (now (gained .exit)) (now (lost .exit)) (now (head .exit)))) ⌝ }
+    ensures { λ r. ⌜ Applied (now (net .entry)) (now (batch .entry))
+        (lent (now (rows .entry)) (now (gained .entry)) (now (lost .entry)) (now (head .entry)))
+        (resultWith r (lent (now (rows .exit)) (now (gained .exit)) (now (lost .exit)) (now (head .exit)))) ⌝ }
 {
     let reading = read_areas(net, rows, gained, lost, head);
     let verdict = reading.verdict;
@@ -111,7 +114,8 @@ pub struct CheckAnswer {
 
 // Whether the areas are coherent: refusals 1 to 8, or yes or no. Nothing is written.
 pub fn check(net: &[u8], rows: &[u32], gained: &[u32], lost: &[u32], head: &[u32]) -> CheckAnswer
-    ensures { λ r. ⌜ checkAnswerOf r ≡ checkCall (now (net .entry)) (lent (now (rows .entry)) (now (gained .entry)) (now (lost .entry)) (now (head .entry))) ⌝ }
+    ensures { λ r. ⌜ checkAnswerOf r
+        ≡ checkCall (now (net .entry)) (lent (now (rows .entry)) (now (gained .entry)) (now (lost .entry)) (now (head .entry))) ⌝ }
 {
     let reading = read_areas(net, rows, gained, lost, head);
     let verdict = reading.verdict;
@@ -159,7 +163,8 @@ fn report_node(
     out: &mut [u8],
 ) -> ReportAnswer
     requires { ⌜ Built network × Changes network (now gained) (now lost) (now head) ⌝ }
-    ensures { λ r. ⌜ reportAnswerOf r (now (out .exit)) ≡ reportIn (networkOf network) node (lent [] (now (gained .entry)) (now (lost .entry)) (now (head .entry))) (now (out .entry)) ⌝ }
+    ensures { λ r. ⌜ reportAnswerOf r (now (out .exit))
+        ≡ reportIn (networkOf network) node (lent [] (now (gained .entry)) (now (lost .entry)) (now (head .entry))) (now (out .entry)) ⌝ }
 {
     let count = network.count;
     let sign = sign_of(count, &network.signs, node);
@@ -199,7 +204,9 @@ pub fn report(
     head: &[u32],
     out: &mut [u8],
 ) -> ReportAnswer
-    ensures { λ r. ⌜ reportAnswerOf r (now (out .exit)) ≡ reportCall (now (net .entry)) node (lent (now (rows .entry)) (now (gained .entry)) (now (lost .entry)) (now (head .entry))) (now (out .entry)) ⌝ }
+    ensures { λ r. ⌜ reportAnswerOf r (now (out .exit))
+        ≡ reportCall (now (net .entry)) node (lent (now (rows .entry)) (now (gained .entry)) (now (lost .entry)) (now (head .entry)))
+        (now (out .entry)) ⌝ }
 {
     let reading = read_areas(net, rows, gained, lost, head);
     let verdict = reading.verdict;

@@ -1,21 +1,21 @@
 -- A network grows by one item at a time, and the arrays beside its nodes hold their widths and levels. Assumes nothing.
 use mathlib.Core.Path.{_≡_, refl, sym, ap, ap₂, _∙_}
-use mathlib.Core.Bool.{Bool, true, false, cond}
+use mathlib.Core.Bool.{Bool, true, false}
 use mathlib.Core.List.{List, [], _∷_, _++_, map}
-use Prim.Native.Nat.{ℕ, zero, suc, _+_, _-_, _*_, _≤_, _<_, max, zero-le, suc-le-suc}
-use native.Mathlib.Nat.{le-trans, le-refl, not-suc-le-zero, le-of-suc-le-suc}
+use Prim.Native.Nat.{ℕ, zero, suc, _+_, _*_, _≤_, _<_, max, zero-le}
+use native.Mathlib.Nat.{le-refl}
 use native.Mathlib.Numerals.{add-one}
 use native.Mathlib.Omega.{arith}
-use lib.ListN.{length, getD, set, take, drop, replicate, length-set}
+use lib.ListN.{length, getD, set, take, replicate, length-set}
 use lib.Seq.{take-suc, take-suc-set, take-set-lt, getD-take, getD-set-other, getD-set-same}
 use lib.Dec.{ltb}
 use borrow.Author.Tests.{ltb-false, ltb-true}
-use Rattle.model.specs.Record.{Bytes, fieldsAt}
-use Rattle.model.specs.Network.{nodeItem, watchItem, isTable, inputsOf, highest, widthOf, levelOf, noNetwork, withItem, levels, widths}
+use Rattle.model.specs.Record.{Bytes}
+use Rattle.model.specs.Network.{nodeItem, watchItem, widthOf, levelOf, levels, widths}
 use Rattle.model.proofs.Build.{build-more}
 use Rattle.model.proofs.Fits.{widths-more}
 use Rattle.nodes.specs.Nodes.{nodeAt, NodeFits, Narrow}
-use Rattle.network.specs.Reading.{slotNode, nodesOf, networkOf, Sound, Built, Extends, NextSlot, InputsBelow, widthIn, levelIn, Ends, Shaped, noSlot, CountsFit}
+use Rattle.network.specs.Reading.{slotNode, nodesOf, Sound, Built, Extends, NextSlot, InputsBelow, widthIn, levelIn, Ends, Shaped, noSlot, CountsFit}
 use Rattle.nodes.specs.declared.Node.{Node}
 use Rattle.nodes.specs.declared.Node.the-variants.{Table, Select, Project, Join, Set}
 use Rattle.network.specs.declared.Slot.{Slot}
@@ -56,7 +56,13 @@ take-more l count x h = rw add-one (take-suc-set l count x h)
 
 module _ (net : Network) (slot : Slot) (width level : ℕ) (next : NextSlot net slot width level) where
   abbrev grown : Network
-  grown = record { count = net .count + 1; slots = set (net .slots) (net .count) slot; widths = set (net .widths) (net .count) width; levels = set (net .levels) (net .count) level; signs = net .signs }
+  grown = record {
+    count = net .count + 1;
+    slots = set (net .slots) (net .count) slot;
+    widths = set (net .widths) (net .count) width;
+    levels = set (net .levels) (net .count) level;
+    signs = net .signs;
+  }
 
   b : Built net
   b = next .built
@@ -119,7 +125,8 @@ module _ (net : Network) (slot : Slot) (width level : ℕ) (next : NextSlot net 
 -- ---- one watch more
 
 module _ (net : Network) (node sign : ℕ) (b : Built net) (within : node < net .count) where
-  pub extends-watch : Extends net (watchItem (record { node = node; sign = sign })) (record { count = net .count; slots = net .slots; widths = net .widths; levels = net .levels; signs = set (net .signs) node sign })
+  pub extends-watch : Extends net (watchItem (record { node = node; sign = sign }))
+      (record { count = net .count; slots = net .slots; widths = net .widths; levels = net .levels; signs = set (net .signs) node sign })
   extends-watch =
       record {
         built = record {

@@ -23,7 +23,8 @@ use Rattle.model.specs.Network as model
 pub ends-padded : (n count : ℕ) (l : List ℕ) → length l ≡ n → count ≤ n → Ends count l → l ≡ padded n (take count l)
 ends-padded n count l e h z =
     let rest : drop count l ≡ replicate (n - count) 0 =
-    ext-getD 0 (drop count l) (replicate (n - count) 0) (length-drop count l ∙ rw length-replicate (omega arith)) (λ i b. getD-drop count l i 0 ∙ z (count + i) (omega arith) ∙ sym (zero-at (n - count) i)) in
+    ext-getD 0 (drop count l) (replicate (n - count) 0) (length-drop count l ∙ rw length-replicate (omega arith))
+    (λ i b. getD-drop count l i 0 ∙ z (count + i) (omega arith) ∙ sym (zero-at (n - count) i)) in
     let size : length (take count l) ≡ count = length-take-le count l (omega arith) in
     sym (take-append-drop count l) ∙ ap (λ (r : List ℕ). take count l ++ r) (rest ∙ ap (λ (k : ℕ). replicate (n - k) 0) (sym size))
 
@@ -50,7 +51,8 @@ length-kinds : (l : List Slot) → length (map kindOf (map slotNode l)) ≡ leng
 length-kinds [] = refl
 length-kinds (x ∷ l) = ap suc (length-kinds l)
 
-pub kinds-more : (slots : List Slot) (i x : ℕ) (kinds : List ℕ) → i < length slots → i < 32 → kinds ≡ padded 32 (kindsTo slots i) → x ≡ kindOf (slotNode (getD slots i noSlot)) → set kinds i x ≡ padded 32 (kindsTo slots (i + 1))
+pub kinds-more : (slots : List Slot) (i x : ℕ) (kinds : List ℕ) → i < length slots → i < 32 → kinds ≡ padded 32 (kindsTo slots i) → x ≡ kindOf (slotNode (getD slots i noSlot)) →
+    set kinds i x ≡ padded 32 (kindsTo slots (i + 1))
 kinds-more slots i x kinds h g e f =
     let one : take (i + 1) slots ≡ take i slots ++ (getD slots i noSlot ∷ []) = rw add-one (take-suc slots i noSlot h) in
     let more : kindsTo slots (i + 1) ≡ kindsTo slots i ++ (x ∷ []) =
@@ -71,14 +73,26 @@ answer r =
     }
 
 pub answered : (bs : Bytes) (r : Reading) (kinds : List ℕ) → ReadsNetwork bs r → kinds ≡ padded 32 (map kindOf (nodesOf (r .network))) →
-    answerOf (record { number = r .verdict .number; place = r .verdict .place; count = r .network .count; kinds = kinds; widths = r .network .widths; levels = r .network .levels }) ≡ readCall bs
+    answerOf (record { number = r .verdict .number; place = r .verdict .place; count = r .network .count; kinds = kinds; widths = r .network .widths; levels = r .network .levels })
+    ≡ readCall bs
 unfolding readCall answer
 answered bs r kinds h k =
     let b : Built (r .network) = h .built in
     let net : Network = r .network in
-    let count : net .count ≡ length (nodesOf net) = sym (length-map (take (net .count) (net .slots)) slotNode ∙ length-take-le (net .count) (net .slots) (omega (arith, h .built .sound .few, h .built .slots-length))) in
-    let ws : net .widths ≡ padded 32 (model.widths (nodesOf net)) = ends-padded 32 (net .count) (net .widths) (b .widths-length) (b .sound .few) (b .widths-end) ∙ ap (padded 32) (b .sound .widths) in
-    let ls : net .levels ≡ padded 32 (model.levels (nodesOf net)) = ends-padded 32 (net .count) (net .levels) (b .levels-length) (b .sound .few) (b .levels-end) ∙ ap (padded 32) (b .sound .levels) in
-    let same : answerOf (record { number = r .verdict .number; place = r .verdict .place; count = r .network .count; kinds = kinds; widths = r .network .widths; levels = r .network .levels }) ≡ answer (readingOf r) =
+    let count : net .count
+    ≡ length (nodesOf net) = sym
+    (length-map (take (net .count) (net .slots)) slotNode ∙ length-take-le (net .count) (net .slots) (omega (arith, h .built .sound .few, h .built .slots-length))) in
+    let ws : net .widths ≡ padded 32 (model.widths (nodesOf net)) = ends-padded 32 (net .count) (net .widths) (b .widths-length) (b .sound .few) (b .widths-end)
+    ∙ ap (padded 32) (b .sound .widths) in
+    let ls : net .levels ≡ padded 32 (model.levels (nodesOf net)) = ends-padded 32 (net .count) (net .levels) (b .levels-length) (b .sound .few) (b .levels-end)
+    ∙ ap (padded 32) (b .sound .levels) in
+    let same : answerOf (record {
+      number = r .verdict .number;
+      place = r .verdict .place;
+      count = r .network .count;
+      kinds = kinds;
+      widths = r .network .widths;
+      levels = r .network .levels;
+    }) ≡ answer (readingOf r) =
     λ i. record { verdict = verdictOf (r .verdict); count = count i; kinds = k i; widths = ws i; levels = ls i } in
     same ∙ ap answer (h .is)

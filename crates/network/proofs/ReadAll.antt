@@ -1,14 +1,12 @@
 -- Reading record after record: what is left to read decides. Assumes nothing.
 use mathlib.Core.Path.{_≡_, refl, sym, ap, ap₂, _∙_}
-use mathlib.Core.Bool.{Bool, true, false, cond}
-use mathlib.Core.List.{List, [], _∷_, _++_}
-use Prim.Native.Nat.{ℕ, zero, suc, _+_, _≤_, _<_}
+use mathlib.Core.Bool.{Bool, true, false}
+use mathlib.Core.List.{List, [], _∷_}
+use Prim.Native.Nat.{ℕ, _+_, _≤_, _<_}
 use native.Mathlib.Omega.{arith}
-use lib.Dec.{eqb}
 use lib.ListN.{length, take}
-use borrow.Author.Tests.{eq-eqb, ne-eqb}
-use Rattle.model.specs.Row.{isEmpty}
-use Rattle.model.specs.Record.{Bytes, kindAt, lengthAt, isBroken, offsets, accepted}
+use borrow.Author.Tests.{ne-eqb}
+use Rattle.model.specs.Record.{Bytes, kindAt, lengthAt, isBroken, accepted}
 use Rattle.model.specs.Network as model
 use Rattle.model.specs.Network.{Item, kindNumbered, itemAt, recordFault, withItem, noNetwork, refusedReading, readRecords, readNetwork}
 use Rattle.records.proofs.Header.{Whole, whole}
@@ -17,7 +15,7 @@ use Rattle.nodes.specs.Nodes.{numberOf, itemOf, Fits, Room, ReadsRecord}
 use Rattle.network.specs.Reading.{networkOf, Built, Extends, Follows}
 use Rattle.nodes.specs.declared.Item as declaredItem
 use Rattle.nodes.specs.declared.Item.the-variants.{Node as NodeBrought, Watch as WatchBrought}
-use Rattle.nodes.specs.declared.Record.the-variants.{Item as Brought, Refused}
+use Rattle.nodes.specs.declared.Record.the-variants.{Item as Brought}
 use lib.Seq.{length-take-le}
 use Rattle.nodes.specs.declared.Record.{Record}
 use Rattle.network.specs.declared.Network.{Network}
@@ -40,7 +38,8 @@ cons-left bs at h = go (isBroken bs at) refl
     go false e = (remaining bs (at + lengthAt bs at), remaining-whole bs at h e)
 
 -- a record with a fault ends the reading
-refuse : (bs : Bytes) (net : model.Network) (at : ℕ) (rest : List ℕ) (k : ℕ) → 1 ≤ k → k ≡ recordFault (model.widths (net .nodes)) (net .signs) bs at → readRecords bs net (at ∷ rest) ≡ refusedReading k at
+refuse : (bs : Bytes) (net : model.Network) (at : ℕ) (rest : List ℕ) (k : ℕ) → 1 ≤ k → k ≡ recordFault (model.widths (net .nodes)) (net .signs) bs at → readRecords bs net (at ∷ rest)
+    ≡ refusedReading k at
 unfolding readRecords
 refuse bs net at rest k h e = rw (← e, ne-eqb k 0 (λ z. omega arith))
 

@@ -1,6 +1,6 @@
 -- What the reader's networks mean: the model's network, reading and answer.
 use mathlib.Core.Path.{_≡_}
-use mathlib.Core.List.{List, [], _∷_, map}
+use mathlib.Core.List.{List, [], map}
 use Prim.Native.Nat.{ℕ, suc, _≤_, _<_, max}
 use lib.ListN.{getD, take, length}
 use Rattle.model.specs.Record as modelRecord
@@ -136,4 +136,10 @@ pub record ReadsNetwork (bs : Bytes) (r : Reading) : Type 0 where
 
 -- the model's answer
 abbrev pub answerOf : Answer → ReadAnswer
-answerOf a = record { verdict = record { number = a .number; place = a .place }; count = a .count; kinds = a .kinds; widths = a .widths; levels = a .levels }
+answerOf a = record {
+  verdict = record { number = a .number; place = a .place };
+  count = a .count;
+  kinds = a .kinds;
+  widths = a .widths;
+  levels = a .levels;
+}

@@ -1,15 +1,16 @@
 -- Rules 6 and 7 on a record of each kind, by the tests that the readings make. Assumes nothing.
-use mathlib.Core.Path.{_≡_, refl, sym, ap, _∙_}
-use mathlib.Core.Bool.{Bool, true, false, not, _&&_, true≢false}
-use mathlib.Core.List.{List, [], _∷_, _++_}
-use Prim.Native.Nat.{ℕ, zero, suc, _+_, _-_, _*_, _≤_, _<_}
+use mathlib.Core.Path.{_≡_, refl, sym, _∙_}
+use mathlib.Core.Bool.{Bool, true, false, _&&_}
+use mathlib.Core.List.{List}
+use Prim.Native.Nat.{ℕ, _+_, _*_, _≤_, _<_}
 use native.Mathlib.Omega.{arith}
 use lib.Dec.{ltb, leb, eqb, lit≤}
-use lib.ListN.{length, getD, take, drop}
+use lib.ListN.{length, getD, take}
 use lib.Seq.{length-take-le, getD-take}
 use borrow.Author.Tests.{lt-ltb, le-ltb, le-leb, lt-leb, eq-eqb, ne-eqb, ltb-true, leb-true, eqb-true}
 use Rattle.model.specs.Record.{Bytes, u32, lengthAt, fieldAt, fieldsAt}
-use Rattle.model.specs.Network.{Kind, tableKind, selectConstantKind, selectColumnKind, projectKind, joinKind, setKind, watchKind, hasShape, projectShape, joinShape, itemAt, itemFits, nodeFits, watchFits, columnsBelow, pairsBelow, pairsAt}
+use Rattle.model.specs.Network.{Kind, tableKind, selectConstantKind, selectColumnKind, projectKind, joinKind, setKind, watchKind, hasShape, projectShape, joinShape, itemAt, itemFits}
+use Rattle.model.specs.Network.{nodeFits, watchFits, columnsBelow, pairsBelow, pairsAt}
 use Rattle.model.proofs.Sets.{and-first, and-second}
 use Rattle.nodes.specs.Nodes.{NodeRecord, WatchRecord, numberOf, itemOf, operationOf, bodyFault, selectFits, Fits, ReadsBody}
 use Rattle.nodes.specs.declared.Operand.the-variants.{Constant, Column}
@@ -36,7 +37,8 @@ module _ (ws signs : List ℕ) (bs : Bytes) (at : ℕ) (kind : Kind) where
   unfolding bodyFault
   reads-7 e f = record { number = rw (e, f); item = λ z. absurd (omega arith); fits = lit≤ tt }
 
-  pub reads-ok : (r : Record) → hasShape kind bs at ≡ true → itemFits ws signs (itemAt kind bs at) ≡ true → numberOf r ≡ 0 → itemOf r bs at ≡ itemAt kind bs at → Fits r ws signs bs at → ReadsBody ws signs kind bs at r
+  pub reads-ok : (r : Record) → hasShape kind bs at ≡ true → itemFits ws signs (itemAt kind bs at) ≡ true → numberOf r ≡ 0 → itemOf r bs at ≡ itemAt kind bs at → Fits r ws signs bs at →
+      ReadsBody ws signs kind bs at r
   unfolding bodyFault
   reads-ok r e f n i g = record { number = n ∙ rw (e, f); item = λ z. i; fits = g }
 
@@ -132,7 +134,8 @@ module _ (ws signs : List ℕ) (bs : Bytes) (at size : ℕ) (sized : size ≡ le
         ReadsBody ws signs selectColumnKind bs at (NodeRecord (Select i c k (Column o)))
     unfolding hasShape itemFits itemAt nodeFits selectFits
     column-ok s e h c k q r =
-        reads-ok ws signs bs at selectColumnKind (NodeRecord (Select i c k (Column o))) (rw (← sized) (eq-eqb size 12 s)) (rw (e, ← is, ← other) (lt-ltb o (getD ws i 0) h)) refl (rw (is, other, q, r)) (rw is (select-below ws bs at e))
+        reads-ok ws signs bs at selectColumnKind (NodeRecord (Select i c k (Column o))) (rw (← sized) (eq-eqb size 12 s)) (rw (e, ← is, ← other) (lt-ltb o (getD ws i 0) h)) refl
+        (rw (is, other, q, r)) (rw is (select-below ws bs at e))
 
 -- ---- kind 4
 
@@ -192,7 +195,8 @@ module _ (xs : List ℕ) (count : ℕ) (long : count ≤ length xs) (signs : Lis
       unfolding hasShape itemFits itemAt nodeFits
       project-ok e inside =
           let sh : ProjectShape bs at = project-shaped bs at shape in
-          reads-ok (take count xs) signs bs at projectKind (NodeRecord (Project i n)) shape (rw (← is, ← of, counted xs count long bs at, lt-ltb i count within, first-at xs count i within) e) refl (rw (is, of))
+          reads-ok (take count xs) signs bs at projectKind (NodeRecord (Project i n)) shape
+          (rw (← is, ← of, counted xs count long bs at, lt-ltb i count within, first-at xs count i within) e) refl (rw (is, of))
           (rw (counted xs count long bs at) within, rw of (sh .few), omega (arith, sh .size, of))
 
 -- ---- kind 5
@@ -280,13 +284,15 @@ module _ (xs : List ℕ) (count : ℕ) (long : count ≤ length xs) (signs : Lis
               reads-7 (take count xs) signs bs at joinKind shape
               (rw (← is, ← of, ← paired, ← columns, counted xs count long bs at, lt-ltb l count left, lt-ltb r count right, first-at xs count l left, first-at xs count r right, good, e))
 
-          pub join-ok : columnsBelow (getD xs l 0 + getD xs r 0) (fieldsAt bs at (4 + 2 * p) c) ≡ true → at + lengthAt bs at ≤ length bs → ReadsBody (take count xs) signs joinKind bs at (NodeRecord (Join l r p c))
+          pub join-ok : columnsBelow (getD xs l 0 + getD xs r 0) (fieldsAt bs at (4 + 2 * p) c) ≡ true → at + lengthAt bs at ≤ length bs →
+              ReadsBody (take count xs) signs joinKind bs at (NodeRecord (Join l r p c))
           unfolding hasShape itemFits itemAt nodeFits
           join-ok e inside =
               let sh : JoinShape bs at = join-shaped bs at shape in
               let same : c ≡ fieldAt bs at (3 + 2 * fieldAt bs at 2) = rw paired at columns in
               reads-ok (take count xs) signs bs at joinKind (NodeRecord (Join l r p c)) shape
-              (rw (← is, ← of, ← paired, ← columns, counted xs count long bs at, lt-ltb l count left, lt-ltb r count right, first-at xs count l left, first-at xs count r right, good, e)) refl
+              (rw (← is, ← of, ← paired, ← columns, counted xs count long bs at, lt-ltb l count left, lt-ltb r count right, first-at xs count l left, first-at xs count r right, good, e))
+              refl
               (rw (is, of, columns, paired))
               (rw (counted xs count long bs at) left, rw (counted xs count long bs at) right, rw paired (sh .pairs), rw same (sh .few), omega (arith, sh .size, paired, same))
 
@@ -316,13 +322,15 @@ module _ (xs : List ℕ) (count : ℕ) (long : count ≤ length xs) (signs : Lis
         unfolding itemFits itemAt nodeFits
         set-unequal h =
             reads-7 (take count xs) signs bs at (setKind (operationOf o)) set-shaped
-            (rw (← is, ← of, counted xs count long bs at, lt-ltb l count left, lt-ltb r count right, first-at xs count l left, first-at xs count r right) (ne-eqb (getD xs l 0) (getD xs r 0) h))
+            (rw (← is, ← of, counted xs count long bs at, lt-ltb l count left, lt-ltb r count right, first-at xs count l left, first-at xs count r right)
+            (ne-eqb (getD xs l 0) (getD xs r 0) h))
 
         pub set-ok : getD xs l 0 ≡ getD xs r 0 → ReadsBody (take count xs) signs (setKind (operationOf o)) bs at (NodeRecord (Set o l r))
         unfolding itemFits itemAt nodeFits
         set-ok h =
             reads-ok (take count xs) signs bs at (setKind (operationOf o)) (NodeRecord (Set o l r)) set-shaped
-            (rw (← is, ← of, counted xs count long bs at, lt-ltb l count left, lt-ltb r count right, first-at xs count l left, first-at xs count r right) (eq-eqb (getD xs l 0) (getD xs r 0) h)) refl
+            (rw (← is, ← of, counted xs count long bs at, lt-ltb l count left, lt-ltb r count right, first-at xs count l left, first-at xs count r right)
+            (eq-eqb (getD xs l 0) (getD xs r 0) h)) refl
             (rw (is, of))
             (rw (counted xs count long bs at) left, rw (counted xs count long bs at) right)
 

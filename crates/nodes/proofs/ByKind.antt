@@ -1,15 +1,15 @@
 -- Rules 3 to 7 on a record, by its kind's number. Assumes nothing.
 use mathlib.Core.Path.{_≡_, refl, sym, ap, _∙_}
 use mathlib.Core.Bool.{Bool, true, false, not, _&&_}
-use mathlib.Core.List.{List, [], _∷_}
-use Prim.Native.Nat.{ℕ, zero, suc, _+_, _-_, _≤_, _<_}
+use mathlib.Core.List.{List}
+use Prim.Native.Nat.{ℕ, _+_, _-_, _≤_, _<_}
 use native.Mathlib.Omega.{arith}
-use lib.Dec.{leb, lit≤}
-use lib.ListN.{length, getD, List·getD-eq-default}
+use lib.Dec.{lit≤}
+use lib.ListN.{length, List·getD-eq-default}
 use borrow.Author.Tests.{le-leb, lt-leb, not-true}
 use Rattle.model.specs.Row.{allOf, countFrom}
 use Rattle.model.specs.Record.{Bytes, kindAt, fieldAt, isBroken}
-use Rattle.model.specs.Network.{Kind, unknownKind, watchKind, kinds, kindNumbered, isUnknown, isWatch, recordFault, hasShape, itemAt, itemFits, nodeItem, watchItem}
+use Rattle.model.specs.Network.{unknownKind, watchKind, kinds, kindNumbered, isUnknown, isWatch, recordFault, itemAt, nodeItem, watchItem}
 use Rattle.model.proofs.Sets.{and-first, and-second}
 use Rattle.rows.proofs.Place.{all-below}
 use Rattle.nodes.specs.Nodes.{numberOf, nodeAt, itemOf, bodyFault, Room, ReadsBody, ReadsRecord}

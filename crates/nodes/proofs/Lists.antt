@@ -1,12 +1,11 @@
 -- Columns and pairs read from a record, one at a time. Assumes nothing.
 use mathlib.Core.Path.{_≡_, refl, sym, ap, _∙_}
-use mathlib.Core.Bool.{Bool, true, false, _&&_}
+use mathlib.Core.Bool.{true, false}
 use mathlib.Core.List.{List, [], _∷_, _++_}
 use Prim.Native.Nat.{ℕ, zero, suc, _+_, _-_, _*_, _≤_, _<_}
 use native.Mathlib.Omega.{arith}
 use native.Mathlib.Numerals.{add-one}
-use lib.Dec.{ltb}
-use lib.ListN.{length, getD, take, drop, set}
+use lib.ListN.{length, take, set}
 use lib.Seq.{take-suc-set}
 use borrow.Author.Tests.{lt-ltb, le-ltb}
 use Rattle.model.specs.Algebra.{Pair}
@@ -75,7 +74,8 @@ module _ (l r : ℕ) (bs : Bytes) (at k n : ℕ) where
   pub pairs-not-left : (i x : ℕ) → i < n → x ≡ fieldAt bs at (k + 2 * i) → l ≤ x → PairsTo l r bs at k n i → pairsBelow l r (pairsAt bs at k n) ≡ false
   pairs-not-left i x h e p b = b ∙ rw (pairs-cons bs at k n i h, ← e, le-ltb x l p)
 
-  pub pairs-not-right : (i x y : ℕ) → i < n → x ≡ fieldAt bs at (k + 2 * i) → y ≡ fieldAt bs at (k + 1 + 2 * i) → x < l → r ≤ y → PairsTo l r bs at k n i → pairsBelow l r (pairsAt bs at k n) ≡ false
+  pub pairs-not-right : (i x y : ℕ) → i < n → x ≡ fieldAt bs at (k + 2 * i) → y ≡ fieldAt bs at (k + 1 + 2 * i) → x < l → r ≤ y → PairsTo l r bs at k n i → pairsBelow l r (pairsAt bs at k n)
+      ≡ false
   pairs-not-right i x y h e f p q b = b ∙ rw (pairs-cons bs at k n i h, ← e, ← f, lt-ltb x l p, le-ltb y r q)
 
   pub pairs-all : (i : ℕ) → n ≤ i → PairsTo l r bs at k n i → pairsBelow l r (pairsAt bs at k n) ≡ true
@@ -90,7 +90,8 @@ fields-snoc bs at k (suc n) =
     let f : k + suc n ≡ suc k + n = omega arith in
     rw (e, f) (ap (λ (l : List ℕ). fieldAt bs at k ∷ l) (fields-snoc bs at (suc k) n))
 
-pub fields-turn : (bs : Bytes) (at k : ℕ) (l : List ℕ) (i x : ℕ) → i < length l → x ≡ fieldAt bs at (k + i) → take i l ≡ fieldsAt bs at k i → take (i + 1) (set l i x) ≡ fieldsAt bs at k (i + 1)
+pub fields-turn : (bs : Bytes) (at k : ℕ) (l : List ℕ) (i x : ℕ) → i < length l → x ≡ fieldAt bs at (k + i) → take i l ≡ fieldsAt bs at k i → take (i + 1) (set l i x)
+    ≡ fieldsAt bs at k (i + 1)
 fields-turn bs at k l i x h e f =
     let one : take (i + 1) (set l i x) ≡ take i l ++ (x ∷ []) = rw add-one (take-suc-set l i x h) in
     let two : take i l ++ (x ∷ []) ≡ fieldsAt bs at k i ++ (fieldAt bs at (k + i) ∷ []) = rw (f, e) in

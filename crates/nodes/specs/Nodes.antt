@@ -1,6 +1,6 @@
 -- What nodes and record readings mean: the model's nodes and items, and the order's numbers.
 use mathlib.Core.Path.{_≡_}
-use mathlib.Core.Bool.{Bool, true, false, not, _&&_}
+use mathlib.Core.Bool.{Bool, not, _&&_}
 use mathlib.Core.List.{List, [], _∷_}
 use Prim.Native.Nat.{ℕ, zero, suc, _+_, _*_, _≤_, _<_}
 use lib.Dec.{ltb}
@@ -8,7 +8,8 @@ use lib.ListN.{getD, take, drop, length}
 use Rattle.model.specs.Algebra.{Pair}
 use Rattle.model.specs.Record.{Bytes, kindAt, fieldAt, fieldsAt, rule, firstBroken}
 use Rattle.model.specs.Network as model
-use Rattle.model.specs.Network.{Kind, Item, nodeItem, watchItem, table, select, project, join, setOperation, constant, column, union, difference, intersection, pairsAt, kindNumbered, hasShape, itemAt, itemFits, recordFault}
+use Rattle.model.specs.Network.{Kind, Item, nodeItem, watchItem, table, select, project, join, setOperation, constant, column, union, difference}
+use Rattle.model.specs.Network.{intersection, pairsAt, kindNumbered, hasShape, itemAt, itemFits, recordFault}
 use Rattle.nodes.specs.declared.Operand.{Operand}
 use Rattle.nodes.specs.declared.Operand.the-variants.{Constant, Column}
 use Rattle.nodes.specs.declared.SetOperation.{SetOperation}

@@ -1,10 +1,11 @@
 // Nodes and the records that bring them: rules 3 to 7 on each record, by its kind.
 ghost use mathlib.Core.Path.{_≡_};
-ghost use mathlib.Core.Bool.{Bool, true, false};
+ghost use mathlib.Core.Bool.{true, false};
 ghost use mathlib.Core.List.{List};
 ghost use Prim.Native.Nat.{ℕ, _+_, _*_, _≤_, _<_};
 ghost use lib.ListN.{length, take};
-ghost use Rattle.model.specs.Network.{columnsBelow, pairsBelow, pairsAt, projectShape, joinShape, kindNumbered, tableKind, selectConstantKind, selectColumnKind, projectKind, joinKind, setKind, watchKind, kindOf};
+ghost use Rattle.model.specs.Network.{columnsBelow, pairsBelow, pairsAt, projectShape, joinShape, kindNumbered, tableKind, selectConstantKind};
+ghost use Rattle.model.specs.Network.{selectColumnKind, projectKind, joinKind, setKind, watchKind, kindOf};
 ghost use Rattle.model.specs.Record.{fieldsAt, isBroken};
 ghost use Rattle.nodes.specs.Nodes.{ReadsBody, ReadsRecord, selectFits, Narrow, operationOf, nodeOf, numberOf};
 
@@ -253,7 +254,8 @@ fn read_set(
     widths: &[usize],
 ) -> Record
     requires { ⌜ (isBroken (now bytes) at ≡ false) × (count ≤ length (now widths)) ⌝ }
-    ensures { λ r. ⌜ ((signs : List ℕ) → ReadsBody (take count (now (widths .entry))) signs (setKind (operationOf operation)) (now (bytes .entry)) at r) ⌝ }
+    ensures { λ r. ⌜ ((signs : List ℕ) → ReadsBody (take count (now (widths .entry))) signs (setKind (operationOf operation))
+        (now (bytes .entry)) at r) ⌝ }
 {
     if records::u16_at(bytes, at) != 8 {
         return Record::Refused(6);

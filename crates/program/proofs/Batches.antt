@@ -51,7 +51,11 @@ module _ (net : Bytes) (a : Areas) (k : Opened net a) (b : Bytes) where
       go : (t : Bool) → isAccepted (stepOf net a b .verdict) ≡ t → Opened net (areasAfter net a b)
       go true e =
           let st : State = stepOf net a b .state in
-          record { accepts = k .accepts; long = rw (areas-are true e) (holding-long ns st (sound .proper) a); whole = rw (areas-are true e) (holding-coherent ns st (sound .proper) a (read-fits net)) }
+          record {
+            accepts = k .accepts;
+            long = rw (areas-are true e) (holding-long ns st (sound .proper) a);
+            whole = rw (areas-are true e) (holding-coherent ns st (sound .proper) a (read-fits net));
+          }
       go false e = rw (areas-are false e) k
 
 -- ---- opening

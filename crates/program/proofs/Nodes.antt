@@ -55,7 +55,8 @@ module _ (net : Bytes) (a : Areas) (i : ℕ) where
   unfolding stateIn changesIn
   unchanged-at z =
       let ws : List ℕ = widths (readNetwork net .network .nodes) in
-      let inside : i < length (widths (readNetwork net .network .nodes)) → i < length (readNetwork net .network .nodes) = λ h. omega (arith, h, length-widths (readNetwork net .network .nodes)) in
+      let inside : i < length (widths (readNetwork net .network .nodes)) →
+      i < length (readNetwork net .network .nodes) = λ h. omega (arith, h, length-widths (readNetwork net .network .nodes)) in
       zip-none (relationsIn layout ws (gainedCount (a .head)) (a .gained)) (relationsIn layout ws (lostCount (a .head)) (a .lost)) i
       (none-held ws (gainedCount (a .head)) (a .gained) i (λ h. z (inside h) .0)) (none-held ws (lostCount (a .head)) (a .lost) i (λ h. z (inside h) .1))
 
@@ -94,7 +95,8 @@ module _ (net : Bytes) (a : Areas) where
   nodes-all =
       let n : ℕ = length (readNetwork net .network .nodes) in
       let f : ℕ → Bytes = nodeLines (readNetwork net .network) (stateOf net a .changes) in
-      let split : countFrom 0 32 ≡ countFrom 0 (length (readNetwork net .network .nodes)) ++ countFrom (length (readNetwork net .network .nodes)) (32 - length (readNetwork net .network .nodes)) =
+      let split : countFrom 0 32 ≡ countFrom 0 (length (readNetwork net .network .nodes)) ++ countFrom (length (readNetwork net .network .nodes))
+      (32 - length (readNetwork net .network .nodes)) =
       count-split 0 n 32 (read-small net .few) ∙ ap (λ (k : ℕ). countFrom 0 n ++ countFrom k (32 - n)) (zero-add n) in
       sym (append-nil (flatMap f (countFrom 0 n)))
       ∙ ap (λ (l : List ℕ). flatMap f (countFrom 0 n) ++ l) (sym (none-past n (32 - n) (omega arith)))

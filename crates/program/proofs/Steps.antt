@@ -148,10 +148,13 @@ module _ (f : Files) (start : ℕ) (a : Areas) (before out : Bytes) (size : ℕ)
         stage = sym g ∙ ap (pieceStage (f .net) a start) (sym e);
       }
 
-  pub says-broken : (at : ℕ) → piecesOn (f .batches) start ≡ broken at ∷ [] → PutIfRoom (refusedLine 10 at) 50 before out size → Says f (Cut start) a a before out (record { size = size; stage = End })
-  says-broken at e p = says-last (broken at ∷ []) e refl refl (wrote-put (refusedLine 10 at) (refusedLine 10 at) 50 before out size (p .whole (omega (arith, room))) refl (omega (arith, room)))
+  pub says-broken : (at : ℕ) → piecesOn (f .batches) start ≡ broken at ∷ [] → PutIfRoom (refusedLine 10 at) 50 before out size →
+      Says f (Cut start) a a before out (record { size = size; stage = End })
+  says-broken at e p = says-last (broken at ∷ []) e refl refl
+      (wrote-put (refusedLine 10 at) (refusedLine 10 at) 50 before out size (p .whole (omega (arith, room))) refl (omega (arith, room)))
 
-  pub says-unfinished : piecesOn (f .batches) start ≡ unfinished ∷ [] → Put (line unfinishedWord []) 11 0 before out size → Says f (Cut start) a a before out (record { size = size; stage = End })
+  pub says-unfinished : piecesOn (f .batches) start ≡ unfinished ∷ [] → Put (line unfinishedWord []) 11 0 before out size →
+      Says f (Cut start) a a before out (record { size = size; stage = End })
   says-unfinished e p = says-last (unfinished ∷ []) e refl refl (wrote-put (line unfinishedWord []) (line unfinishedWord []) 11 before out size p refl (omega (arith, room)))
 
 pub says-end : (f : Files) (start : ℕ) (a : Areas) (before : Bytes) (room : 13696 ≤ length before) → piecesOn (f .batches) start ≡ [] →

@@ -2,7 +2,7 @@
 use mathlib.Core.Bool.{Bool, _&&_, cond, false, true, true≢false}
 use mathlib.Core.List.{List, [], _∷_, _++_, append-assoc, append-nil, flatMap}
 use mathlib.Core.Path.{ap, ap₂, refl, subst, sym, _∙_, _≡_}
-use Prim.Native.Nat.{ℕ, zero, suc, _+_, _-_, _≤_, _<_}
+use Prim.Native.Nat.{ℕ, zero, suc, _+_, _≤_, _<_}
 use native.Mathlib.Omega.{arith}
 use lib.Dec.{leb, ltb}
 use lib.ListN.{drop, length, take}
@@ -49,7 +49,8 @@ module _ (f : Files) where
   unfolding programOutput
   begin-no n = go (f .found-net) (f .found-batches) n
     where
-      go : (x y : Bool) → (x && y && leb (length (f .net)) maxFile && leb (length (f .batches)) maxFile) ≡ false → programOutput (fileOf x (f .net)) (fileOf y (f .batches)) ≡ line noInputWords []
+      go : (x y : Bool) → (x && y && leb (length (f .net)) maxFile && leb (length (f .batches)) maxFile) ≡ false → programOutput (fileOf x (f .net)) (fileOf y (f .batches))
+          ≡ line noInputWords []
       go false y e = refl
       go true false e = refl
       go true true e = rw e
@@ -141,7 +142,8 @@ module _ (f : Files) where
     abbrev After : List Piece → Type 0
     After l = Ready f (pieceStage (f .net) a start l) (pieceAreas (f .net) a l) × (left f (pieceStage (f .net) a start l) < left f (Cut start))
 
-    piece-ready : (p : declared.Piece) → Next (f .batches) start p → Ready f (stageAfter f (Cut start) a) (areasAt f (Cut start) a) × (left f (stageAfter f (Cut start) a) < left f (Cut start))
+    piece-ready : (p : declared.Piece) → Next (f .batches) start p → Ready f (stageAfter f (Cut start) a) (areasAt f (Cut start) a)
+        × (left f (stageAfter f (Cut start) a) < left f (Cut start))
     piece-ready (Batch end) n =
         let b : Bytes = bytesBetween (f .batches) start end in
         let t : Bool = isAccepted (stepOf (f .net) a b .verdict) in

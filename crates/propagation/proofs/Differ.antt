@@ -47,18 +47,21 @@ fills-place w rel out n narrow wide asc f =
     let long : length out ≡ 256 = ap length (f .is) ∙ place-length w rel narrow wide few in
     let whole : take 256 (drop (256 * 0) out) ≡ placeOf layout rel = take-all 256 out (rw long (le-refl 256)) ∙ f .is in
     let back : heldIn layout w n out 0 ≡ rel = ap (λ (k : ℕ). heldIn layout w k out 0) (f .count) ∙ place-reads layout w out 0 rel narrow wide few (rw long (omega arith)) whole in
-    let clean : unusedZero layout w n out 0 ≡ true = ap (λ (k : ℕ). unusedZero layout w k out 0) (f .count) ∙ place-clean layout w out 0 rel narrow wide few (rw long (omega arith)) whole in (
+    let clean : unusedZero layout w n out 0 ≡ true = ap (λ (k : ℕ). unusedZero layout w k out 0) (f .count)
+    ∙ place-clean layout w out 0 rel narrow wide few (rw long (omega arith)) whole in (
       record {
         long = long;
         narrow = narrow;
-        good = and-both (leb n 64 && ascending (heldIn layout w n out 0)) (unusedZero layout w n out 0) (and-both (leb n 64) (ascending (heldIn layout w n out 0)) (le-leb n 64 (f .few)) (ap ascending back ∙ ascending-true rel asc)) clean;
+        good = and-both (leb n 64 && ascending (heldIn layout w n out 0)) (unusedZero layout w n out 0)
+            (and-both (leb n 64) (ascending (heldIn layout w n out 0)) (le-leb n 64 (f .few)) (ap ascending back ∙ ascending-true rel asc)) clean;
       },
       back,
     )
 
 -- ---- rows put
 
-module _ (w : ℕ) (ws out : List ℕ) (n : ℕ) (rows : List ℕ) (i m : ℕ) (work counts : List ℕ) (changed : List Bool) (p : Place w out n) (q : Place w (placeAt rows i) m) (inside : i < 32) (work-long : length work ≡ 8192) (few : length changed ≡ 32) where
+module _ (w : ℕ) (ws out : List ℕ) (n : ℕ) (rows : List ℕ) (i m : ℕ) (work counts : List ℕ) (changed : List Bool) (p : Place w out n) (q : Place w (placeAt rows i) m) (inside : i < 32)
+    (work-long : length work ≡ 8192) (few : length changed ≡ 32) where
   abbrev new : Relation
   new = relationIn w out n
 
@@ -69,7 +72,8 @@ module _ (w : ℕ) (ws out : List ℕ) (n : ℕ) (rows : List ℕ) (i m : ℕ) (
   flag-set t = getD-set-same changed i t false (omega (arith, few))
 
   -- the same rows: nothing more is written
-  pub put-same : getD changed i false ≡ false → (d : Bool) → d ≡ not (sameRows new old) → d ≡ false → Puts old new out n (working ws rows work counts changed) (working ws rows work (set counts i n) changed) i
+  pub put-same : getD changed i false ≡ false → (d : Bool) → d ≡ not (sameRows new old) → d ≡ false →
+      Puts old new out n (working ws rows work counts changed) (working ws rows work (set counts i n) changed) i
   put-same u d e z =
       let flag : not (sameRows new old) ≡ false = sym e ∙ z in
       let same : new ≡ old = same-flag new old flag in
@@ -82,14 +86,16 @@ module _ (w : ℕ) (ws out : List ℕ) (n : ℕ) (rows : List ℕ) (i m : ℕ) (
       }
 
   -- other rows: they stand in the working rows
-  pub put-other : (d : Bool) → d ≡ not (sameRows new old) → d ≡ true → (after : List ℕ) → after ≡ paste work (i * 256) (drop 0 out) 256 → Puts old new out n (working ws rows work counts changed) (working ws rows after (set counts i n) (set changed i true)) i
+  pub put-other : (d : Bool) → d ≡ not (sameRows new old) → d ≡ true → (after : List ℕ) → after ≡ paste work (i * 256) (drop 0 out) 256 →
+      Puts old new out n (working ws rows work counts changed) (working ws rows after (set counts i n) (set changed i true)) i
   put-other d e z after f =
       let fits : i * 256 + 256 ≤ length work = omega (arith, work-long) in
       let long : 256 ≤ length out = omega (arith, p .long) in
       record {
         counts = refl;
         changed = ap (set changed i) (sym z ∙ e);
-        place = ap (λ (t : Bool). placeAt (cond t after rows) i) (flag-set true) ∙ ap (λ (l : List ℕ). placeAt l i) f ∙ place-pasted work out i fits long ∙ take-all 256 out (omega (arith, p .long));
+        place = ap (λ (t : Bool). placeAt (cond t after rows) i) (flag-set true) ∙ ap (λ (l : List ℕ). placeAt l i) f ∙ place-pasted work out i fits long
+            ∙ take-all 256 out (omega (arith, p .long));
         work-long = ap length f ∙ length-paste work (i * 256) out 256 fits long ∙ work-long;
         work = λ j h k. ap (λ (l : List ℕ). placeAt l j) f ∙ place-other work out i fits long j k;
       }

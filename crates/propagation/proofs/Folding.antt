@@ -79,9 +79,11 @@ module _ (bs : Bytes) (t w : ℕ) (rows : List ℕ) (n : ℕ) (inside : t < 32) 
     after-fills place h e =
         let wide-after : Wide w after = fold-wide bs t w (offsets bs) (relationIn w (placeAt rows t) n) wide in
         let small : length after ≤ 64 = omega (arith, h, count-is) in
-        let words-size : length (words (map (padded 4) after)) ≡ length after * 4 = length-words 4 (map (padded 4) after) (wide-padded w 4 after (p .narrow) wide-after) ∙ ap (λ (k : ℕ). k * 4) (length-map-padded 4 after) in
+        let words-size : length (words (map (padded 4) after)) ≡ length after * 4 = length-words 4 (map (padded 4) after) (wide-padded w 4 after (p .narrow) wide-after)
+        ∙ ap (λ (k : ℕ). k * 4) (length-map-padded 4 after) in
         let stands : out ≡ stored (map (padded 4) after) (replicate 512 0) = s .is ∙ ap (λ (l : List Row). stored l (replicate 512 0)) after-is in
         let back : stored (map (padded 4) after) (replicate 256 0) ≡ placeOf layout after = stored-blank w after (p .narrow) wide-after small in
         let taken : take 256 out ≡ placeOf layout after =
-        ap (take 256) (stands ∙ long-stored (map (padded 4) after) (rw words-size (omega arith))) ∙ take-at (stored (map (padded 4) after) (replicate 256 0)) (replicate 256 0) 256 (ap length back ∙ place-length w after (p .narrow) wide-after small) ∙ back in
+        ap (take 256) (stands ∙ long-stored (map (padded 4) after) (rw words-size (omega arith))) ∙ take-at (stored (map (padded 4) after) (replicate 256 0)) (replicate 256 0) 256
+        (ap length back ∙ place-length w after (p .narrow) wide-after small) ∙ back in
         record { count = count-is; few = h; is = e ∙ append-nil (take 256 out) ∙ taken }

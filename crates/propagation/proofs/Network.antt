@@ -11,7 +11,8 @@ use native.Mathlib.Nat.{le-refl, not-suc-le-zero, zero-add}
 use Rattle.model.specs.Network.{Node, AllFit, widths, nodeAt, isTable, table}
 use Rattle.network.specs.declared.Network.{Network}
 use Rattle.model.specs.Record.{Bytes, Verdict, refused, offsets}
-use Rattle.propagation.specs.Propagated.{Ready, tablesAfter, newRows, Working, working, Worked, Present, presentRows, presentPlace, changedIn, WorkedTo, Workable, inputChanged, nextRows, WorksNode, limitVerdict, Propagates}
+use Rattle.propagation.specs.Propagated.{Ready, tablesAfter, newRows, Working, working, Worked, Present, presentRows, presentPlace, changedIn, WorkedTo, Workable, inputChanged}
+use Rattle.propagation.specs.Propagated.{nextRows, WorksNode, limitVerdict, Propagates}
 use Rattle.propagation.specs.declared.Propagated.the-variants.{All, Over}
 use Rattle.network.specs.Reading.{nodesOf, Built, noSlot, slotNode}
 use Rattle.model.specs.Row.{Relation, ascending, sameRows, place}
@@ -87,11 +88,14 @@ module _ (net : Network) (rows head : List ℕ) (bs : Bytes) (ready : Ready net 
         narrow = narrow-widths net b;
         wide = λ i h. let k : i < net .count = rw widths-size at h in rw (old-at i k, width-is net b i k) (held-wide layout (getD (net .widths) i 0) (rowCount head i) rows i);
         small = λ i h. let k : i < net .count = rw widths-size at h in rw (old-at i k) (rows-few (net .widths) (net .count) rows head places i k);
-        asc = λ i h. let k : i < net .count = rw widths-size at h in rw (old-at i k) (ap ascending (sym (held-at (net .widths) (net .count) rows head places i k)) ∙ place-ascending (getD (net .widths) i 0) (placeAt rows i) (rowCount head i) (place-at (net .widths) (net .count) rows head places i k));
+        asc = λ i h. let k : i < net .count = rw widths-size at h in rw (old-at i k)
+            (ap ascending (sym (held-at (net .widths) (net .count) rows head places i k)) ∙ place-ascending (getD (net .widths) i 0) (placeAt rows i) (rowCount head i)
+            (place-at (net .widths) (net .count) rows head places i k));
       }
 
   pub copy-tables : Tables (nodesOf net) (tablesAfter net rows head bs)
-  copy-tables = actAll-tables (nodesOf net) (readBatch (nodesOf net) bs .events) (tablesOf (nodesOf net) (rowsHeld net rows head)) (batch-good (nodesOf net) bs) (tables-fit (nodesOf net) (rowsHeld net rows head) old-fits)
+  copy-tables = actAll-tables (nodesOf net) (readBatch (nodesOf net) bs .events) (tablesOf (nodesOf net) (rowsHeld net rows head)) (batch-good (nodesOf net) bs)
+      (tables-fit (nodesOf net) (rowsHeld net rows head) old-fits)
 
   in-nodes : (i : ℕ) → i < net .count → i < length (nodesOf net)
   in-nodes i h = rw count-is h
@@ -107,12 +111,15 @@ module _ (net : Network) (rows head : List ℕ) (bs : Bytes) (ready : Ready net 
     m = working (net .widths) rows work counts changed
 
     -- a node's new rows that are ready are read back
-    present-at : (j : ℕ) → j < net .count → Worked head (working (net .widths) rows work counts changed) (rowsAt (newRows net rows head bs) j) j → Present (working (net .widths) rows work counts changed) j × (presentRows (working (net .widths) rows work counts changed) j ≡ rowsAt (newRows net rows head bs) j)
+    present-at : (j : ℕ) → j < net .count → Worked head (working (net .widths) rows work counts changed) (rowsAt (newRows net rows head bs) j) j →
+        Present (working (net .widths) rows work counts changed) j × (presentRows (working (net .widths) rows work counts changed) j ≡ rowsAt (newRows net rows head bs) j)
     present-at j h k =
-        fills-place (getD (net .widths) j 0) (rowsAt (newRows net rows head bs) j) (presentPlace (working (net .widths) rows work counts changed) j) (getD counts j 0) (b .narrow j) (new-wide-at j h) (new-asc-at j h)
+        fills-place (getD (net .widths) j 0) (rowsAt (newRows net rows head bs) j) (presentPlace (working (net .widths) rows work counts changed) j) (getD counts j 0) (b .narrow j)
+        (new-wide-at j h) (new-asc-at j h)
         (record { count = k .count; few = rw (k .count) (k .few); is = k .place })
 
-    flag-at : (j : ℕ) → j < net .count → Worked head (working (net .widths) rows work counts changed) (rowsAt (newRows net rows head bs) j) j → getD changed j false ≡ changedIn (rowsHeld net rows head) (newRows net rows head bs) j
+    flag-at : (j : ℕ) → j < net .count → Worked head (working (net .widths) rows work counts changed) (rowsAt (newRows net rows head bs) j) j → getD changed j false
+        ≡ changedIn (rowsHeld net rows head) (newRows net rows head bs) j
     flag-at j h k = k .changed ∙ ap (λ (r : Relation). not (sameRows (rowsAt (newRows net rows head bs) j) r)) (sym (old-at j h))
 
     module _ (i : ℕ) (inside : i < net .count) (to : WorkedTo head (newRows net rows head bs) (working (net .widths) rows work counts changed) i) where
@@ -138,8 +145,10 @@ module _ (net : Network) (rows head : List ℕ) (bs : Bytes) (ready : Ready net 
             unchanged = to .unchanged i (le-refl i);
             table = λ e. rw (← width-is net b i inside) (accepted-folds (nodesOf net) bs i (ready .accepts) (narrow-widths net b i));
             derived = d;
-            left = λ n. present-at (leftOf (slotNode (getD (net .slots) i noSlot))) (omega (arith, inside, d n .left)) (to .worked (leftOf (slotNode (getD (net .slots) i noSlot))) (d n .left)) .0;
-            right = λ n. present-at (rightOf (slotNode (getD (net .slots) i noSlot))) (omega (arith, inside, d n .right)) (to .worked (rightOf (slotNode (getD (net .slots) i noSlot))) (d n .right)) .0;
+            left = λ n. present-at (leftOf (slotNode (getD (net .slots) i noSlot))) (omega (arith, inside, d n .left))
+                (to .worked (leftOf (slotNode (getD (net .slots) i noSlot))) (d n .left)) .0;
+            right = λ n. present-at (rightOf (slotNode (getD (net .slots) i noSlot))) (omega (arith, inside, d n .right))
+                (to .worked (rightOf (slotNode (getD (net .slots) i noSlot))) (d n .right)) .0;
           }
 
       table-is : getD (net .levels) i 0 ≡ 0 → foldRows bs i (getD (net .widths) i 0) (offsets bs) (heldAt (net .widths) head rows i) ≡ rowsAt (newRows net rows head bs) i
@@ -147,26 +156,45 @@ module _ (net : Network) (rows head : List ℕ) (bs : Bytes) (ready : Ready net 
           let t : isTable (nodeAt (nodesOf net) i) ≡ true = ap isTable node-is ∙ level-table net b fit i inside e in
           let k : i < length (nodesOf net) = in-nodes i inside in
           let long : length (rowsHeld net rows head) ≡ length (nodesOf net) = rows-length net b fit rows head in
-          let own : rowsAt (tablesOf (nodesOf net) (rowsHeld net rows head)) i ≡ heldAt (net .widths) head rows i = tables-at (nodesOf net) (rowsHeld net rows head) i long k ∙ ap (λ (x : Bool). cond x (rowsAt (rowsHeld net rows head) i) []) t ∙ old-at i inside in
+          let own : rowsAt (tablesOf (nodesOf net) (rowsHeld net rows head)) i ≡ heldAt (net .widths) head rows i = tables-at (nodesOf net) (rowsHeld net rows head) i long k
+          ∙ ap (λ (x : Bool). cond x (rowsAt (rowsHeld net rows head) i) []) t ∙ old-at i inside in
           sym
           (new-table (nodesOf net) fit (rowsHeld net rows head) (tablesAfter net rows head bs) i k t
           ∙ acts-fold (nodesOf net) bs i (ready .accepts) (tablesOf (nodesOf net) (rowsHeld net rows head)) (rw (only-length (nodesOf net) (rowsHeld net rows head) long) k)
           ∙ ap₂ {A = ℕ} {B = Relation} {C = Relation} (λ w r. foldRows bs i w (offsets bs) r) (width-is net b i inside) own)
 
       derived-is : (getD (net .levels) i 0 ≡ 0 → ⊥) →
-          cond (inputChanged (getD (net .slots) i noSlot) changed) (evaluateOn (slotNode (getD (net .slots) i noSlot)) (presentRows (working (net .widths) rows work counts changed) (leftOf (slotNode (getD (net .slots) i noSlot)))) (presentRows (working (net .widths) rows work counts changed) (rightOf (slotNode (getD (net .slots) i noSlot))))) (heldAt (net .widths) head rows i) ≡ rowsAt (newRows net rows head bs) i
+          cond (inputChanged (getD (net .slots) i noSlot) changed)
+          (evaluateOn (slotNode (getD (net .slots) i noSlot)) (presentRows (working (net .widths) rows work counts changed) (leftOf (slotNode (getD (net .slots) i noSlot))))
+          (presentRows (working (net .widths) rows work counts changed) (rightOf (slotNode (getD (net .slots) i noSlot))))) (heldAt (net .widths) head rows i)
+          ≡ rowsAt (newRows net rows head bs) i
       derived-is n =
           let d : Derived (getD (net .slots) i noSlot) (net .widths) i = level-derived net b fit i inside n in
           let kind : isTable (nodeAt (nodesOf net) i) ≡ false = ap isTable node-is ∙ d .derived in
-          let wl : Worked head (working (net .widths) rows work counts changed) (rowsAt (newRows net rows head bs) (leftOf (slotNode (getD (net .slots) i noSlot)))) (leftOf (slotNode (getD (net .slots) i noSlot))) = to .worked (leftOf (slotNode (getD (net .slots) i noSlot))) (d .left) in
-          let wr : Worked head (working (net .widths) rows work counts changed) (rowsAt (newRows net rows head bs) (rightOf (slotNode (getD (net .slots) i noSlot)))) (rightOf (slotNode (getD (net .slots) i noSlot))) = to .worked (rightOf (slotNode (getD (net .slots) i noSlot))) (d .right) in
+          let wl : Worked head (working (net .widths) rows work counts changed) (rowsAt (newRows net rows head bs) (leftOf (slotNode (getD (net .slots) i noSlot))))
+          (leftOf (slotNode (getD (net .slots) i noSlot))) = to .worked (leftOf (slotNode (getD (net .slots) i noSlot))) (d .left) in
+          let wr : Worked head (working (net .widths) rows work counts changed) (rowsAt (newRows net rows head bs) (rightOf (slotNode (getD (net .slots) i noSlot))))
+          (rightOf (slotNode (getD (net .slots) i noSlot))) = to .worked (rightOf (slotNode (getD (net .slots) i noSlot))) (d .right) in
           let il : leftOf (slotNode (getD (net .slots) i noSlot)) < net .count = omega (arith, inside, d .left) in
           let ir : rightOf (slotNode (getD (net .slots) i noSlot)) < net .count = omega (arith, inside, d .right) in
-          let flags : inputChanged (getD (net .slots) i noSlot) changed ≡ (changedIn (rowsHeld net rows head) (newRows net rows head bs) (leftOf (slotNode (getD (net .slots) i noSlot))) || changedIn (rowsHeld net rows head) (newRows net rows head bs) (rightOf (slotNode (getD (net .slots) i noSlot)))) = ap₂ {A = Bool} {B = Bool} {C = Bool} (λ x y. x || y) (flag-at (leftOf (slotNode (getD (net .slots) i noSlot))) il wl) (flag-at (rightOf (slotNode (getD (net .slots) i noSlot))) ir wr) in
-          let given : evaluateOn (slotNode (getD (net .slots) i noSlot)) (presentRows (working (net .widths) rows work counts changed) (leftOf (slotNode (getD (net .slots) i noSlot)))) (presentRows (working (net .widths) rows work counts changed) (rightOf (slotNode (getD (net .slots) i noSlot)))) ≡ evaluateOn (slotNode (getD (net .slots) i noSlot)) (rowsAt (newRows net rows head bs) (leftOf (slotNode (getD (net .slots) i noSlot)))) (rowsAt (newRows net rows head bs) (rightOf (slotNode (getD (net .slots) i noSlot)))) = ap₂ {A = Relation} {B = Relation} {C = Relation} (λ x y. evaluateOn (slotNode (getD (net .slots) i noSlot)) x y) (present-at (leftOf (slotNode (getD (net .slots) i noSlot))) il wl .1) (present-at (rightOf (slotNode (getD (net .slots) i noSlot))) ir wr .1) in
-          ap (λ (t : Bool). cond t (evaluateOn (slotNode (getD (net .slots) i noSlot)) (presentRows (working (net .widths) rows work counts changed) (leftOf (slotNode (getD (net .slots) i noSlot)))) (presentRows (working (net .widths) rows work counts changed) (rightOf (slotNode (getD (net .slots) i noSlot))))) (heldAt (net .widths) head rows i)) flags
-          ∙ ap₂ {A = Relation} {B = Relation} {C = Relation} (λ x y. cond (changedIn (rowsHeld net rows head) (newRows net rows head bs) (leftOf (slotNode (getD (net .slots) i noSlot))) || changedIn (rowsHeld net rows head) (newRows net rows head bs) (rightOf (slotNode (getD (net .slots) i noSlot)))) x y) given (sym (old-at i inside))
-          ∙ ap (λ (n : Node). cond (changedIn (rowsHeld net rows head) (newRows net rows head bs) (leftOf n) || changedIn (rowsHeld net rows head) (newRows net rows head bs) (rightOf n)) (evaluateOn n (rowsAt (newRows net rows head bs) (leftOf n)) (rowsAt (newRows net rows head bs) (rightOf n))) (rowsAt (rowsHeld net rows head) i)) (sym node-is)
+          let flags : inputChanged (getD (net .slots) i noSlot) changed
+          ≡ (changedIn (rowsHeld net rows head) (newRows net rows head bs) (leftOf (slotNode (getD (net .slots) i noSlot))) || changedIn (rowsHeld net rows head) (newRows net rows head bs)
+          (rightOf (slotNode (getD (net .slots) i noSlot)))) = ap₂ {A = Bool} {B = Bool} {C = Bool} (λ x y. x || y) (flag-at (leftOf (slotNode (getD (net .slots) i noSlot))) il wl)
+          (flag-at (rightOf (slotNode (getD (net .slots) i noSlot))) ir wr) in
+          let given : evaluateOn (slotNode (getD (net .slots) i noSlot)) (presentRows (working (net .widths) rows work counts changed) (leftOf (slotNode (getD (net .slots) i noSlot))))
+          (presentRows (working (net .widths) rows work counts changed) (rightOf (slotNode (getD (net .slots) i noSlot))))
+          ≡ evaluateOn (slotNode (getD (net .slots) i noSlot)) (rowsAt (newRows net rows head bs) (leftOf (slotNode (getD (net .slots) i noSlot))))
+          (rowsAt (newRows net rows head bs) (rightOf (slotNode (getD (net .slots) i noSlot)))) = ap₂ {A = Relation} {B = Relation} {C = Relation}
+          (λ x y. evaluateOn (slotNode (getD (net .slots) i noSlot)) x y) (present-at (leftOf (slotNode (getD (net .slots) i noSlot))) il wl .1)
+          (present-at (rightOf (slotNode (getD (net .slots) i noSlot))) ir wr .1) in
+          ap (λ (t : Bool). cond t
+          (evaluateOn (slotNode (getD (net .slots) i noSlot)) (presentRows (working (net .widths) rows work counts changed) (leftOf (slotNode (getD (net .slots) i noSlot))))
+          (presentRows (working (net .widths) rows work counts changed) (rightOf (slotNode (getD (net .slots) i noSlot))))) (heldAt (net .widths) head rows i)) flags
+          ∙ ap₂ {A = Relation} {B = Relation} {C = Relation}
+          (λ x y. cond (changedIn (rowsHeld net rows head) (newRows net rows head bs) (leftOf (slotNode (getD (net .slots) i noSlot))) || changedIn (rowsHeld net rows head)
+          (newRows net rows head bs) (rightOf (slotNode (getD (net .slots) i noSlot)))) x y) given (sym (old-at i inside))
+          ∙ ap (λ (n : Node). cond (changedIn (rowsHeld net rows head) (newRows net rows head bs) (leftOf n) || changedIn (rowsHeld net rows head) (newRows net rows head bs) (rightOf n))
+          (evaluateOn n (rowsAt (newRows net rows head bs) (leftOf n)) (rowsAt (newRows net rows head bs) (rightOf n))) (rowsAt (rowsHeld net rows head) i)) (sym node-is)
           ∙ sym (new-derived (nodesOf net) fit (rowsHeld net rows head) (tablesAfter net rows head bs) i (in-nodes i inside) kind)
 
       -- what it gives are its new rows
@@ -174,12 +202,18 @@ module _ (net : Network) (rows head : List ℕ) (bs : Bytes) (ready : Ready net 
       next-is = go (eqb (getD (net .levels) i 0) 0) refl
         where
           go : (t : Bool) → eqb (getD (net .levels) i 0) 0 ≡ t →
-              cond (t || inputChanged (getD (net .slots) i noSlot) changed) (cond t (foldRows bs i (getD (net .widths) i 0) (offsets bs) (heldAt (net .widths) head rows i)) (evaluateOn (slotNode (getD (net .slots) i noSlot)) (presentRows (working (net .widths) rows work counts changed) (leftOf (slotNode (getD (net .slots) i noSlot)))) (presentRows (working (net .widths) rows work counts changed) (rightOf (slotNode (getD (net .slots) i noSlot)))))) (heldAt (net .widths) head rows i) ≡ rowsAt (newRows net rows head bs) i
+              cond (t || inputChanged (getD (net .slots) i noSlot) changed)
+              (cond t (foldRows bs i (getD (net .widths) i 0) (offsets bs) (heldAt (net .widths) head rows i))
+              (evaluateOn (slotNode (getD (net .slots) i noSlot)) (presentRows (working (net .widths) rows work counts changed) (leftOf (slotNode (getD (net .slots) i noSlot))))
+              (presentRows (working (net .widths) rows work counts changed) (rightOf (slotNode (getD (net .slots) i noSlot)))))) (heldAt (net .widths) head rows i)
+              ≡ rowsAt (newRows net rows head bs) i
           go true e = table-is (eqb-true (getD (net .levels) i 0) 0 e)
           go false e = derived-is (eqb-false (getD (net .levels) i 0) 0 e)
 
       -- one node more
-      pub worked-more : (work′ counts′ : List ℕ) (changed′ : List Bool) → WorksNode head (nextRows (getD (net .slots) i noSlot) (getD (net .levels) i 0) bs head (working (net .widths) rows work counts changed) i) (working (net .widths) rows work counts changed) (working (net .widths) rows work′ counts′ changed′) i true →
+      pub worked-more : (work′ counts′ : List ℕ) (changed′ : List Bool) →
+          WorksNode head (nextRows (getD (net .slots) i noSlot) (getD (net .levels) i 0) bs head (working (net .widths) rows work counts changed) i)
+          (working (net .widths) rows work counts changed) (working (net .widths) rows work′ counts′ changed′) i true →
           WorkedTo head (newRows net rows head bs) (working (net .widths) rows work′ counts′ changed′) (i + 1)
       worked-more work′ counts′ changed′ k =
           record {
@@ -221,14 +255,22 @@ module _ (net : Network) (rows head : List ℕ) (bs : Bytes) (ready : Ready net 
         narrow = narrow-widths net b;
         wide = λ i h. new-wide (nodesOf net) fit (rowsHeld net rows head) (tablesAfter net rows head bs) old-fits copy-tables i (rw (length-widths (nodesOf net)) at h);
         small = λ i h. to .worked i (rw widths-size at h) .few;
-        asc = λ i h. ascending-true (rowsAt (newRows net rows head bs) i) (new-asc (nodesOf net) fit (rowsHeld net rows head) (tablesAfter net rows head bs) old-fits copy-tables i (rw (length-widths (nodesOf net)) at h));
+        asc = λ i h. ascending-true (rowsAt (newRows net rows head bs) i)
+            (new-asc (nodesOf net) fit (rowsHeld net rows head) (tablesAfter net rows head bs) old-fits copy-tables i (rw (length-widths (nodesOf net)) at h));
       }
 
   -- no node worked yet
   pub worked-none : (work : List ℕ) → length work ≡ 8192 → WorkedTo head (newRows net rows head bs) (working (net .widths) rows work (replicate 32 0) (replicate 32 false)) 0
   worked-none work e =
       record {
-        sized = record { widths = b .widths-length; narrow = b .narrow; rows = places .rows-long; work = e; counts = length-replicate {A = ℕ} 32 0; changed = length-replicate {A = Bool} 32 false };
+        sized = record {
+          widths = b .widths-length;
+          narrow = b .narrow;
+          rows = places .rows-long;
+          work = e;
+          counts = length-replicate {A = ℕ} 32 0;
+          changed = length-replicate {A = Bool} 32 false;
+        };
         worked = λ j h. absurd (not-suc-le-zero h);
         unchanged = λ j h. none false j 32;
         uncounted = λ j h. none 0 j 32;

@@ -44,11 +44,14 @@ module _ (nodes : List Node) (fit : AllFit nodes) (old copy : List Relation) whe
   new-table j h e = new-at j h ∙ rw e (ap (rowsAt copy) (before-length j h))
 
   pub new-derived : (j : ℕ) → j < length nodes → isTable (nodeAt nodes j) ≡ false → rowsAt (propagated nodes old copy) j ≡
-      cond (changedIn old (propagated nodes old copy) (leftOf (nodeAt nodes j)) || changedIn old (propagated nodes old copy) (rightOf (nodeAt nodes j))) (givenBy nodes (propagated nodes old copy) j) (rowsAt old j)
+      cond (changedIn old (propagated nodes old copy) (leftOf (nodeAt nodes j)) || changedIn old (propagated nodes old copy) (rightOf (nodeAt nodes j)))
+      (givenBy nodes (propagated nodes old copy) j) (rowsAt old j)
   new-derived j h e =
       let b : (leftOf (nodeAt nodes j) < j) × (rightOf (nodeAt nodes j) < j) = inputs-before nodes fit j h e in
-      let l : rowsAt (take j (propagated nodes old copy)) (leftOf (nodeAt nodes j)) ≡ rowsAt (propagated nodes old copy) (leftOf (nodeAt nodes j)) = getD-take j (propagated nodes old copy) (leftOf (nodeAt nodes j)) [] (b .0) in
-      let r : rowsAt (take j (propagated nodes old copy)) (rightOf (nodeAt nodes j)) ≡ rowsAt (propagated nodes old copy) (rightOf (nodeAt nodes j)) = getD-take j (propagated nodes old copy) (rightOf (nodeAt nodes j)) [] (b .1) in
+      let l : rowsAt (take j (propagated nodes old copy)) (leftOf (nodeAt nodes j)) ≡ rowsAt (propagated nodes old copy) (leftOf (nodeAt nodes j)) = getD-take j (propagated nodes old copy)
+      (leftOf (nodeAt nodes j)) [] (b .0) in
+      let r : rowsAt (take j (propagated nodes old copy)) (rightOf (nodeAt nodes j)) ≡ rowsAt (propagated nodes old copy) (rightOf (nodeAt nodes j)) = getD-take j (propagated nodes old copy)
+      (rightOf (nodeAt nodes j)) [] (b .1) in
       new-at j h ∙ rw (e, before-length j h, l, r) refl
 
   -- ---- their form
@@ -64,20 +67,30 @@ module _ (nodes : List Node) (fit : AllFit nodes) (old copy : List Relation) whe
         kept : Wide (getD (widths nodes) i 0) (rowsAt old i) × Ascending (rowsAt old i)
         kept = (fo .wide i inside, ascending-holds (rowsAt old i) (fo .asc i inside))
 
-        pick : (t : Bool) (a b : Relation) → Wide (getD (widths nodes) i 0) a × Ascending a → Wide (getD (widths nodes) i 0) b × Ascending b → Wide (getD (widths nodes) i 0) (cond t a b) × Ascending (cond t a b)
+        pick : (t : Bool) (a b : Relation) → Wide (getD (widths nodes) i 0) a × Ascending a → Wide (getD (widths nodes) i 0) b × Ascending b → Wide (getD (widths nodes) i 0) (cond t a b)
+            × Ascending (cond t a b)
         pick true a b x y = x
         pick false a b x y = y
 
-        go : (b : Bool) → isTable (nodeAt nodes i) ≡ b → ((j : ℕ) → j < k → Wide (getD (widths nodes) j 0) (rowsAt (propagated nodes old copy) j) × Ascending (rowsAt (propagated nodes old copy) j)) →
+        go : (b : Bool) → isTable (nodeAt nodes i) ≡ b →
+            ((j : ℕ) → j < k → Wide (getD (widths nodes) j 0) (rowsAt (propagated nodes old copy) j) × Ascending (rowsAt (propagated nodes old copy) j)) →
             Wide (getD (widths nodes) i 0) (rowsAt (propagated nodes old copy) i) × Ascending (rowsAt (propagated nodes old copy) i)
         go true e ih = rw (new-table i (omega arith) e) (ts .wide i (omega arith), ts .asc i (omega arith))
         go false e ih =
             let b : (leftOf (nodeAt nodes i) < i) × (rightOf (nodeAt nodes i) < i) = inputs-before nodes fit i (omega arith) e in
-            let left : Wide (getD (widths nodes) (leftOf (nodeAt nodes i)) 0) (rowsAt (propagated nodes old copy) (leftOf (nodeAt nodes i))) × Ascending (rowsAt (propagated nodes old copy) (leftOf (nodeAt nodes i))) = ih (leftOf (nodeAt nodes i)) (omega (arith, b .0)) in
-            let right : Wide (getD (widths nodes) (rightOf (nodeAt nodes i)) 0) (rowsAt (propagated nodes old copy) (rightOf (nodeAt nodes i))) × Ascending (rowsAt (propagated nodes old copy) (rightOf (nodeAt nodes i))) = ih (rightOf (nodeAt nodes i)) (omega (arith, b .1)) in
-            let wide : Wide (getD (widths nodes) i 0) (givenBy nodes (propagated nodes old copy) i) = rw (width-at nodes fit i (omega arith) e) (on-wide (getD (widths nodes) (leftOf (nodeAt nodes i)) 0) (getD (widths nodes) (rightOf (nodeAt nodes i)) 0) (nodeAt nodes i) (rowsAt (propagated nodes old copy) (leftOf (nodeAt nodes i))) (rowsAt (propagated nodes old copy) (rightOf (nodeAt nodes i))) e (columns-fit nodes fit i (omega arith) e) (left .0) (right .0)) in
-            let asc : Ascending (givenBy nodes (propagated nodes old copy) i) = on-asc (nodeAt nodes i) (rowsAt (propagated nodes old copy) (leftOf (nodeAt nodes i))) (rowsAt (propagated nodes old copy) (rightOf (nodeAt nodes i))) (left .1) in
-            rw (new-derived i (omega arith) e) (pick (changedIn old (propagated nodes old copy) (leftOf (nodeAt nodes i)) || changedIn old (propagated nodes old copy) (rightOf (nodeAt nodes i))) (givenBy nodes (propagated nodes old copy) i) (rowsAt old i) (wide, asc) kept)
+            let left : Wide (getD (widths nodes) (leftOf (nodeAt nodes i)) 0) (rowsAt (propagated nodes old copy) (leftOf (nodeAt nodes i)))
+            × Ascending (rowsAt (propagated nodes old copy) (leftOf (nodeAt nodes i))) = ih (leftOf (nodeAt nodes i)) (omega (arith, b .0)) in
+            let right : Wide (getD (widths nodes) (rightOf (nodeAt nodes i)) 0) (rowsAt (propagated nodes old copy) (rightOf (nodeAt nodes i)))
+            × Ascending (rowsAt (propagated nodes old copy) (rightOf (nodeAt nodes i))) = ih (rightOf (nodeAt nodes i)) (omega (arith, b .1)) in
+            let wide : Wide (getD (widths nodes) i 0) (givenBy nodes (propagated nodes old copy) i) = rw (width-at nodes fit i (omega arith) e)
+            (on-wide (getD (widths nodes) (leftOf (nodeAt nodes i)) 0) (getD (widths nodes) (rightOf (nodeAt nodes i)) 0) (nodeAt nodes i)
+            (rowsAt (propagated nodes old copy) (leftOf (nodeAt nodes i))) (rowsAt (propagated nodes old copy) (rightOf (nodeAt nodes i))) e (columns-fit nodes fit i (omega arith) e)
+            (left .0) (right .0)) in
+            let asc : Ascending (givenBy nodes (propagated nodes old copy) i) = on-asc (nodeAt nodes i) (rowsAt (propagated nodes old copy) (leftOf (nodeAt nodes i)))
+            (rowsAt (propagated nodes old copy) (rightOf (nodeAt nodes i))) (left .1) in
+            rw (new-derived i (omega arith) e)
+            (pick (changedIn old (propagated nodes old copy) (leftOf (nodeAt nodes i)) || changedIn old (propagated nodes old copy) (rightOf (nodeAt nodes i)))
+            (givenBy nodes (propagated nodes old copy) i) (rowsAt old i) (wide, asc) kept)
 
     pub new-wide : (i : ℕ) → i < length nodes → Wide (getD (widths nodes) i 0) (rowsAt (propagated nodes old copy) i)
     new-wide i h = fine-to (length nodes) (le-refl (length nodes)) i h .0
@@ -95,17 +108,20 @@ module _ (nodes : List Node) (fit : AllFit nodes) (old copy : List Relation) whe
     fresh-to zero g i h = absurd (not-suc-le-zero h)
     fresh-to (suc k) g i h = go (isTable (nodeAt nodes i)) refl (fresh-to k (omega arith))
       where
-        go : (b : Bool) → isTable (nodeAt nodes i) ≡ b → ((j : ℕ) → j < k → rowsAt (propagated nodes old copy) j ≡ rowsAt (evaluate nodes copy) j) → rowsAt (propagated nodes old copy) i ≡ rowsAt (evaluate nodes copy) i
+        go : (b : Bool) → isTable (nodeAt nodes i) ≡ b → ((j : ℕ) → j < k → rowsAt (propagated nodes old copy) j ≡ rowsAt (evaluate nodes copy) j) → rowsAt (propagated nodes old copy) i
+            ≡ rowsAt (evaluate nodes copy) i
         go true e ih = new-table i (omega arith) e ∙ sym (fresh-table nodes fit copy i (omega arith) e)
         go false e ih =
             let b : (leftOf (nodeAt nodes i) < i) × (rightOf (nodeAt nodes i) < i) = inputs-before nodes fit i (omega arith) e in
-            let given : givenBy nodes (propagated nodes old copy) i ≡ givenBy nodes (evaluate nodes copy) i = ap₂ {A = Relation} {B = Relation} {C = Relation} (λ x y. evaluateOn (nodeAt nodes i) x y) (ih (leftOf (nodeAt nodes i)) (omega (arith, b .0))) (ih (rightOf (nodeAt nodes i)) (omega (arith, b .1))) in
+            let given : givenBy nodes (propagated nodes old copy) i ≡ givenBy nodes (evaluate nodes copy) i = ap₂ {A = Relation} {B = Relation} {C = Relation}
+            (λ x y. evaluateOn (nodeAt nodes i) x y) (ih (leftOf (nodeAt nodes i)) (omega (arith, b .0))) (ih (rightOf (nodeAt nodes i)) (omega (arith, b .1))) in
             new-derived i (omega arith) e
             ∙ pick (changedIn old (propagated nodes old copy) (leftOf (nodeAt nodes i))) (changedIn old (propagated nodes old copy) (rightOf (nodeAt nodes i))) refl refl
             ∙ given
             ∙ sym (fresh-derived nodes fit copy i (omega arith) e)
           where
-            pick : (s t : Bool) → changedIn old (propagated nodes old copy) (leftOf (nodeAt nodes i)) ≡ s → changedIn old (propagated nodes old copy) (rightOf (nodeAt nodes i)) ≡ t → cond (s || t) (givenBy nodes (propagated nodes old copy) i) (rowsAt old i) ≡ givenBy nodes (propagated nodes old copy) i
+            pick : (s t : Bool) → changedIn old (propagated nodes old copy) (leftOf (nodeAt nodes i)) ≡ s → changedIn old (propagated nodes old copy) (rightOf (nodeAt nodes i)) ≡ t →
+                cond (s || t) (givenBy nodes (propagated nodes old copy) i) (rowsAt old i) ≡ givenBy nodes (propagated nodes old copy) i
             pick true t x y = refl
             pick false true x y = refl
             pick false false x y =

@@ -2,7 +2,7 @@
 use mathlib.Core.Path.{_≡_}
 use mathlib.Core.Bool.{Bool, true, false, not, _||_, cond}
 use mathlib.Core.List.{List, [], _∷_}
-use Prim.Native.Nat.{ℕ, _+_, _≤_, _<_}
+use Prim.Native.Nat.{ℕ, _≤_, _<_}
 use lib.Dec.{eqb}
 use lib.ListN.{getD, length, set}
 use Rattle.model.specs.Row.{Relation, sameRows}
@@ -33,7 +33,8 @@ changedIn old new j = not (sameRows (rowsAt new j) (rowsAt old j))
 abbrev pub nextOf : List Relation → List Relation → Node → List Relation → Relation
 nextOf old copy n done =
     cond (isTable n) (rowsAt copy (length done))
-    (cond (changedIn old done (leftOf n) || changedIn old done (rightOf n)) (evaluateOn n (rowsAt done (leftOf n)) (rowsAt done (rightOf n))) (rowsAt old (length done)))
+    (cond (changedIn old done (leftOf n) || changedIn old done (rightOf n)) (evaluateOn n (rowsAt done (leftOf n)) (rowsAt done (rightOf n)))
+    (rowsAt old (length done)))
 
 -- every node's rows, by number, from the old ones and the tables after the events
 unfoldable pub propagated : List Node → List Relation → List Relation → List Relation

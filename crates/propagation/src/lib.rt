@@ -1,19 +1,18 @@
 // The nodes' rows after a batch: tables by their events, derived nodes in number order from the nodes before them.
 ghost use mathlib.Core.Path.{_≡_};
-ghost use mathlib.Core.Bool.{Bool, true, false, not, _||_, cond};
+ghost use mathlib.Core.Bool.{true, false, not, cond};
 ghost use mathlib.Core.List.{List};
 ghost use Prim.Native.Nat.{ℕ, _+_, _≤_, _<_};
-ghost use lib.Dec.{eqb};
-ghost use lib.ListN.{length, getD, replicate, set};
+ghost use lib.ListN.{length, getD, replicate};
 ghost use Rattle.model.specs.Row.{sameRows};
 ghost use Rattle.model.specs.Record.{offsets};
-ghost use Rattle.model.specs.Areas.{rowCount};
 ghost use Rattle.algebra.specs.Places.{Place, Blank, relationIn, Makes};
 ghost use Rattle.network.specs.Reading.{slotNode, Shaped, verdictOf};
 ghost use Rattle.areas.specs.Lent.{placeAt};
 ghost use Rattle.evaluation.specs.Derived.{leftOf, rightOf, evaluateOn, fitsOn};
 ghost use Rattle.tables.specs.Fold.{Foldable, foldRows};
-ghost use Rattle.propagation.specs.Propagated.{newRows, Ready, working, Sized, Present, presentRows, inputChanged, mustWork, workedRows, nextRows, Workable, WorksNode, Puts, verdictBy, Propagates};
+ghost use Rattle.propagation.specs.Propagated.{newRows, Ready, working, Sized, Present, presentRows, inputChanged, mustWork, workedRows};
+ghost use Rattle.propagation.specs.Propagated.{nextRows, Workable, WorksNode, Puts, verdictBy, Propagates};
 use algebra::Made;
 use areas::CAPACITY;
 use areas::COUNTS;
@@ -47,8 +46,11 @@ fn work_table(
     n: usize,
     out: &mut [u32],
 ) -> Made
-    requires { ⌜ Foldable (now bytes) table width × (table < 32) × (8192 ≤ length (now rows)) × Place width (placeAt (now rows) table) n × Blank (now out) ⌝ }
-    ensures { λ r. ⌜ Makes (foldRows (now (bytes .entry)) table width (offsets (now (bytes .entry))) (relationIn width (placeAt (now (rows .entry)) table) n)) (now (out .exit)) r ⌝ }
+    requires { ⌜ Foldable (now bytes) table width × (table < 32) × (8192 ≤ length (now rows)) × Place width (placeAt (now rows) table) n
+        × Blank (now out) ⌝ }
+    ensures { λ r. ⌜ Makes
+        (foldRows (now (bytes .entry)) table width (offsets (now (bytes .entry))) (relationIn width (placeAt (now (rows .entry)) table) n))
+        (now (out .exit)) r ⌝ }
 {
     let mut words = [0u32; FOLDED];
     words::copy_run(rows, table * PLACE, &mut words, 0, n * STRIDE);
@@ -70,8 +72,17 @@ fn work_derived<'a>(
     changed: &[bool],
     out: &mut [u32],
 ) -> Made
-    requires { ⌜ Sized (working (now widths) (now rows) (now work) (now counts) (now changed)) × Shaped slot × (leftOf (slotNode slot) < 32) × (rightOf (slotNode slot) < 32) × Present (working (now widths) (now rows) (now work) (now counts) (now changed)) (leftOf (slotNode slot)) × Present (working (now widths) (now rows) (now work) (now counts) (now changed)) (rightOf (slotNode slot)) × (fitsOn (getD (now widths) (leftOf (slotNode slot)) 0) (getD (now widths) (rightOf (slotNode slot)) 0) (slotNode slot) ≡ true) × Blank (now out) ⌝ }
-    ensures { λ r. ⌜ Makes (evaluateOn (slotNode slot) (presentRows (working (now (widths .entry)) (now (rows .entry)) (now (work .entry)) (now (counts .entry)) (now (changed .entry))) (leftOf (slotNode slot))) (presentRows (working (now (widths .entry)) (now (rows .entry)) (now (work .entry)) (now (counts .entry)) (now (changed .entry))) (rightOf (slotNode slot)))) (now (out .exit)) r ⌝ }
+    requires { ⌜ Sized (working (now widths) (now rows) (now work) (now counts) (now changed)) × Shaped slot × (leftOf (slotNode slot) < 32)
+        × (rightOf (slotNode slot) < 32) × Present (working (now widths) (now rows) (now work) (now counts) (now changed)) (leftOf (slotNode slot))
+        × Present (working (now widths) (now rows) (now work) (now counts) (now changed)) (rightOf (slotNode slot))
+        × (fitsOn (getD (now widths) (leftOf (slotNode slot)) 0) (getD (now widths) (rightOf (slotNode slot)) 0) (slotNode slot) ≡ true)
+        × Blank (now out) ⌝ }
+    ensures { λ r. ⌜ Makes
+        (evaluateOn (slotNode slot)
+        (presentRows (working (now (widths .entry)) (now (rows .entry)) (now (work .entry)) (now (counts .entry)) (now (changed .entry)))
+        (leftOf (slotNode slot)))
+        (presentRows (working (now (widths .entry)) (now (rows .entry)) (now (work .entry)) (now (counts .entry)) (now (changed .entry)))
+        (rightOf (slotNode slot)))) (now (out .exit)) r ⌝ }
 {
     let l = evaluation::left_of(slot);
     let r = evaluation::right_of(slot);
@@ -115,7 +126,8 @@ fn must_work(slot: Slot, level: usize, changed: &[bool]) -> bool
 // Whether the rows of a place are others than those of node i in the rows area.
 fn differs(new: &[u32], n: usize, rows: &[u32], i: usize, m: usize) -> bool
     requires { ⌜ (i < 32) × (8192 ≤ length (now rows)) × (length (now new) ≡ 256) ⌝ }
-    ensures { λ r. ⌜ ((w : ℕ) → Place w (now (new .entry)) n → Place w (placeAt (now (rows .entry)) i) m → r ≡ not (sameRows (relationIn w (now (new .entry)) n) (relationIn w (placeAt (now (rows .entry)) i) m))) ⌝ }
+    ensures { λ r. ⌜ ((w : ℕ) → Place w (now (new .entry)) n → Place w (placeAt (now (rows .entry)) i) m →
+        r ≡ not (sameRows (relationIn w (now (new .entry)) n) (relationIn w (placeAt (now (rows .entry)) i) m))) ⌝ }
 {
     if n != m {
         return true;
@@ -134,8 +146,12 @@ fn put_node(
     counts: &mut [u32],
     changed: &mut [bool],
 )
-    requires { ⌜ (i < 32) × (n ≤ 64) × (8192 ≤ length (now rows)) × (length (now out) ≡ 256) × (length (now work) ≡ 8192) × (length (now counts) ≡ 32) × (length (now changed) ≡ 32) × (getD (now changed) i false ≡ false) ⌝ }
-    ensures { λ _. ⌜ ((w : ℕ) (ws : List ℕ) → Place w (now (out .entry)) n → Place w (placeAt (now (rows .entry)) i) m → Puts (relationIn w (placeAt (now (rows .entry)) i) m) (relationIn w (now (out .entry)) n) (now (out .entry)) n (working ws (now (rows .entry)) (now (work .entry)) (now (counts .entry)) (now (changed .entry))) (working ws (now (rows .entry)) (now (work .exit)) (now (counts .exit)) (now (changed .exit))) i) ⌝ }
+    requires { ⌜ (i < 32) × (n ≤ 64) × (8192 ≤ length (now rows)) × (length (now out) ≡ 256) × (length (now work) ≡ 8192) × (length (now counts) ≡ 32)
+        × (length (now changed) ≡ 32) × (getD (now changed) i false ≡ false) ⌝ }
+    ensures { λ _. ⌜ ((w : ℕ) (ws : List ℕ) → Place w (now (out .entry)) n → Place w (placeAt (now (rows .entry)) i) m →
+        Puts (relationIn w (placeAt (now (rows .entry)) i) m) (relationIn w (now (out .entry)) n) (now (out .entry)) n
+        (working ws (now (rows .entry)) (now (work .entry)) (now (counts .entry)) (now (changed .entry)))
+        (working ws (now (rows .entry)) (now (work .exit)) (now (counts .exit)) (now (changed .exit))) i) ⌝ }
 {
     counts[i] = n as u32;
     if !differs(out, n, rows, i, m) {
@@ -159,8 +175,11 @@ fn work_rows<'a>(
     changed: &[bool],
     out: &mut [u32],
 ) -> Made
-    requires { ⌜ Workable slot level (now bytes) (now head) (working (now widths) (now rows) (now work) (now counts) (now changed)) i × Blank (now out) ⌝ }
-    ensures { λ r. ⌜ Makes (workedRows slot level (now (bytes .entry)) (now (head .entry)) (working (now (widths .entry)) (now (rows .entry)) (now (work .entry)) (now (counts .entry)) (now (changed .entry))) i) (now (out .exit)) r ⌝ }
+    requires { ⌜ Workable slot level (now bytes) (now head) (working (now widths) (now rows) (now work) (now counts) (now changed)) i
+        × Blank (now out) ⌝ }
+    ensures { λ r. ⌜ Makes
+        (workedRows slot level (now (bytes .entry)) (now (head .entry))
+        (working (now (widths .entry)) (now (rows .entry)) (now (work .entry)) (now (counts .entry)) (now (changed .entry))) i) (now (out .exit)) r ⌝ }
 {
     if level == 0 {
         return work_table(bytes, i, widths[i], rows, head[COUNTS + i] as usize, out);
@@ -182,7 +201,11 @@ fn work_node(
     changed: &mut [bool],
 ) -> bool
     requires { ⌜ Workable slot level (now bytes) (now head) (working (now widths) (now rows) (now work) (now counts) (now changed)) i ⌝ }
-    ensures { λ r. ⌜ WorksNode (now (head .entry)) (nextRows slot level (now (bytes .entry)) (now (head .entry)) (working (now (widths .entry)) (now (rows .entry)) (now (work .entry)) (now (counts .entry)) (now (changed .entry))) i) (working (now (widths .entry)) (now (rows .entry)) (now (work .entry)) (now (counts .entry)) (now (changed .entry))) (working (now (widths .entry)) (now (rows .entry)) (now (work .exit)) (now (counts .exit)) (now (changed .exit))) i r ⌝ }
+    ensures { λ r. ⌜ WorksNode (now (head .entry))
+        (nextRows slot level (now (bytes .entry)) (now (head .entry))
+        (working (now (widths .entry)) (now (rows .entry)) (now (work .entry)) (now (counts .entry)) (now (changed .entry))) i)
+        (working (now (widths .entry)) (now (rows .entry)) (now (work .entry)) (now (counts .entry)) (now (changed .entry)))
+        (working (now (widths .entry)) (now (rows .entry)) (now (work .exit)) (now (counts .exit)) (now (changed .exit))) i r ⌝ }
 {
     let n = head[COUNTS + i];
     if !must_work(slot, level, changed) {
@@ -241,8 +264,10 @@ pub fn propagate(
     counts: &mut [u32],
     changed: &mut [bool],
 ) -> Propagated
-    requires { ⌜ Ready net (now rows) (now head) (now bytes) × (length (now work) ≡ 8192) × (now counts ≡ replicate 32 0) × (now changed ≡ replicate 32 false) ⌝ }
-    ensures { λ r. ⌜ Propagates (now (head .entry)) (newRows net (now (rows .entry)) (now (head .entry)) (now (bytes .entry))) (net .count) (working (net .widths) (now (rows .entry)) (now (work .exit)) (now (counts .exit)) (now (changed .exit))) r ⌝ }
+    requires { ⌜ Ready net (now rows) (now head) (now bytes) × (length (now work) ≡ 8192) × (now counts ≡ replicate 32 0)
+        × (now changed ≡ replicate 32 false) ⌝ }
+    ensures { λ r. ⌜ Propagates (now (head .entry)) (newRows net (now (rows .entry)) (now (head .entry)) (now (bytes .entry))) (net .count)
+        (working (net .widths) (now (rows .entry)) (now (work .exit)) (now (counts .exit)) (now (changed .exit))) r ⌝ }
 {
     let count = net.count;
     let mut i = 0;

@@ -37,7 +37,8 @@ module _ (bs : Bytes) where
       go false p true q ih = from-broken n at (leb-false (length bs) at p) q ∙ sym (from-broken m at (leb-false (length bs) at p) q)
       go false p false q ih =
           let w : Whole bs at = whole bs at q in
-          from-whole n at (leb-false (length bs) at p) q ∙ ap (λ (l : List ℕ). at ∷ l) (ih (omega (arith, w .least)) (omega (arith, w .least))) ∙ sym (from-whole m at (leb-false (length bs) at p) q)
+          from-whole n at (leb-false (length bs) at p) q ∙ ap (λ (l : List ℕ). at ∷ l) (ih (omega (arith, w .least)) (omega (arith, w .least)))
+          ∙ sym (from-whole m at (leb-false (length bs) at p) q)
 
   -- the offsets from a place on
   abbrev pub remaining : ℕ → List ℕ
@@ -59,4 +60,5 @@ module _ (bs : Bytes) where
   remaining-whole at h e =
       let f : length bs - at ≡ suc (length bs - at - 1) = omega arith in
       let w : Whole bs at = whole bs at e in
-      rw f (from-whole (length bs - at - 1) at h e ∙ ap (λ (l : List ℕ). at ∷ l) (from-enough (length bs - at - 1) (length bs - (at + lengthAt bs at)) (at + lengthAt bs at) (omega (arith, w .least)) (omega arith)))
+      rw f (from-whole (length bs - at - 1) at h e
+      ∙ ap (λ (l : List ℕ). at ∷ l) (from-enough (length bs - at - 1) (length bs - (at + lengthAt bs at)) (at + lengthAt bs at) (omega (arith, w .least)) (omega arith)))

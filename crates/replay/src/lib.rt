@@ -1,7 +1,5 @@
 // A file of batches applied from opening on.
-ghost use mathlib.Core.Path.{_≡_};
-ghost use mathlib.Core.List.{List};
-ghost use Prim.Native.Nat.{ℕ, _+_, _≤_, _<_};
+ghost use Prim.Native.Nat.{_+_, _<_};
 ghost use Rattle.model.specs.Text.{pieces};
 ghost use Rattle.areas.specs.Lent.{lent};
 ghost use Rattle.batch.specs.Applying.{resultWith};
@@ -18,7 +16,8 @@ fn replay_batches(
     lost: &mut [u32],
     head: &mut [u32],
 )
-    ensures { λ _. ⌜ Reaches (now (net .entry)) (lent (now (rows .entry)) (now (gained .entry)) (now (lost .entry)) (now (head .entry))) (callsOf (pieces (now (file .entry)))) (lent (now (rows .exit)) (now (gained .exit)) (now (lost .exit)) (now (head .exit))) ⌝ }
+    ensures { λ _. ⌜ Reaches (now (net .entry)) (lent (now (rows .entry)) (now (gained .entry)) (now (lost .entry)) (now (head .entry)))
+        (callsOf (pieces (now (file .entry)))) (lent (now (rows .exit)) (now (gained .exit)) (now (lost .exit)) (now (head .exit))) ⌝ }
 {
     let mut start = 0;
     while start < file.len() {
@@ -50,7 +49,9 @@ pub fn replay(
     lost: &mut [u32],
     head: &mut [u32],
 ) -> Verdict
-    ensures { λ r. ⌜ Replayed (now (net .entry)) (now (file .entry)) (lent (now (rows .entry)) (now (gained .entry)) (now (lost .entry)) (now (head .entry))) (resultWith r (lent (now (rows .exit)) (now (gained .exit)) (now (lost .exit)) (now (head .exit)))) ⌝ }
+    ensures { λ r. ⌜ Replayed (now (net .entry)) (now (file .entry))
+        (lent (now (rows .entry)) (now (gained .entry)) (now (lost .entry)) (now (head .entry)))
+        (resultWith r (lent (now (rows .exit)) (now (gained .exit)) (now (lost .exit)) (now (head .exit)))) ⌝ }
 {
     let verdict = monitor::open(net, rows, gained, lost, head);
     if verdict.number != 0 {

@@ -1,12 +1,11 @@
 -- Bytes written one part after the other. Assumes nothing.
-use mathlib.Core.List.{_++_, List, [], append-assoc, append-nil, flatMap, map, _∷_}
+use mathlib.Core.List.{_++_, List, [], flatMap, map, _∷_}
 use mathlib.Core.Bool.{Bool, cond, false, true}
 use mathlib.Core.Path.{ap, ap₂, refl, sym, _∙_, _≡_}
 use Prim.Native.Nat.{_*_, _+_, _<_, suc, zero, zero-le, ℕ, _≤_}
-use native.Mathlib.Nat.{add-comm, mul-le-mul-left, add-zero, le-trans, mul-le-mul-right, suc-mul, zero-add, zero-mul}
+use native.Mathlib.Nat.{add-comm, add-zero, mul-le-mul-right, suc-mul, zero-mul}
 use native.Mathlib.Omega.{arith}
-use lib.ListN.{drop, getD, length, length-append, set}
-use lib.Seq.{sets, sets-eq}
+use lib.ListN.{getD, length, length-append}
 use Rattle.model.specs.Row.{Relation, Row, countFrom, numbersBelow}
 use Rattle.rows.proofs.Words.{Wide, length-fields}
 use Rattle.reports.specs.Written.{allowedOf, recordsOf}
@@ -77,7 +76,8 @@ held-none kind node w area = refl
 pub held-size : (kind node w j : ℕ) (area : List ℕ) → length (recordsOf kind node (heldIn layout w j area node)) ≡ j * (6 + 4 * w)
 held-size kind node w j area = records-size kind node w (heldIn layout w j area node) (held-wide layout w j area node) ∙ ap (λ (n : ℕ). n * (6 + 4 * w)) (length-held layout w j area node)
 
-pub records-more : (kind node w j : ℕ) (area : List ℕ) → recordsOf kind node (heldIn layout w (j + 1) area node) ≡ recordsOf kind node (heldIn layout w j area node) ++ changeRecord kind node (fields w area (node * 256 + j * 4))
+pub records-more : (kind node w j : ℕ) (area : List ℕ) → recordsOf kind node (heldIn layout w (j + 1) area node) ≡ recordsOf kind node (heldIn layout w j area node) ++ changeRecord kind node
+    (fields w area (node * 256 + j * 4))
 records-more kind node w j area =
     ap (recordsOf kind node) (held-more w j area node)
     ∙ flat-append (changeRecord kind node) (heldIn layout w j area node) (fields w area (node * 256 + j * 4) ∷ [])
@@ -106,7 +106,8 @@ step-inside n j s at len h f =
     omega (arith, more, e)
 
 -- the size of a node's report
-pub report-length : (sign node w g l : ℕ) (gained lost : List ℕ) → length (reportBytes sign node (record { gained = heldIn layout w g gained node; lost = heldIn layout w l lost node })) ≡ cond (allowsGained sign) (g * (6 + 4 * w)) 0 + cond (allowsLost sign) (l * (6 + 4 * w)) 0
+pub report-length : (sign node w g l : ℕ) (gained lost : List ℕ) → length (reportBytes sign node (record { gained = heldIn layout w g gained node; lost = heldIn layout w l lost node }))
+    ≡ cond (allowsGained sign) (g * (6 + 4 * w)) 0 + cond (allowsLost sign) (l * (6 + 4 * w)) 0
 unfolding reportBytes
 report-length sign node w g l gained lost =
     length-append (allowedOf (allowsGained sign) 64 node (heldIn layout w g gained node)) (allowedOf (allowsLost sign) 65 node (heldIn layout w l lost node))

@@ -1,10 +1,9 @@
 -- Change records written into lent bytes.
 use mathlib.Core.Bool.{Bool, cond}
-use mathlib.Core.List.{List, [], flatMap}
-use Prim.Native.Nat.{ℕ, _+_, _*_}
+use mathlib.Core.List.{[], flatMap}
+use Prim.Native.Nat.{ℕ}
 use Rattle.model.specs.Record.{Bytes}
 use Rattle.model.specs.Row.{Relation}
-use Rattle.model.specs.Areas.{layout, heldIn}
 use Rattle.model.specs.Calls.{changeRecord}
 
 -- the records of some rows of a node

@@ -1,9 +1,9 @@
 // Reports: the records of a watched node's gained and lost rows, written into lent bytes.
 ghost use mathlib.Core.Path.{_≡_};
-ghost use mathlib.Core.Bool.{Bool, true, false, cond};
-ghost use mathlib.Core.List.{List, [], _++_, flatMap};
-ghost use Prim.Native.Nat.{ℕ, _+_, _*_, _≤_, _<_};
-ghost use lib.ListN.{length, getD, drop};
+ghost use mathlib.Core.Bool.{true, cond};
+ghost use mathlib.Core.List.{flatMap};
+ghost use Prim.Native.Nat.{_+_, _*_, _≤_, _<_};
+ghost use lib.ListN.{length};
 ghost use lib.Seq.{sets};
 ghost use Rattle.model.specs.Record.{bytes16, bytes32};
 ghost use Rattle.model.specs.Areas.{layout, fields, heldIn};
@@ -164,8 +164,12 @@ pub fn put_report(
     lost: &[u32],
     l: usize,
 )
-    requires { ⌜ (w ≤ 4) × (g ≤ 64) × (l ≤ 64) × (node < 32) × (8192 ≤ length (now gained)) × (8192 ≤ length (now lost)) × (cond (allowsGained sign) (g * (6 + 4 * w)) 0 + cond (allowsLost sign) (l * (6 + 4 * w)) 0 ≤ length (now out)) ⌝ }
-    ensures { λ _. ⌜ now (out .exit) ≡ writtenTo (now (out .entry)) (reportBytes sign node (record { gained = heldIn layout w g (now (gained .entry)) node; lost = heldIn layout w l (now (lost .entry)) node })) ⌝ }
+    requires { ⌜ (w ≤ 4) × (g ≤ 64) × (l ≤ 64) × (node < 32) × (8192 ≤ length (now gained)) × (8192 ≤ length (now lost))
+        × (cond (allowsGained sign) (g * (6 + 4 * w)) 0 + cond (allowsLost sign) (l * (6 + 4 * w)) 0 ≤ length (now out)) ⌝ }
+    ensures { λ _. ⌜ now (out .exit)
+        ≡ writtenTo (now (out .entry))
+        (reportBytes sign node (record { gained = heldIn layout w g (now (gained .entry)) node; lost = heldIn layout w l (now (lost .entry)) node }))
+        ⌝ }
 {
     let more = allows_gained(sign);
     let less = allows_lost(sign);

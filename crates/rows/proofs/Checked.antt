@@ -99,43 +99,53 @@ module _ (w count : ℕ) (area : List ℕ) (i : ℕ) (narrow : w ≤ 4) (few : c
   checked-good c =
       let rows : List Row = firstRows part count in
       let rel : Relation = map (take w) (firstRows part count) in
-      let good : (ascending (map (take w) (firstRows part count)) && allOf (λ r. allZero (drop w r)) (firstRows part count)) ≡ true = and-first (goodRows w (firstRows part count)) (allZero (slice (count * 4) 256 part)) c in
-      let asc : ascending (map (take w) (firstRows part count)) ≡ true = and-first (ascending (map (take w) (firstRows part count))) (allOf (λ r. allZero (drop w r)) (firstRows part count)) good in
-      let tails : allOf (λ r. allZero (drop w r)) (firstRows part count) ≡ true = and-second (ascending (map (take w) (firstRows part count))) (allOf (λ r. allZero (drop w r)) (firstRows part count)) good in
+      let good : (ascending (map (take w) (firstRows part count)) && allOf (λ r. allZero (drop w r)) (firstRows part count))
+      ≡ true = and-first (goodRows w (firstRows part count)) (allZero (slice (count * 4) 256 part)) c in
+      let asc : ascending (map (take w) (firstRows part count)) ≡ true = and-first (ascending (map (take w) (firstRows part count))) (allOf (λ r. allZero (drop w r)) (firstRows part count))
+      good in
+      let tails : allOf (λ r. allZero (drop w r)) (firstRows part count) ≡ true = and-second (ascending (map (take w) (firstRows part count)))
+      (allOf (λ r. allZero (drop w r)) (firstRows part count)) good in
       let wide4 : Wide 4 (firstRows part count) = wide-rows 4 part 0 count in
       let same : map (padded 4) (map (take w) (firstRows part count)) ≡ firstRows part count = tail-padded w (firstRows part count) narrow wide4 tails in
       let size : length (map (take w) (firstRows part count)) ≡ count = length-taken w (firstRows part count) ∙ length-rows 4 part 0 count in
       let front : words (firstRows part count) ≡ take (count * 4) part = words-rows 4 part 0 count (rw part-size (omega (arith, zero-mul 4))) in
       let front-size : length (take (count * 4) part) ≡ count * 4 = length-take-le (count * 4) part (rw part-size (omega arith)) in
       let zeros : drop (count * 4) part ≡ replicate (256 - count * 4) 0 =
-      zeros-are (drop (count * 4) part) (rw (← slice-rest) (and-second (goodRows w (firstRows part count)) (allZero (slice (count * 4) 256 part)) c)) ∙ ap (λ (k : ℕ). replicate k 0) (length-drop (count * 4) part ∙ ap (λ (k : ℕ). k - count * 4) part-size) in
+      zeros-are (drop (count * 4) part) (rw (← slice-rest) (and-second (goodRows w (firstRows part count)) (allZero (slice (count * 4) 256 part)) c))
+      ∙ ap (λ (k : ℕ). replicate k 0) (length-drop (count * 4) part ∙ ap (λ (k : ℕ). k - count * 4) part-size) in
       let is : part ≡ placeOf layout (map (take w) (firstRows part count)) =
       sym (take-append-drop (count * 4) part)
-      ∙ ap₂ {A = List ℕ} {B = List ℕ} {C = List ℕ} (λ x y. x ++ y) (sym (ap words same ∙ front)) (zeros ∙ ap (λ (k : ℕ). replicate (256 - k) 0) (sym (ap (λ (l : List Row). length (words l)) same ∙ ap length front ∙ front-size)))
+      ∙ ap₂ {A = List ℕ} {B = List ℕ} {C = List ℕ} (λ x y. x ++ y) (sym (ap words same ∙ front))
+      (zeros ∙ ap (λ (k : ℕ). replicate (256 - k) 0) (sym (ap (λ (l : List Row). length (words l)) same ∙ ap length front ∙ front-size)))
       ∙ sym (place-split (map (take w) (firstRows part count))) in
       let wide : Wide w (map (take w) (firstRows part count)) = wide-take w (firstRows part count) narrow wide4 in
       let held : heldIn layout w count area i ≡ map (take w) (firstRows part count) =
       ap (λ (k : ℕ). heldIn layout w k area i) (sym size) ∙ place-reads layout w area i (map (take w) (firstRows part count)) narrow wide (rw size few) long is in
       let clean : unusedZero layout w count area i ≡ true =
       ap (λ (k : ℕ). unusedZero layout w k area i) (sym size) ∙ place-clean layout w area i (map (take w) (firstRows part count)) narrow wide (rw size few) long is in
-      and-both (leb count 64 && ascending (heldIn layout w count area i)) (unusedZero layout w count area i) (and-both (leb count 64) (ascending (heldIn layout w count area i)) (le-leb count 64 few) (rw held asc)) clean
+      and-both (leb count 64 && ascending (heldIn layout w count area i)) (unusedZero layout w count area i)
+      (and-both (leb count 64) (ascending (heldIn layout w count area i)) (le-leb count 64 few) (rw held asc)) clean
 
   good-checked : goodPlace layout w count area i ≡ true → checked ≡ true
   unfolding goodPlace goodRows
   good-checked g =
       let rel : Relation = heldIn layout w count area i in
-      let first : (leb count 64 && ascending (heldIn layout w count area i)) ≡ true = and-first (leb count 64 && ascending (heldIn layout w count area i)) (unusedZero layout w count area i) g in
+      let first : (leb count 64 && ascending (heldIn layout w count area i)) ≡ true = and-first (leb count 64 && ascending (heldIn layout w count area i))
+      (unusedZero layout w count area i) g in
       let asc : ascending (heldIn layout w count area i) ≡ true = and-second (leb count 64) (ascending (heldIn layout w count area i)) first in
       let clean : unusedZero layout w count area i ≡ true = and-second (leb count 64 && ascending (heldIn layout w count area i)) (unusedZero layout w count area i) g in
       let is : part ≡ placeOf layout (heldIn layout w count area i) = place-words layout w area i count narrow few long clean in
       let size : length (heldIn layout w count area i) ≡ count = length-held layout w count area i in
       let wide : Wide w (heldIn layout w count area i) = held-wide layout w count area i in
       let rows : firstRows part count ≡ map (padded 4) (heldIn layout w count area i) =
-      ap (λ (s : List ℕ). firstRows s count) is ∙ ap (firstRows (placeOf layout (heldIn layout w count area i))) (sym size) ∙ placed-rows w (heldIn layout w count area i) narrow wide (rw size few) in
+      ap (λ (s : List ℕ). firstRows s count) is ∙ ap (firstRows (placeOf layout (heldIn layout w count area i))) (sym size)
+      ∙ placed-rows w (heldIn layout w count area i) narrow wide (rw size few) in
       let rest : drop (count * 4) part ≡ replicate (256 - count * 4) 0 =
-      ap (drop (count * 4)) is ∙ ap (λ (k : ℕ). drop (k * 4) (placeOf layout (heldIn layout w count area i))) (sym size) ∙ rest-zero w (heldIn layout w count area i) narrow wide (rw size few) ∙ ap (λ (k : ℕ). replicate (256 - k * 4) 0) size in
+      ap (drop (count * 4)) is ∙ ap (λ (k : ℕ). drop (k * 4) (placeOf layout (heldIn layout w count area i))) (sym size)
+      ∙ rest-zero w (heldIn layout w count area i) narrow wide (rw size few) ∙ ap (λ (k : ℕ). replicate (256 - k * 4) 0) size in
       and-both (goodRows w (firstRows part count)) (allZero (slice (count * 4) 256 part))
-      (and-both (ascending (map (take w) (firstRows part count))) (allOf (λ r. allZero (drop w r)) (firstRows part count)) (rw (rows, unpadded 4 w (heldIn layout w count area i) wide) asc) (rw rows (tails-zero w (heldIn layout w count area i) wide)))
+      (and-both (ascending (map (take w) (firstRows part count))) (allOf (λ r. allZero (drop w r)) (firstRows part count)) (rw (rows, unpadded 4 w (heldIn layout w count area i) wide) asc)
+      (rw rows (tails-zero w (heldIn layout w count area i) wide)))
       (rw (slice-rest, rest) (zeros-zero (256 - count * 4)))
 
   -- the check is the good form of the place

@@ -1,12 +1,11 @@
 -- What inserting and removing answer and leave, from what the search found. For any stride. Assumes nothing.
 use mathlib.Core.Path.{_≡_, refl, sym, ap, _∙_}
-use mathlib.Core.Bool.{Bool, true, false}
+use mathlib.Core.Bool.{true, false}
 use mathlib.Core.List.{List, [], _∷_, _++_}
 use Prim.Native.Nat.{ℕ, suc, _≤_, _<_}
-use native.Mathlib.Omega.{arith}
 use lib.ListN.{length, take, drop, replicate}
 use borrow.Author.Tests.{le-leb, lt-leb}
-use Rattle.model.specs.Row.{Row, insertRow, deleteRow}
+use Rattle.model.specs.Row.{Row}
 use Rattle.rows.specs.Rows.{stride, stored, insertAnswer, Inserts, Removes}
 use Rattle.rows.specs.declared.Found.the-variants.{At, Missing}
 use Rattle.rows.specs.declared.Inserted.the-variants.{New, Present, Full}

@@ -1,13 +1,13 @@
 -- Rows of a width in words of a stride: zeros past the width, and strictly ascending, one row at a time. For any width and stride. Assumes nothing.
-use mathlib.Core.Path.{_≡_, refl, sym, ap, _∙_}
+use mathlib.Core.Path.{_≡_, refl, ap, _∙_}
 use mathlib.Core.Bool.{Bool, true, false, _&&_}
-use mathlib.Core.List.{List, [], _∷_, _++_, map, append-nil}
-use Prim.Native.Nat.{ℕ, zero, suc, _+_, _-_, _*_, _≤_, _<_, Ordering, Ordering·lt, Ordering·eq, Ordering·gt}
+use mathlib.Core.List.{List, _∷_, map, append-nil}
+use Prim.Native.Nat.{ℕ, suc, _+_, _-_, _*_, _≤_, _<_, Ordering}
 use native.Mathlib.Nat.{suc-mul, mul-le-mul-right}
 use native.Mathlib.Omega.{arith}
 use native.Mathlib.Numerals.{add-one}
-use lib.ListN.{length, getD, take, drop, length-drop, drop-of-length-le}
-use lib.Seq.{slice, paste, take-take, take-add, drop-drop, drop-at, length-take-le, take-all}
+use lib.ListN.{length, take, drop, drop-of-length-le}
+use lib.Seq.{slice, paste, take-take, take-add, drop-drop, drop-at, length-take-le}
 use Rattle.model.specs.Row.{Row, order, isLess, belowFirst, ascending, allOf}
 use Rattle.model.specs.Areas.{fields, allZero}
 use Rattle.rows.specs.Rows.{rowAt, rowsFrom, goodRow, goodRows}
@@ -49,7 +49,8 @@ module _ (w n : ℕ) (s : List ℕ) (j count : ℕ) (narrow : w ≤ n) (fits : c
   unfolding goodRow
   row-last e h = rw (zeros, e, rows-none n s count (j + 1) h)
 
-  pub row-next : (o : Ordering) → allZero (slice (j * n + w) (j * n + n) s) ≡ true → j + 1 < count → o ≡ order (fields w s (j * n)) (fields w s (j * n + n)) → goodRow w (rowAt n s j) following ≡ isLess o
+  pub row-next : (o : Ordering) → allZero (slice (j * n + w) (j * n + n) s) ≡ true → j + 1 < count → o ≡ order (fields w s (j * n)) (fields w s (j * n + n)) →
+      goodRow w (rowAt n s j) following ≡ isLess o
   unfolding goodRow rowAt
   row-next o e h p =
       let at : (j + 1) * n ≡ j * n + n = ap (λ (k : ℕ). k * n) (add-one j) ∙ suc-mul j n in

@@ -2,11 +2,11 @@
 use mathlib.Core.Path.{_≡_, refl, sym, ap, ap₂, _∙_}
 use mathlib.Core.Bool.{Bool, true, false, not, _&&_, _||_}
 use mathlib.Core.List.{List, [], _∷_, _++_, map, append-assoc}
-use Prim.Native.Nat.{ℕ, zero, suc, _+_, _-_, _≤_, _<_, compare, Ordering, Ordering·lt, Ordering·eq, Ordering·gt}
+use Prim.Native.Nat.{ℕ, suc, _+_, _-_, _<_, compare, Ordering, Ordering·lt, Ordering·eq, Ordering·gt}
 use native.Mathlib.Omega.{arith}
 use lib.Dec.{isEq}
-use lib.ListN.{length, length-append, getD, set, take, drop, replicate, List·getD-append, List·getD-eq-default, length-replicate}
-use lib.Seq.{set-at, take-at, getD-append-add}
+use lib.ListN.{length, length-append, getD, set, take, replicate, List·getD-append}
+use lib.Seq.{set-at, take-at}
 use Rattle.model.specs.Row.{Row, Relation, andThen, order, isLess, sameRow, belowFirst, ascending, member, place, insertRow, keepIf, keep, setOf, deleteRow}
 use Rattle.model.specs.Algebra.{unionRows, differenceRows, intersectRows}
 use Rattle.model.specs.Areas.{padded}

@@ -1,13 +1,12 @@
 -- A node's place: of good form it is exactly the words of its rows, and the words of some rows read back as those rows. For any stride, capacity and width.
 -- Assumes nothing.
 use mathlib.Core.Path.{_≡_, refl, sym, ap, ap₂, _∙_}
-use mathlib.Core.Bool.{Bool, true, false, _&&_, cond, true≢false}
+use mathlib.Core.Bool.{Bool, true, false, cond}
 use mathlib.Core.List.{List, [], _∷_, _++_, map, flatMap, append-assoc, append-nil}
 use Prim.Native.Nat.{ℕ, zero, suc, _+_, _-_, _*_, _≤_, _<_, zero-le, suc-le-suc}
-use native.Mathlib.Nat.{not-suc-le-zero, le-of-suc-le-suc, suc-mul, zero-mul, mul-zero, add-zero, zero-add, add-mul, mul-assoc, mul-comm, mul-sub, mul-le-mul-right, le-refl}
-use native.Mathlib.Numerals.{add-one}
+use native.Mathlib.Nat.{not-suc-le-zero, le-of-suc-le-suc, mul-zero, add-zero, zero-add, add-mul, mul-assoc, mul-comm, mul-sub, le-refl}
 use native.Mathlib.Omega.{arith}
-use lib.Dec.{eqb, ltb, leb}
+use lib.Dec.{eqb, ltb}
 use lib.ListN.{length, getD, take, drop, replicate, length-append, length-replicate, getD-replicate, List·getD-append}
 use lib.Seq.{take-at, drop-at, length-take-le, getD-take, getD-drop, getD-append-add}
 use borrow.Author.Tests.{eqb-true, lt-ltb, le-ltb, ltb-true, ltb-false}
@@ -15,7 +14,7 @@ use Rattle.model.specs.Row.{Row, Relation, allOf, countFrom, numbersBelow}
 use Rattle.model.specs.Areas.{Layout, placeWords, fields, rowStart, heldIn, allZero, unusedOf, unusedZero, padded, placeOf}
 use Rattle.model.proofs.Sets.{and-first, and-second, and-both}
 use Rattle.rows.specs.Rows.{rowAt, rowsFrom, words}
-use Rattle.rows.proofs.Words.{Wide, length-fields, length-row, length-rows, wide-rows, words-append, words-rows, words-zeros, length-words, rows-snoc, rows-words, rows-part}
+use Rattle.rows.proofs.Words.{Wide, length-fields, words-append, words-rows, words-zeros, length-words, rows-words, rows-part}
 use Rattle.rows.proofs.Search.{row-at}
 
 -- ---- every number below another
@@ -67,7 +66,8 @@ module _ (L : Layout) where
   -- where row j of node i starts, counted in rows
   pub row-start : (i j : ℕ) → (L .capacity * i + j) * L .stride ≡ rowStart L i j
   row-start i j =
-      let e : L .capacity * i * L .stride ≡ L .capacity * L .stride * i = mul-assoc (L .capacity) i (L .stride) ∙ ap (λ (k : ℕ). L .capacity * k) (mul-comm i (L .stride)) ∙ sym (mul-assoc (L .capacity) (L .stride) i) in
+      let e : L .capacity * i * L .stride ≡ L .capacity * L .stride * i = mul-assoc (L .capacity) i (L .stride) ∙ ap (λ (k : ℕ). L .capacity * k) (mul-comm i (L .stride))
+      ∙ sym (mul-assoc (L .capacity) (L .stride) i) in
       add-mul (L .capacity * i) j (L .stride) ∙ rw (e, mul-comm j (L .stride))
 
   -- rows with zeros past the width, then rows of zeros
@@ -216,10 +216,12 @@ module _ (L : Layout) (w : ℕ) (area : List ℕ) (i : ℕ) (rel : Relation) (na
   all = map (padded (L .stride)) rel ++ replicate (L .capacity - length rel) (replicate (L .stride) 0)
 
   all-length : length all ≡ L .capacity
-  all-length = length-append (map (padded (L .stride)) rel) (replicate (L .capacity - length rel) (replicate (L .stride) 0)) ∙ rw (length-map-padded (L .stride) rel, length-replicate) (omega arith)
+  all-length = length-append (map (padded (L .stride)) rel) (replicate (L .capacity - length rel) (replicate (L .stride) 0))
+      ∙ rw (length-map-padded (L .stride) rel, length-replicate) (omega arith)
 
   all-wide : Wide (L .stride) all
-  all-wide = wide-append (L .stride) (map (padded (L .stride)) rel) (replicate (L .capacity - length rel) (replicate (L .stride) 0)) (wide-padded w (L .stride) rel narrow wide) (wide-zeros (L .stride) (L .capacity - length rel))
+  all-wide = wide-append (L .stride) (map (padded (L .stride)) rel) (replicate (L .capacity - length rel) (replicate (L .stride) 0)) (wide-padded w (L .stride) rel narrow wide)
+      (wide-zeros (L .stride) (L .capacity - length rel))
 
   -- every row of the place, in all its words
   whole-row : (k : ℕ) → k < L .capacity → fields (L .stride) area (rowStart L i k) ≡ getD all k []
@@ -262,12 +264,14 @@ module _ (L : Layout) (w : ℕ) (area : List ℕ) (i : ℕ) (rel : Relation) (na
   unfolding unusedZero unusedOf
   place-clean = below-all (λ j. allZero (unusedOf L w (length rel) area i j)) 0 (L .capacity) (λ k h. rw zero-add (go k h (ltb k (length rel)) refl))
     where
-      go : (k : ℕ) → k < L .capacity → (t : Bool) → ltb k (length rel) ≡ t → allZero (cond t (fields (L .stride - w) area (rowStart L i k + w)) (fields (L .stride) area (rowStart L i k))) ≡ true
+      go : (k : ℕ) → k < L .capacity → (t : Bool) → ltb k (length rel) ≡ t → allZero (cond t (fields (L .stride - w) area (rowStart L i k + w)) (fields (L .stride) area (rowStart L i k)))
+          ≡ true
       go k h true e = rw (used-rest k (ltb-true k (length rel) e)) (zeros-zero (L .stride - w))
       go k h false e =
           let past : length rel ≤ k = ltb-false k (length rel) e in
           let zeros : getD all k [] ≡ replicate (L .stride) 0 =
-          zeros-at (map (padded (L .stride)) rel) (replicate (L .stride) 0) (L .capacity - length rel) k (rw (length-map-padded (L .stride) rel) past) (rw (length-map-padded (L .stride) rel) (omega arith)) in
+          zeros-at (map (padded (L .stride)) rel) (replicate (L .stride) 0) (L .capacity - length rel) k (rw (length-map-padded (L .stride) rel) past)
+          (rw (length-map-padded (L .stride) rel) (omega arith)) in
           rw (whole-row k h ∙ zeros) (zeros-zero (L .stride))
 
 -- ---- a place written back into its area
@@ -284,7 +288,8 @@ module _ (L : Layout) (area part : List ℕ) (i : ℕ) (size : length part ≡ p
   -- inside it: the words written
   pub written-inside : placeIn L (withPlace L area i part) i ≡ part
   written-inside =
-      ap (take (placeWords L)) (drop-at (take (placeWords L * i) area) (part ++ drop (placeWords L * i + placeWords L) area) (placeWords L * i) (length-take-le (placeWords L * i) area (omega arith)))
+      ap (take (placeWords L))
+      (drop-at (take (placeWords L * i) area) (part ++ drop (placeWords L * i + placeWords L) area) (placeWords L * i) (length-take-le (placeWords L * i) area (omega arith)))
       ∙ take-at part (drop (placeWords L * i + placeWords L) area) (placeWords L) size
 
   -- outside it every word is as it was

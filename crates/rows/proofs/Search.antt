@@ -1,16 +1,15 @@
 -- What a search for a row in an ascending list finds, and what that says of inserting and removing. Assumes nothing.
 use mathlib.Core.Path.{_≡_, refl, sym, ap, _∙_, subst}
-use mathlib.Core.Bool.{Bool, true, false, not, _&&_, _||_, cond, true≢false}
+use mathlib.Core.Bool.{true, false}
 use mathlib.Core.List.{List, [], _∷_, _++_}
-use Prim.Native.Nat.{ℕ, zero, suc, _+_, _-_, _*_, _≤_, _<_, Ordering, Ordering·lt, Ordering·eq, Ordering·gt, zero-le, suc-le-suc}
+use Prim.Native.Nat.{ℕ, zero, suc, _+_, _≤_, _<_, Ordering, Ordering·lt, Ordering·eq, Ordering·gt, zero-le, suc-le-suc}
 use native.Mathlib.Nat.{not-suc-le-zero, le-of-suc-le-suc, le-trans, lt-irrefl, eq-or-lt-of-le, zero-add}
 use native.Mathlib.Numerals.{add-one}
 use mathlib.Core.Logic.{⊎-elim}
 use native.Mathlib.Omega.{arith}
-use lib.Dec.{isEq, leb}
 use lib.ListN.{length, getD, take, drop}
-use Rattle.model.specs.Row.{Row, order, sameRow, member, keep, keepIf, place, insertRow, deleteRow}
-use Rattle.model.proofs.Order.{flip, order-flip, order-eq, order-refl, order-trans, lt≢eq, gt≢eq}
+use Rattle.model.specs.Row.{Row, order, member, insertRow, deleteRow}
+use Rattle.model.proofs.Order.{flip, order-flip, order-eq, order-trans}
 use Rattle.model.proofs.Sets.{Above, Ascending, above-trans, above-not-member}
 use Rattle.rows.specs.Rows.{rowAt, rowsFrom, later, locateBy, locate}
 use Rattle.rows.specs.declared.Found.{Found}

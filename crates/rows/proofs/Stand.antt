@@ -60,7 +60,8 @@ module _ (most size : ℕ) (r : Row) (l : List Row) (before after : List ℕ) (n
 -- ---- one row taken out
 
 -- rows with a row of zeros behind them, over rows that were one more
-taken-words : (size : ℕ) (d l : List Row) → Wide 4 d → Wide 4 l → suc (length d) ≡ length l → length l * 4 ≤ size → stored (d ++ (replicate 4 0 ∷ [])) (stored l (replicate size 0)) ≡ stored d (replicate size 0)
+taken-words : (size : ℕ) (d l : List Row) → Wide 4 d → Wide 4 l → suc (length d) ≡ length l → length l * 4 ≤ size → stored (d ++ (replicate 4 0 ∷ [])) (stored l (replicate size 0))
+    ≡ stored d (replicate size 0)
 unfolding stored
 taken-words size d l wd wl e h =
     let z : Row = replicate 4 0 in
@@ -69,11 +70,13 @@ taken-words size d l wd wl e h =
     let both : words (d ++ (replicate 4 0 ∷ [])) ≡ words d ++ replicate 4 0 = words-append d (replicate 4 0 ∷ []) ∙ ap (λ (x : List ℕ). words d ++ x) (append-nil (replicate 4 0)) in
     let size-is : length (words (d ++ (replicate 4 0 ∷ []))) ≡ length (words l) = ap length both ∙ length-append (words d) (replicate 4 0) ∙ rw (ld, ll) (omega (arith, e)) in
     let rest : drop (length (words (d ++ (replicate 4 0 ∷ [])))) (words l ++ drop (length (words l)) (replicate size 0)) ≡ replicate (size - length (words l)) 0 =
-    ap (λ (k : ℕ). drop k (words l ++ drop (length (words l)) (replicate size 0))) size-is ∙ drop-at (words l) (drop (length (words l)) (replicate size 0)) (length (words l)) refl ∙ drop-zeros (length (words l)) size in
+    ap (λ (k : ℕ). drop k (words l ++ drop (length (words l)) (replicate size 0))) size-is ∙ drop-at (words l) (drop (length (words l)) (replicate size 0)) (length (words l)) refl
+    ∙ drop-zeros (length (words l)) size in
     let more : 4 + (size - length (words l)) ≡ size - length (words d) = omega (arith, ld, ll, e) in
     ap₂ {A = List ℕ} {B = List ℕ} {C = List ℕ} (λ x y. x ++ y) both rest
     ∙ append-assoc (words d) (replicate 4 0) (replicate (size - length (words l)) 0)
-    ∙ ap (λ (x : List ℕ). words d ++ x) (replicate-append-replicate {A = ℕ} 4 (size - length (words l)) 0 ∙ ap (λ (k : ℕ). replicate {A = ℕ} k 0) more ∙ sym (drop-zeros (length (words d)) size))
+    ∙ ap (λ (x : List ℕ). words d ++ x)
+    (replicate-append-replicate {A = ℕ} 4 (size - length (words l)) 0 ∙ ap (λ (k : ℕ). replicate {A = ℕ} k 0) more ∙ sym (drop-zeros (length (words d)) size))
 
 module _ (most size : ℕ) (room : most * 4 ≤ size) (r : Row) (l : List Row) (before after : List ℕ) (n : ℕ) (s : Standing most size l before n) where
   pub take-out : Wide 4 l → Ascending l → Removes r l before after true → Standing most size (deleteRow r l) after (n - 1)

@@ -1,14 +1,15 @@
 -- Rows in a list of words, for rows of any number of words. Assumes nothing.
-use mathlib.Core.Path.{_≡_, refl, sym, ap, ap₂, _∙_, subst}
-use mathlib.Core.Bool.{Bool, true, false, not}
+use mathlib.Core.Path.{_≡_, refl, sym, ap, ap₂, _∙_}
+use mathlib.Core.Bool.{Bool, true, false}
 use mathlib.Core.List.{List, [], _∷_, _++_, append-assoc, append-nil}
 use Prim.Native.Nat.{ℕ, zero, suc, _+_, _-_, _*_, _≤_, _<_, compare, Ordering, Ordering·lt, Ordering·eq, Ordering·gt}
-use native.Mathlib.Nat.{not-suc-le-zero, suc-mul, zero-mul, zero-add, add-zero, suc-add, mul-le-mul-right, add-mul, le-refl, le-trans, le-of-eq}
+use native.Mathlib.Nat.{suc-mul, zero-mul, add-zero, suc-add, mul-le-mul-right}
 use native.Mathlib.Numerals.{add-one, towards-suc}
 use native.Mathlib.Omega.{arith}
-use lib.ListN.{length-drop, replicate, length-replicate, replicate-append-replicate, length, getD, set, take, drop, length-append, length-set, take-append-drop, List·getD-append}
-use lib.Seq.{paste, take-all, drop-append-le, getD-append-add, getD-drop, take-nil, drop-nil, take-take, length-slice, take-append-le, slice, slice-empty, slice-cons, take-suc, getD-take, append-snoc, set-at, sets, sets-eq, getD-set-same, getD-set-other, take-add, drop-drop, take-append-add, drop-append-add, length-take-le, drop-cons, take-append-seam, drop-append-seam, take-at, drop-at}
-use Rattle.model.specs.Row.{Row, andThen, order, sameRow, member, keep, keepIf, place, insertRow}
+use lib.ListN.{length-drop, replicate, length-replicate, replicate-append-replicate, length, getD, set, take, drop, length-append, take-append-drop, List·getD-append}
+use lib.Seq.{paste, take-all, drop-append-le, getD-append-add, getD-drop, take-nil, drop-nil, take-take, length-slice, take-append-le, slice, slice-empty, slice-cons, take-suc, getD-take}
+use lib.Seq.{append-snoc, set-at, sets, sets-eq, take-add, drop-drop, take-append-add, drop-append-add, length-take-le, drop-cons, take-at, drop-at}
+use Rattle.model.specs.Row.{Row, andThen, order, keep, keepIf, place, insertRow}
 use Rattle.model.specs.Areas.{fields}
 use Rattle.model.proofs.Order.{lt-compare, gt-compare, eq-compare}
 use Rattle.rows.specs.Rows.{rowAt, rowsFrom, words, stored}
@@ -174,7 +175,8 @@ module _ (w : ℕ) (r : Row) (s : List ℕ) (n p : ℕ) (wide : length r ≡ w) 
   put-size : length (words (take p all ++ (r ∷ drop p all))) ≡ n * w + w
   put-size =
       let h : p * w ≤ n * w = mul-le-mul-right w within in
-      rw put-words (length-append (take (p * w) s) (r ++ slice (p * w) (n * w) s) ∙ rw (length-append, length-take-le (p * w) s (omega arith), length-slice (p * w) (n * w) s (omega arith), wide) (omega arith))
+      rw put-words (length-append (take (p * w) s) (r ++ slice (p * w) (n * w) s)
+      ∙ rw (length-append, length-take-le (p * w) s (omega arith), length-slice (p * w) (n * w) s (omega arith), wide) (omega arith))
 
   pub put-in : sets (gap w (p * w) (n * w) s) (p * w) r ≡ stored (take p all ++ (r ∷ drop p all)) s
   unfolding stored
@@ -349,13 +351,15 @@ module _ (b from : ℕ) (s : List ℕ) where
       let p : List ℕ = head-part k in
       let lp : length p ≡ k = head-length k h (omega arith) in
       let t-is : t ≡ p ++ drop k s = e ∙ shut-split k in
-      let v : getD t (k + b) 0 ≡ getD s (k + b) 0 = ap (λ (l : List ℕ). getD l (k + b) 0) t-is ∙ ap (λ (n : ℕ). getD (p ++ drop k s) (n + b) 0) (sym lp) ∙ getD-append-add p (drop k s) b 0 ∙ getD-drop k s b 0 in
+      let v : getD t (k + b) 0 ≡ getD s (k + b) 0 = ap (λ (l : List ℕ). getD l (k + b) 0) t-is ∙ ap (λ (n : ℕ). getD (p ++ drop k s) (n + b) 0) (sym lp) ∙ getD-append-add p (drop k s) b 0
+      ∙ getD-drop k s b 0 in
       let x : ℕ = getD s (k + b) 0 in
       let step : slice (from + b) (k + 1 + b) s ≡ slice (from + b) (k + b) s ++ (x ∷ []) =
       let n : k + 1 + b ≡ suc (k + b) = omega arith in rw n (slice-snoc (from + b) (k + b) s (omega arith) g) in
       ap₂ (λ (l : List ℕ) (y : ℕ). set l k y) (t-is ∙ ap (λ (l : List ℕ). p ++ l) (drop-cons s k 0 (omega arith))) v
       ∙ set-at p (getD s k 0) (drop (suc k) s) x k lp
-      ∙ rw (step, add-one) (append-assoc (take from s) (slice (from + b) (k + b) s) (x ∷ drop (suc k) s) ∙ ap (λ (l : List ℕ). take from s ++ l) (sym (append-snoc (slice (from + b) (k + b) s) x (drop (suc k) s))))
+      ∙ rw (step, add-one) (append-assoc (take from s) (slice (from + b) (k + b) s) (x ∷ drop (suc k) s)
+      ∙ ap (λ (l : List ℕ). take from s ++ l) (sym (append-snoc (slice (from + b) (k + b) s) x (drop (suc k) s))))
 
   pub shut-clear : (to : ℕ) → from + b ≤ to → to ≤ length s → sets (shut b from (to - b) s) (to - b) (replicate b 0) ≡ take from s ++ (slice (from + b) to s ++ (replicate b 0 ++ drop to s))
   unfolding head-part
@@ -389,7 +393,8 @@ module _ (w : ℕ) (s : List ℕ) (n p : ℕ) (fits : n * w ≤ length s) (withi
       let whole : words l ≡ take (n * w) s = words-rows w s 0 n (omega (arith, zero-mul w)) ∙ rw zero-mul in
       let front : words (take p l) ≡ take (p * w) s = sym (take-words w p l (wide-rows w s 0 n)) ∙ rw (whole, take-take (p * w) (n * w) s h) in
       let back : words (drop (suc p) l) ≡ slice (p * w + w) (n * w) s = sym (drop-words w (suc p) l (wide-rows w s 0 n)) ∙ rw (suc-mul, whole) in
-      words-append (take p l ++ drop (suc p) l) (replicate w 0 ∷ []) ∙ rw (words-append, front, back, append-nil) (append-assoc (take (p * w) s) (slice (p * w + w) (n * w) s) (replicate w 0))
+      words-append (take p l ++ drop (suc p) l) (replicate w 0 ∷ [])
+      ∙ rw (words-append, front, back, append-nil) (append-assoc (take (p * w) s) (slice (p * w + w) (n * w) s) (replicate w 0))
 
   out-size : length (words (rest-of ++ (replicate w 0 ∷ []))) ≡ n * w
   out-size =

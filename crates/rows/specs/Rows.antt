@@ -2,10 +2,10 @@
 use mathlib.Core.Path.{_≡_}
 use mathlib.Core.Bool.{Bool, true, false, _&&_, cond}
 use mathlib.Core.List.{List, [], _∷_, _++_, map}
-use Prim.Native.Nat.{ℕ, zero, suc, _+_, _*_, _≤_, Ordering, Ordering·lt, Ordering·eq, Ordering·gt}
+use Prim.Native.Nat.{ℕ, zero, suc, _*_, _≤_, Ordering, Ordering·lt, Ordering·eq, Ordering·gt}
 use lib.Dec.{leb}
 use lib.ListN.{length, take, drop, replicate}
-use Rattle.model.specs.Row.{Row, order, sameRow, member, belowFirst, ascending, allOf, insertRow, deleteRow}
+use Rattle.model.specs.Row.{Row, order, member, belowFirst, ascending, allOf, insertRow, deleteRow}
 use Rattle.model.specs.Areas.{layout, fields, allZero}
 use Rattle.rows.specs.declared.Order.{Order}
 use Rattle.rows.specs.declared.Order.the-variants.{Less, Equal, Greater}

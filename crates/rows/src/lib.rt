@@ -1,9 +1,9 @@
 // Relations as rows of words in a slice. A place for a relation is lent as a part of its area, so that nothing outside it can be touched.
 ghost use mathlib.Core.Path.{_≡_};
-ghost use mathlib.Core.Bool.{Bool, true, false};
+ghost use mathlib.Core.Bool.{true, false};
 ghost use mathlib.Core.List.{_++_};
-ghost use Prim.Native.Nat.{ℕ, _+_, _*_, _-_, _<_, _≤_};
-ghost use lib.ListN.{length, take, drop, replicate};
+ghost use Prim.Native.Nat.{_+_, _*_, _-_, _<_, _≤_};
+ghost use lib.ListN.{length, take, drop};
 ghost use lib.Seq.{paste, slice};
 ghost use Rattle.model.specs.Row.{order, ascending};
 ghost use Rattle.model.specs.Areas.{fields};
@@ -104,7 +104,8 @@ pub fn find(words: &[u32], n: usize, src: &[u32], at: usize) -> Found
 // Moves the words from index from up to index to one row up.
 fn open_gap(words: &mut [u32], from: usize, to: usize)
     requires { ⌜ (from ≤ to) × (to + stride ≤ length (now words)) ⌝ }
-    ensures { λ _. ⌜ now (words .exit) ≡ take (from + stride) (now (words .entry)) ++ (slice from to (now (words .entry)) ++ drop (to + stride) (now (words .entry))) ⌝ }
+    ensures { λ _. ⌜ now (words .exit)
+        ≡ take (from + stride) (now (words .entry)) ++ (slice from to (now (words .entry)) ++ drop (to + stride) (now (words .entry))) ⌝ }
 {
     let mut k = to;
     while from < k {
@@ -116,7 +117,8 @@ fn open_gap(words: &mut [u32], from: usize, to: usize)
 // Moves the words from one row past index from up to index to one row down.
 fn close_gap(words: &mut [u32], from: usize, to: usize)
     requires { ⌜ (from + stride ≤ to) × (to ≤ length (now words)) ⌝ }
-    ensures { λ _. ⌜ now (words .exit) ≡ take from (now (words .entry)) ++ (slice (from + stride) to (now (words .entry)) ++ drop (to - stride) (now (words .entry))) ⌝ }
+    ensures { λ _. ⌜ now (words .exit)
+        ≡ take from (now (words .entry)) ++ (slice (from + stride) to (now (words .entry)) ++ drop (to - stride) (now (words .entry))) ⌝ }
 {
     let end = to - STRIDE;
     let mut k = from;
@@ -128,8 +130,10 @@ fn close_gap(words: &mut [u32], from: usize, to: usize)
 
 // Row at of src put among the first n rows, which ascend, unless it is there or there are as many as there may be.
 pub fn insert(words: &mut [u32], n: usize, src: &[u32], at: usize, capacity: usize) -> Inserted
-    requires { ⌜ (n ≤ capacity) × (capacity * stride ≤ length (now words)) × (at * stride + stride ≤ length (now src)) × (ascending (firstRows (now words) n) ≡ true) ⌝ }
-    ensures { λ r. ⌜ Inserts capacity (rowAt stride (now (src .entry)) at) (firstRows (now (words .entry)) n) (now (words .entry)) (now (words .exit)) r ⌝ }
+    requires { ⌜ (n ≤ capacity) × (capacity * stride ≤ length (now words)) × (at * stride + stride ≤ length (now src))
+        × (ascending (firstRows (now words) n) ≡ true) ⌝ }
+    ensures { λ r. ⌜ Inserts capacity (rowAt stride (now (src .entry)) at) (firstRows (now (words .entry)) n) (now (words .entry))
+        (now (words .exit)) r ⌝ }
 {
     match find(words, n, src, at) {
         Found::At(_) => Inserted::Present,

@@ -31,7 +31,8 @@ high false false false true h = absurd (omega arith)
 high false false false false h = absurd (omega arith)
 
 -- the numbers of rules 10 to 13
-numbered : (a b c e : Bool) → eqb (firstBroken (rule 10 a ∷ rule 11 b ∷ rule 12 c ∷ rule 13 e ∷ [])) 0 ≡ false → within 9 13 (firstBroken (rule 10 a ∷ rule 11 b ∷ rule 12 c ∷ rule 13 e ∷ [])) ≡ true
+numbered : (a b c e : Bool) → eqb (firstBroken (rule 10 a ∷ rule 11 b ∷ rule 12 c ∷ rule 13 e ∷ [])) 0 ≡ false →
+    within 9 13 (firstBroken (rule 10 a ∷ rule 11 b ∷ rule 12 c ∷ rule 13 e ∷ [])) ≡ true
 numbered true b c e h = refl
 numbered false true c e h = refl
 numbered false false true e h = refl
@@ -44,11 +45,16 @@ module _ (nodes : List Node) (bs : Bytes) where
   event-good before at z =
       let t : ℕ = fieldAt bs at 0 in
       let fits : eventFits nodes bs at ≡ true = last-holds (isBroken bs at) (not (eqb (kindAt bs at) 32 || eqb (kindAt bs at) 33)) (leb maxEvents before) (eventFits nodes bs at) z in
-      let three : (leb 6 (lengthAt bs at) && ltb (fieldAt bs at 0) (length nodes) && isTable (nodeAt nodes (fieldAt bs at 0))) ≡ true = and-first (leb 6 (lengthAt bs at) && ltb (fieldAt bs at 0) (length nodes) && isTable (nodeAt nodes (fieldAt bs at 0))) (eqb (lengthAt bs at) (6 + 4 * getD (widths nodes) (fieldAt bs at 0) 0)) fits in
-      let two : (leb 6 (lengthAt bs at) && ltb (fieldAt bs at 0) (length nodes)) ≡ true = and-first (leb 6 (lengthAt bs at) && ltb (fieldAt bs at 0) (length nodes)) (isTable (nodeAt nodes (fieldAt bs at 0))) three in
-      go (eqb (kindAt bs at) 32) (ltb-true (fieldAt bs at 0) (length nodes) (and-second (leb 6 (lengthAt bs at)) (ltb (fieldAt bs at 0) (length nodes)) two)) (and-second (leb 6 (lengthAt bs at) && ltb (fieldAt bs at 0) (length nodes)) (isTable (nodeAt nodes (fieldAt bs at 0))) three)
+      let three : (leb 6 (lengthAt bs at) && ltb (fieldAt bs at 0) (length nodes) && isTable (nodeAt nodes (fieldAt bs at 0)))
+      ≡ true = and-first (leb 6 (lengthAt bs at) && ltb (fieldAt bs at 0) (length nodes) && isTable (nodeAt nodes (fieldAt bs at 0)))
+      (eqb (lengthAt bs at) (6 + 4 * getD (widths nodes) (fieldAt bs at 0) 0)) fits in
+      let two : (leb 6 (lengthAt bs at) && ltb (fieldAt bs at 0) (length nodes)) ≡ true = and-first (leb 6 (lengthAt bs at) && ltb (fieldAt bs at 0) (length nodes))
+      (isTable (nodeAt nodes (fieldAt bs at 0))) three in
+      go (eqb (kindAt bs at) 32) (ltb-true (fieldAt bs at 0) (length nodes) (and-second (leb 6 (lengthAt bs at)) (ltb (fieldAt bs at 0) (length nodes)) two))
+      (and-second (leb 6 (lengthAt bs at) && ltb (fieldAt bs at 0) (length nodes)) (isTable (nodeAt nodes (fieldAt bs at 0))) three)
     where
-      go : (k : Bool) → fieldAt bs at 0 < length nodes → isTable (nodeAt nodes (fieldAt bs at 0)) ≡ true → GoodEvent nodes (eventOf k (fieldAt bs at 0) (rowIn bs (at + 6) (getD (widths nodes) (fieldAt bs at 0) 0)))
+      go : (k : Bool) → fieldAt bs at 0 < length nodes → isTable (nodeAt nodes (fieldAt bs at 0)) ≡ true →
+          GoodEvent nodes (eventOf k (fieldAt bs at 0) (rowIn bs (at + 6) (getD (widths nodes) (fieldAt bs at 0) 0)))
       go true a b = (a, b, length-row-in bs (at + 6) (getD (widths nodes) (fieldAt bs at 0) 0))
       go false a b = (a, b, length-row-in bs (at + 6) (getD (widths nodes) (fieldAt bs at 0) 0))
 
@@ -61,8 +67,10 @@ module _ (nodes : List Node) (bs : Bytes) where
   events-good done [] g = g
   events-good done (at ∷ rest) g = go (eqb (eventFault nodes (length done) bs at) 0) refl (events-good (done ++ (eventAt (widths nodes) bs at ∷ [])) rest)
     where
-      go : (t : Bool) → eqb (eventFault nodes (length done) bs at) 0 ≡ t → (GoodEvents nodes (done ++ (eventAt (widths nodes) bs at ∷ [])) → GoodEvents nodes (readEvents nodes bs (done ++ (eventAt (widths nodes) bs at ∷ [])) rest .events)) →
-          GoodEvents nodes (cond t (readEvents nodes bs (done ++ (eventAt (widths nodes) bs at ∷ [])) rest) (record { verdict = refused (eventFault nodes (length done) bs at) at; events = [] }) .events)
+      go : (t : Bool) → eqb (eventFault nodes (length done) bs at) 0 ≡ t →
+          (GoodEvents nodes (done ++ (eventAt (widths nodes) bs at ∷ [])) → GoodEvents nodes (readEvents nodes bs (done ++ (eventAt (widths nodes) bs at ∷ [])) rest .events)) →
+          GoodEvents nodes (cond t (readEvents nodes bs (done ++ (eventAt (widths nodes) bs at ∷ [])) rest)
+          (record { verdict = refused (eventFault nodes (length done) bs at) at; events = [] }) .events)
       go true e ih = ih (good-more done (eventAt (widths nodes) bs at) g (event-good (length done) at (eqb-true (eventFault nodes (length done) bs at) 0 e)))
       go false e ih = tt
 
@@ -71,7 +79,8 @@ module _ (nodes : List Node) (bs : Bytes) where
   events-high done [] z = absurd (omega arith)
   events-high done (at ∷ rest) z = go (eqb (eventFault nodes (length done) bs at) 0) z (events-high (done ++ (eventAt (widths nodes) bs at ∷ [])) rest)
     where
-      go : (t : Bool) → cond t (readEvents nodes bs (done ++ (eventAt (widths nodes) bs at ∷ [])) rest) (record { verdict = refused (eventFault nodes (length done) bs at) at; events = [] }) .verdict .number ≡ 8 →
+      go : (t : Bool) → cond t (readEvents nodes bs (done ++ (eventAt (widths nodes) bs at ∷ [])) rest)
+          (record { verdict = refused (eventFault nodes (length done) bs at) at; events = [] }) .verdict .number ≡ 8 →
           (readEvents nodes bs (done ++ (eventAt (widths nodes) bs at ∷ [])) rest .verdict .number ≡ 8 → ⊥) → ⊥
       go true y ih = ih y
       go false y ih = high (isBroken bs at) (not (eqb (kindAt bs at) 32 || eqb (kindAt bs at) 33)) (leb maxEvents (length done)) (not (eventFits nodes bs at)) y
@@ -91,9 +100,13 @@ module _ (nodes : List Node) (bs : Bytes) where
   events-within done [] z = absurd (true≢false z)
   events-within done (at ∷ rest) z = go (eqb (eventFault nodes (length done) bs at) 0) refl z (events-within (done ++ (eventAt (widths nodes) bs at ∷ [])) rest)
     where
-      go : (t : Bool) → eqb (eventFault nodes (length done) bs at) 0 ≡ t → isAccepted (cond t (readEvents nodes bs (done ++ (eventAt (widths nodes) bs at ∷ [])) rest) (record { verdict = refused (eventFault nodes (length done) bs at) at; events = [] }) .verdict) ≡ false →
-          (isAccepted (readEvents nodes bs (done ++ (eventAt (widths nodes) bs at ∷ [])) rest .verdict) ≡ false → within 9 13 (readEvents nodes bs (done ++ (eventAt (widths nodes) bs at ∷ [])) rest .verdict .number) ≡ true) →
-          within 9 13 (cond t (readEvents nodes bs (done ++ (eventAt (widths nodes) bs at ∷ [])) rest) (record { verdict = refused (eventFault nodes (length done) bs at) at; events = [] }) .verdict .number) ≡ true
+      go : (t : Bool) → eqb (eventFault nodes (length done) bs at) 0 ≡ t →
+          isAccepted (cond t (readEvents nodes bs (done ++ (eventAt (widths nodes) bs at ∷ [])) rest)
+          (record { verdict = refused (eventFault nodes (length done) bs at) at; events = [] }) .verdict) ≡ false →
+          (isAccepted (readEvents nodes bs (done ++ (eventAt (widths nodes) bs at ∷ [])) rest .verdict) ≡ false →
+          within 9 13 (readEvents nodes bs (done ++ (eventAt (widths nodes) bs at ∷ [])) rest .verdict .number) ≡ true) →
+          within 9 13 (cond t (readEvents nodes bs (done ++ (eventAt (widths nodes) bs at ∷ [])) rest)
+          (record { verdict = refused (eventFault nodes (length done) bs at) at; events = [] }) .verdict .number) ≡ true
       go true e y ih = ih y
       go false e y ih = numbered (isBroken bs at) (not (eqb (kindAt bs at) 32 || eqb (kindAt bs at) 33)) (leb maxEvents (length done)) (not (eventFits nodes bs at)) e
 

@@ -62,9 +62,12 @@ module _ (ws : List ℕ) (old new : List Relation) (fo : Fitting ws old) (fn : F
   changes-size = changes-length old new same-size ∙ fo .size
 
   -- a part of each change that fits
-  part-fits : (g : Change → Relation) → ((i : ℕ) → i < length ws → Wide (getD ws i 0) (g (netChange (getD old i []) (getD new i []))) × (length (g (netChange (getD old i []) (getD new i []))) ≤ 64) × Ascending (g (netChange (getD old i []) (getD new i [])))) → Fitting ws (map g (netChanges old new))
+  part-fits : (g : Change → Relation) →
+      ((i : ℕ) → i < length ws → Wide (getD ws i 0) (g (netChange (getD old i []) (getD new i []))) × (length (g (netChange (getD old i []) (getD new i []))) ≤ 64)
+      × Ascending (g (netChange (getD old i []) (getD new i [])))) → Fitting ws (map g (netChanges old new))
   part-fits g f =
-      let at : (i : ℕ) → i < length ws → getD (map g (netChanges old new)) i [] ≡ g (netChange (getD old i []) (getD new i [])) = λ i h. map-at g (netChanges old new) i (rw changes-size h) ∙ ap g (changes-at old new i same-size (rw (fo .size) h)) in
+      let at : (i : ℕ) → i < length ws → getD (map g (netChanges old new)) i [] ≡ g (netChange (getD old i []) (getD new i [])) = λ i h. map-at g (netChanges old new) i (rw changes-size h)
+      ∙ ap g (changes-at old new i same-size (rw (fo .size) h)) in
       record {
         size = length-map (netChanges old new) g ∙ changes-size;
         few = fo .few;
@@ -76,11 +79,21 @@ module _ (ws : List ℕ) (old new : List Relation) (fo : Fitting ws old) (fn : F
 
   pub gained-fits : Fitting ws (map (λ c. c .gained) (netChanges old new))
   unfolding netChange
-  gained-fits = part-fits (λ c. c .gained) (λ i h. (less-wide (getD ws i 0) (getD new i []) (getD old i []) (fn .wide i h), le-trans (less-short (getD new i []) (getD old i [])) (fn .small i h), asc-difference (getD new i []) (getD old i []) (ascending-holds (getD new i []) (fn .asc i h))))
+  gained-fits = part-fits (λ c. c .gained)
+      (λ i h. (
+        less-wide (getD ws i 0) (getD new i []) (getD old i []) (fn .wide i h),
+        le-trans (less-short (getD new i []) (getD old i [])) (fn .small i h),
+        asc-difference (getD new i []) (getD old i []) (ascending-holds (getD new i []) (fn .asc i h)),
+      ))
 
   pub lost-fits : Fitting ws (map (λ c. c .lost) (netChanges old new))
   unfolding netChange
-  lost-fits = part-fits (λ c. c .lost) (λ i h. (less-wide (getD ws i 0) (getD old i []) (getD new i []) (fo .wide i h), le-trans (less-short (getD old i []) (getD new i [])) (fo .small i h), asc-difference (getD old i []) (getD new i []) (ascending-holds (getD old i []) (fo .asc i h))))
+  lost-fits = part-fits (λ c. c .lost)
+      (λ i h. (
+        less-wide (getD ws i 0) (getD old i []) (getD new i []) (fo .wide i h),
+        le-trans (less-short (getD old i []) (getD new i [])) (fo .small i h),
+        asc-difference (getD old i []) (getD new i []) (ascending-holds (getD old i []) (fo .asc i h)),
+      ))
 
 -- ---- stamps
 
@@ -138,7 +151,8 @@ changed-is a b x y = go (sameRows b a) refl
   where
     other : sameRows b a ≡ false → (s t : Bool) → isEmpty (keep (λ r. not (member r a)) b) ≡ s → isEmpty (keep (λ r. not (member r b)) a) ≡ t → not (s && t) ≡ true
     other e true true f g =
-        let same : b ≡ a = ext b a y x (λ r. bool-same (member r b) (member r a) (none-left b a (empty-is (keep (λ s. not (member s a)) b) f) r) (none-left a b (empty-is (keep (λ s. not (member s b)) a) g) r)) in
+        let same : b ≡ a = ext b a y x
+        (λ r. bool-same (member r b) (member r a) (none-left b a (empty-is (keep (λ s. not (member s a)) b) f) r) (none-left a b (empty-is (keep (λ s. not (member s b)) a) g) r)) in
         absurd (true≢false (sym (sameRows-refl b) ∙ ap (sameRows b) same ∙ e))
     other e true false f g = refl
     other e false t f g = refl
@@ -158,7 +172,8 @@ lengths-at (r ∷ rels) zero = refl
 lengths-at (r ∷ rels) (suc i) = lengths-at rels i
 
 -- a stamp of the next state
-pub stamps-at : (k : ℕ) (cs : List Change) (stamps : List ℕ) (i : ℕ) → length cs ≡ length stamps → i < length cs → getD (zipWith (stampOf k) cs stamps) i 0 ≡ stampOf k (changeAt cs i) (getD stamps i 0)
+pub stamps-at : (k : ℕ) (cs : List Change) (stamps : List ℕ) (i : ℕ) → length cs ≡ length stamps → i < length cs → getD (zipWith (stampOf k) cs stamps) i 0
+    ≡ stampOf k (changeAt cs i) (getD stamps i 0)
 unfolding zipWith
 stamps-at k [] stamps i e h = absurd (not-suc-le-zero h)
 stamps-at k (c ∷ cs) [] i e h = absurd (omega arith)

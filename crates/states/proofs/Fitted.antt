@@ -44,7 +44,9 @@ module _ (ws : List ℕ) (few : length ws ≤ 32) (narrow : (i : ℕ) → getD w
   pub place-good : (i : ℕ) → i < length ws → goodPlace layout (getD ws i 0) (count i) area i ≡ true
   unfolding goodArea
   place-good i h =
-      let here : cond (ltb i (length ws)) (goodPlace layout (getD ws i 0) (count i) area i) (emptyPlace layout (count i) area i) ≡ true = ap (λ (j : ℕ). cond (ltb j (length ws)) (goodPlace layout (getD ws j 0) (count j) area j) (emptyPlace layout (count j) area j)) (sym (zero-add i)) ∙ all-below (λ j. cond (ltb j (length ws)) (goodPlace layout (getD ws j 0) (count j) area j) (emptyPlace layout (count j) area j)) 0 32 g i (omega arith) in
+      let here : cond (ltb i (length ws)) (goodPlace layout (getD ws i 0) (count i) area i) (emptyPlace layout (count i) area i)
+      ≡ true = ap (λ (j : ℕ). cond (ltb j (length ws)) (goodPlace layout (getD ws j 0) (count j) area j) (emptyPlace layout (count j) area j)) (sym (zero-add i))
+      ∙ all-below (λ j. cond (ltb j (length ws)) (goodPlace layout (getD ws j 0) (count j) area j) (emptyPlace layout (count j) area j)) 0 32 g i (omega arith) in
       rw (lt-ltb i (length ws) h) at here
 
   first-two : (i : ℕ) → i < length ws → (leb (count i) 64 && ascending (heldIn layout (getD ws i 0) (count i) area i)) ≡ true
@@ -55,7 +57,8 @@ module _ (ws : List ℕ) (few : length ws ≤ 32) (narrow : (i : ℕ) → getD w
   few-at i h = leb-true (count i) 64 (and-first (leb (count i) 64) (ascending (heldIn layout (getD ws i 0) (count i) area i)) (first-two i h))
 
   -- a node's place, lent as a part of the area
-  pub area-place : 8192 ≤ length area → (i : ℕ) → i < length ws → Place (getD ws i 0) (placeAt area i) (count i) × (relationIn (getD ws i 0) (placeAt area i) (count i) ≡ getD (relationsIn layout ws count area) i [])
+  pub area-place : 8192 ≤ length area → (i : ℕ) → i < length ws → Place (getD ws i 0) (placeAt area i) (count i)
+      × (relationIn (getD ws i 0) (placeAt area i) (count i) ≡ getD (relationsIn layout ws count area) i [])
   area-place long i h =
       let inside : 256 * i + 256 ≤ length area = omega arith in (
         record {
@@ -63,14 +66,17 @@ module _ (ws : List ℕ) (few : length ws ≤ 32) (narrow : (i : ℕ) → getD w
           narrow = narrow i;
           good = rw (part-is area i) (part-good (getD ws i 0) (count i) area i (narrow i) (few-at i h) inside (place-good i h));
         },
-        ap (λ (s : List ℕ). relationIn (getD ws i 0) s (count i)) (part-is area i) ∙ part-held (getD ws i 0) (count i) area i (narrow i) (few-at i h) inside (place-good i h) ∙ sym (relation-at ws count area i h),
+        ap (λ (s : List ℕ). relationIn (getD ws i 0) s (count i)) (part-is area i) ∙ part-held (getD ws i 0) (count i) area i (narrow i) (few-at i h) inside (place-good i h)
+            ∙ sym (relation-at ws count area i h),
       )
 
   -- past the last node there is nothing
   pub area-empty : 8192 ≤ length area → (i : ℕ) → length ws ≤ i → i < 32 → placeAt area i ≡ replicate 256 0
   unfolding goodArea emptyPlace heldIn
   area-empty long i h k =
-      let here : cond (ltb i (length ws)) (goodPlace layout (getD ws i 0) (count i) area i) (emptyPlace layout (count i) area i) ≡ true = ap (λ (j : ℕ). cond (ltb j (length ws)) (goodPlace layout (getD ws j 0) (count j) area j) (emptyPlace layout (count j) area j)) (sym (zero-add i)) ∙ all-below (λ j. cond (ltb j (length ws)) (goodPlace layout (getD ws j 0) (count j) area j) (emptyPlace layout (count j) area j)) 0 32 g i k in
+      let here : cond (ltb i (length ws)) (goodPlace layout (getD ws i 0) (count i) area i) (emptyPlace layout (count i) area i)
+      ≡ true = ap (λ (j : ℕ). cond (ltb j (length ws)) (goodPlace layout (getD ws j 0) (count j) area j) (emptyPlace layout (count j) area j)) (sym (zero-add i))
+      ∙ all-below (λ j. cond (ltb j (length ws)) (goodPlace layout (getD ws j 0) (count j) area j) (emptyPlace layout (count j) area j)) 0 32 g i k in
       let empty : emptyPlace layout (count i) area i ≡ true = rw (le-ltb i (length ws) h) at here in
       part-is area i ∙ place-words layout 0 area i 0 zero-le zero-le (omega arith) (and-second (eqb (count i) 0) (unusedZero layout 0 0 area i) empty) ∙ sym place-none
 
@@ -81,7 +87,8 @@ module _ (ws : List ℕ) (few : length ws ≤ 32) (narrow : (i : ℕ) → getD w
         few = few;
         narrow = narrow;
         wide = λ i h. rw (relation-at ws count area i h) (held-wide layout (getD ws i 0) (count i) area i);
-        small = λ i h. rw (relation-at ws count area i h, length-held layout (getD ws i 0) (count i) area i) (leb-true (count i) 64 (and-first (leb (count i) 64) (ascending (heldIn layout (getD ws i 0) (count i) area i)) (first-two i h)));
+        small = λ i h. rw (relation-at ws count area i h, length-held layout (getD ws i 0) (count i) area i)
+            (leb-true (count i) 64 (and-first (leb (count i) 64) (ascending (heldIn layout (getD ws i 0) (count i) area i)) (first-two i h)));
         asc = λ i h. rw (relation-at ws count area i h) (and-second (leb (count i) 64) (ascending (heldIn layout (getD ws i 0) (count i) area i)) (first-two i h));
       }
 
@@ -104,7 +111,12 @@ only-length (n ∷ nodes) (r ∷ rels) e = ap suc (only-length nodes rels (omega
 -- the tables among relations that fit
 pub tables-fit : (nodes : List Node) (rels : List Relation) → Fitting (widths nodes) rels → Tables nodes (tablesOf nodes rels)
 tables-fit nodes rels f =
-    record { size = only-length nodes rels size; only = only-twice nodes rels; wide = λ i h. go-wide i h (isTable (nodeAt nodes i)) refl; asc = λ i h. go-asc i h (isTable (nodeAt nodes i)) refl }
+    record {
+      size = only-length nodes rels size;
+      only = only-twice nodes rels;
+      wide = λ i h. go-wide i h (isTable (nodeAt nodes i)) refl;
+      asc = λ i h. go-asc i h (isTable (nodeAt nodes i)) refl;
+    }
   where
     size : length rels ≡ length nodes
     size = f .size ∙ length-widths nodes
@@ -125,7 +137,8 @@ tables-fit nodes rels f =
 
 -- good form, part by part
 pub form-parts : (nodes : List Node) (a : Areas) → goodForm layout nodes a ≡ true →
-    (goodArea layout (widths nodes) (rowCount (a .head)) (a .rows) ≡ true) × (goodArea layout (widths nodes) (gainedCount (a .head)) (a .gained) ≡ true) × (goodArea layout (widths nodes) (lostCount (a .head)) (a .lost) ≡ true) × (goodStamps (length nodes) (a .head) ≡ true) × (goodWorked (length nodes) (a .head) ≡ true)
+    (goodArea layout (widths nodes) (rowCount (a .head)) (a .rows) ≡ true) × (goodArea layout (widths nodes) (gainedCount (a .head)) (a .gained) ≡ true)
+    × (goodArea layout (widths nodes) (lostCount (a .head)) (a .lost) ≡ true) × (goodStamps (length nodes) (a .head) ≡ true) × (goodWorked (length nodes) (a .head) ≡ true)
 unfolding goodForm
 form-parts nodes a form =
     let r : Bool = goodArea layout (widths nodes) (rowCount (a .head)) (a .rows) in

@@ -82,5 +82,8 @@ module _ (a p q r s b t rest : List ℕ) (la : length a ≡ 1) (lp : length p �
 pub head-size : (rels : List Relation) (s : State) → length rels ≤ 32 → length (s .stamps) ≤ 32 → length (s .changes) ≤ 32 → length (s .worked) ≤ 32 → length (headOf rels s) ≡ 162
 unfolding headOf
 head-size rels s a b c d =
-    head-length (s .number ∷ []) (padded 32 (map length rels)) (padded 32 (s .stamps)) (padded 32 (map (λ x. length (x .gained)) (s .changes))) (padded 32 (map (λ x. length (x .lost)) (s .changes))) (length (s .worked) ∷ []) (padded 32 (s .worked)) [] refl
-    (padded-length 32 (map length rels) (rw (length-map rels length) a)) (padded-length 32 (s .stamps) b) (padded-length 32 (map (λ x. length (x .gained)) (s .changes)) (rw (length-map (s .changes) (λ x. length (x .gained))) c)) (padded-length 32 (map (λ x. length (x .lost)) (s .changes)) (rw (length-map (s .changes) (λ x. length (x .lost))) c)) refl (padded-length 32 (s .worked) d)
+    head-length (s .number ∷ []) (padded 32 (map length rels)) (padded 32 (s .stamps)) (padded 32 (map (λ x. length (x .gained)) (s .changes)))
+    (padded 32 (map (λ x. length (x .lost)) (s .changes))) (length (s .worked) ∷ []) (padded 32 (s .worked)) [] refl
+    (padded-length 32 (map length rels) (rw (length-map rels length) a)) (padded-length 32 (s .stamps) b)
+    (padded-length 32 (map (λ x. length (x .gained)) (s .changes)) (rw (length-map (s .changes) (λ x. length (x .gained))) c))
+    (padded-length 32 (map (λ x. length (x .lost)) (s .changes)) (rw (length-map (s .changes) (λ x. length (x .lost))) c)) refl (padded-length 32 (s .worked) d)

@@ -63,11 +63,15 @@ module _ (nodes : List Node) (fit : AllFit nodes) (tables : List Relation) (t : 
       go false e ih =
           let n : Node = nodeAt nodes i in
           let b : (leftOf (nodeAt nodes i) < i) × (rightOf (nodeAt nodes i) < i) = inputs-before nodes fit i (omega arith) e in
-          let left : Wide (getD (widths nodes) (leftOf (nodeAt nodes i)) 0) (rowsAt (evaluate nodes tables) (leftOf (nodeAt nodes i))) × Ascending (rowsAt (evaluate nodes tables) (leftOf (nodeAt nodes i))) = ih (leftOf (nodeAt nodes i)) (omega (arith, b .0)) in
-          let right : Wide (getD (widths nodes) (rightOf (nodeAt nodes i)) 0) (rowsAt (evaluate nodes tables) (rightOf (nodeAt nodes i))) × Ascending (rowsAt (evaluate nodes tables) (rightOf (nodeAt nodes i))) = ih (rightOf (nodeAt nodes i)) (omega (arith, b .1)) in
+          let left : Wide (getD (widths nodes) (leftOf (nodeAt nodes i)) 0) (rowsAt (evaluate nodes tables) (leftOf (nodeAt nodes i)))
+          × Ascending (rowsAt (evaluate nodes tables) (leftOf (nodeAt nodes i))) = ih (leftOf (nodeAt nodes i)) (omega (arith, b .0)) in
+          let right : Wide (getD (widths nodes) (rightOf (nodeAt nodes i)) 0) (rowsAt (evaluate nodes tables) (rightOf (nodeAt nodes i)))
+          × Ascending (rowsAt (evaluate nodes tables) (rightOf (nodeAt nodes i))) = ih (rightOf (nodeAt nodes i)) (omega (arith, b .1)) in
           let same : rowsAt (evaluate nodes tables) i ≡ givenBy nodes (evaluate nodes tables) i = fresh-derived nodes fit tables i (omega arith) e in
           rw (same, width-at nodes fit i (omega arith) e) (
-            on-wide (getD (widths nodes) (leftOf (nodeAt nodes i)) 0) (getD (widths nodes) (rightOf (nodeAt nodes i)) 0) (nodeAt nodes i) (rowsAt (evaluate nodes tables) (leftOf (nodeAt nodes i))) (rowsAt (evaluate nodes tables) (rightOf (nodeAt nodes i))) e (columns-fit nodes fit i (omega arith) e) (left .0) (right .0),
+            on-wide (getD (widths nodes) (leftOf (nodeAt nodes i)) 0) (getD (widths nodes) (rightOf (nodeAt nodes i)) 0) (nodeAt nodes i)
+                (rowsAt (evaluate nodes tables) (leftOf (nodeAt nodes i))) (rowsAt (evaluate nodes tables) (rightOf (nodeAt nodes i))) e (columns-fit nodes fit i (omega arith) e) (left .0)
+                (right .0),
             on-asc (nodeAt nodes i) (rowsAt (evaluate nodes tables) (leftOf (nodeAt nodes i))) (rowsAt (evaluate nodes tables) (rightOf (nodeAt nodes i))) (left .1),
           )
 
@@ -82,7 +86,8 @@ pub none-over : (from : ℕ) (rels : List Relation) → overfull from rels ≡ [
 none-over from [] e i h = absurd (not-suc-le-zero h)
 none-over from (r ∷ rels) e i h = go (ltb maxRows (length r)) refl e (none-over (suc from) rels) i h
   where
-    go : (t : Bool) → ltb maxRows (length r) ≡ t → cond t (from ∷ overfull (suc from) rels) (overfull (suc from) rels) ≡ [] → (overfull (suc from) rels ≡ [] → (i : ℕ) → i < length rels → length (getD rels i []) ≤ 64) → (j : ℕ) → j < suc (length rels) → length (getD (r ∷ rels) j []) ≤ 64
+    go : (t : Bool) → ltb maxRows (length r) ≡ t → cond t (from ∷ overfull (suc from) rels) (overfull (suc from) rels) ≡ [] →
+        (overfull (suc from) rels ≡ [] → (i : ℕ) → i < length rels → length (getD rels i []) ≤ 64) → (j : ℕ) → j < suc (length rels) → length (getD (r ∷ rels) j []) ≤ 64
     go true b f ih j k = absurd (omega (arith, ap length f))
     go false b f ih zero k = ltb-false maxRows (length r) b
     go false b f ih (suc j) k = ih f j (le-of-suc-le-suc k)
@@ -93,7 +98,8 @@ all-under from [] h = refl
 all-under from (r ∷ rels) h = rw (le-ltb maxRows (length r) (h 0 (suc-le-suc zero-le))) (all-under (suc from) rels (λ i k. h (suc i) (suc-le-suc k)))
 
 -- the first relation above the limit
-pub first-over : (from : ℕ) (rels : List Relation) (i : ℕ) → i < length rels → 64 < length (getD rels i []) → ((j : ℕ) → j < i → length (getD rels j []) ≤ 64) → (rest : List ℕ) × (overfull from rels ≡ (from + i) ∷ rest)
+pub first-over : (from : ℕ) (rels : List Relation) (i : ℕ) → i < length rels → 64 < length (getD rels i []) → ((j : ℕ) → j < i → length (getD rels j []) ≤ 64) →
+    (rest : List ℕ) × (overfull from rels ≡ (from + i) ∷ rest)
 first-over from [] i h o u = absurd (not-suc-le-zero h)
 first-over from (r ∷ rels) zero h o u = (overfull (suc from) rels, rw (lt-ltb maxRows (length r) o, add-zero from) refl)
 first-over from (r ∷ rels) (suc i) h o u =
@@ -108,15 +114,18 @@ abbrev pub GoodEvent : List Node → Event → Type 0
 GoodEvent nodes (put t r) = (t < length nodes) × (isTable (nodeAt nodes t) ≡ true) × (length r ≡ getD (widths nodes) t 0)
 GoodEvent nodes (remove t r) = (t < length nodes) × (isTable (nodeAt nodes t) ≡ true) × (length r ≡ getD (widths nodes) t 0)
 
-set-only : (nodes : List Node) (tables : List Relation) (t : ℕ) (r : Relation) → isTable (nodeAt nodes t) ≡ true → tablesOf nodes tables ≡ tables → tablesOf nodes (set tables t r) ≡ set tables t r
+set-only : (nodes : List Node) (tables : List Relation) (t : ℕ) (r : Relation) → isTable (nodeAt nodes t) ≡ true → tablesOf nodes tables ≡ tables → tablesOf nodes (set tables t r)
+    ≡ set tables t r
 unfolding tablesOf zipWith
 set-only [] tables t r e f = ap (λ (l : List Relation). set l t r) f
 set-only (n ∷ nodes) [] t r e f = refl
 set-only (n ∷ nodes) (x ∷ tables) zero r e f = ap₂ {A = Relation} {B = List Relation} {C = List Relation} (λ a b. a ∷ b) (rw e) (ap (drop 1) f)
-set-only (n ∷ nodes) (x ∷ tables) (suc t) r e f = ap₂ {A = Relation} {B = List Relation} {C = List Relation} (λ a b. a ∷ b) (ap (λ (l : List Relation). getD l 0 []) f) (set-only nodes tables t r e (ap (drop 1) f))
+set-only (n ∷ nodes) (x ∷ tables) (suc t) r e f = ap₂ {A = Relation} {B = List Relation} {C = List Relation} (λ a b. a ∷ b) (ap (λ (l : List Relation). getD l 0 []) f)
+    (set-only nodes tables t r e (ap (drop 1) f))
 
 -- one table changed to rows of its width that ascend
-change-table : (nodes : List Node) (tables : List Relation) (t : ℕ) (r : Relation) → t < length nodes → isTable (nodeAt nodes t) ≡ true → Wide (getD (widths nodes) t 0) r → Ascending r → Tables nodes tables → Tables nodes (set tables t r)
+change-table : (nodes : List Node) (tables : List Relation) (t : ℕ) (r : Relation) → t < length nodes → isTable (nodeAt nodes t) ≡ true → Wide (getD (widths nodes) t 0) r → Ascending r →
+    Tables nodes tables → Tables nodes (set tables t r)
 change-table nodes tables t r h e w a ts =
     record {
       size = length-set tables t r ∙ ts .size;
@@ -144,9 +153,11 @@ change-table nodes tables t r h e w a ts =
 pub act-tables : (nodes : List Node) (e : Event) (tables : List Relation) → GoodEvent nodes e → Tables nodes tables → Tables nodes (act e tables)
 unfolding act deleteRow
 act-tables nodes (put t r) tables g ts =
-    change-table nodes tables t (insertRow r (getD tables t [])) (g .0) (g .1) (wide-insert (getD (widths nodes) t 0) r (getD tables t []) (g .2) (ts .wide t (g .0))) (asc-insert r (getD tables t []) (ts .asc t (g .0))) ts
+    change-table nodes tables t (insertRow r (getD tables t [])) (g .0) (g .1) (wide-insert (getD (widths nodes) t 0) r (getD tables t []) (g .2) (ts .wide t (g .0)))
+    (asc-insert r (getD tables t []) (ts .asc t (g .0))) ts
 act-tables nodes (remove t r) tables g ts =
-    change-table nodes tables t (deleteRow r (getD tables t [])) (g .0) (g .1) (wide-keep (getD (widths nodes) t 0) (λ s. not (sameRow s r)) (getD tables t []) (ts .wide t (g .0))) (asc-delete r (getD tables t []) (ts .asc t (g .0))) ts
+    change-table nodes tables t (deleteRow r (getD tables t [])) (g .0) (g .1) (wide-keep (getD (widths nodes) t 0) (λ s. not (sameRow s r)) (getD tables t []) (ts .wide t (g .0)))
+    (asc-delete r (getD tables t []) (ts .asc t (g .0))) ts
 
 -- every event of a list is on a table
 abbrev pub GoodEvents : List Node → List Event → Type 0

@@ -43,11 +43,32 @@ module _ (level : ℕ → ℕ) (q : ℕ → Bool) where
   one-more x ids (l ∷ ls) = go (eqb (level x) l) (q x) (one-more x ids ls)
     where
       go : (t b : Bool) → length (flatMap (at-level (x ∷ ids)) ls) ≤ length (flatMap (at-level ids) ls) + hits (level x) ls →
-          length (keepIf (t && b) x (keep (λ i. eqb (level i) l && q i) ids) ++ flatMap (at-level (x ∷ ids)) ls) ≤ length (keep (λ i. eqb (level i) l && q i) ids ++ flatMap (at-level ids) ls) + (cond t 1 0 + hits (level x) ls)
-      go true true ih = omega (arith, length-append (x ∷ keep (λ i. eqb (level i) l && q i) ids) (flatMap (at-level (x ∷ ids)) ls), length-append (keep (λ i. eqb (level i) l && q i) ids) (flatMap (at-level ids) ls))
-      go true false ih = omega (arith, length-append (keep (λ i. eqb (level i) l && q i) ids) (flatMap (at-level (x ∷ ids)) ls), length-append (keep (λ i. eqb (level i) l && q i) ids) (flatMap (at-level ids) ls))
-      go false true ih = omega (arith, length-append (keep (λ i. eqb (level i) l && q i) ids) (flatMap (at-level (x ∷ ids)) ls), length-append (keep (λ i. eqb (level i) l && q i) ids) (flatMap (at-level ids) ls))
-      go false false ih = omega (arith, length-append (keep (λ i. eqb (level i) l && q i) ids) (flatMap (at-level (x ∷ ids)) ls), length-append (keep (λ i. eqb (level i) l && q i) ids) (flatMap (at-level ids) ls))
+          length (keepIf (t && b) x (keep (λ i. eqb (level i) l && q i) ids) ++ flatMap (at-level (x ∷ ids)) ls) ≤ length
+          (keep (λ i. eqb (level i) l && q i) ids ++ flatMap (at-level ids) ls) + (cond t 1 0 + hits (level x) ls)
+      go true true ih = omega (
+        arith,
+        length-append (x ∷ keep (λ i. eqb (level i) l && q i) ids) (flatMap (at-level (x ∷ ids)) ls),
+        length-append (keep (λ i. eqb (level i) l && q i) ids)
+            (flatMap (at-level ids) ls),
+      )
+      go true false ih = omega (
+        arith,
+        length-append (keep (λ i. eqb (level i) l && q i) ids) (flatMap (at-level (x ∷ ids)) ls),
+        length-append (keep (λ i. eqb (level i) l && q i) ids)
+            (flatMap (at-level ids) ls),
+      )
+      go false true ih = omega (
+        arith,
+        length-append (keep (λ i. eqb (level i) l && q i) ids) (flatMap (at-level (x ∷ ids)) ls),
+        length-append (keep (λ i. eqb (level i) l && q i) ids)
+            (flatMap (at-level ids) ls),
+      )
+      go false false ih = omega (
+        arith,
+        length-append (keep (λ i. eqb (level i) l && q i) ids) (flatMap (at-level (x ∷ ids)) ls),
+        length-append (keep (λ i. eqb (level i) l && q i) ids)
+            (flatMap (at-level ids) ls),
+      )
 
   none-left : (ls : List ℕ) → length (flatMap (at-level []) ls) ≡ 0
   unfolding flatMap
@@ -103,7 +124,9 @@ pub worked-low : (nodes : List Node) (changes : List Change) (k : ℕ) → k < l
 unfolding workedList workedAtLevel
 worked-low nodes changes k h =
     below-at (length nodes) (workedList nodes changes) k
-    (below-each (length nodes) (workedAtLevel nodes changes) (numbersBelow (length nodes)) (λ l. below-keep (length nodes) (λ i. eqb (getD (levels nodes) i 0) l && hasChangedInput nodes changes i) (numbersBelow (length nodes)) (below-counted (length nodes) 0 (length nodes) (omega arith)))) h
+    (below-each (length nodes) (workedAtLevel nodes changes) (numbersBelow (length nodes))
+    (λ l. below-keep (length nodes) (λ i. eqb (getD (levels nodes) i 0) l && hasChangedInput nodes changes i) (numbersBelow (length nodes))
+    (below-counted (length nodes) 0 (length nodes) (omega arith)))) h
 
 -- ---- who is on it
 
@@ -167,7 +190,8 @@ on-levels i level q ids (l ∷ ls) =
     join false b c d = refl
 
 -- "the worked list is the derived nodes with an input that gained or lost rows": node i is on it exactly if it has a changed input
-pub worked-is : (nodes : List Node) (changes : List Change) (i : ℕ) → i < length nodes → getD (levels nodes) i 0 < length nodes → isOn i (workedList nodes changes) ≡ hasChangedInput nodes changes i
+pub worked-is : (nodes : List Node) (changes : List Change) (i : ℕ) → i < length nodes → getD (levels nodes) i 0 < length nodes → isOn i (workedList nodes changes)
+    ≡ hasChangedInput nodes changes i
 unfolding workedList workedAtLevel
 worked-is nodes changes i h l =
     on-levels i (λ j. getD (levels nodes) j 0) (λ j. hasChangedInput nodes changes j) (numbersBelow (length nodes)) (numbersBelow (length nodes))

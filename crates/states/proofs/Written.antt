@@ -49,7 +49,8 @@ flat-place (r ∷ rels) t zero h k =
     ap (take 256) (append-assoc (placeOf layout r) (flatMap (placeOf layout) rels) t) ∙ take-at (placeOf layout r) (flatMap (placeOf layout) rels ++ t) 256 (h 0 (suc-le-suc zero-le))
 flat-place (r ∷ rels) t (suc i) h k =
     let e : 256 * suc i ≡ 256 + 256 * i = omega arith in
-    let one : drop 256 (placeOf layout r ++ (flatMap (placeOf layout) rels ++ t)) ≡ flatMap (placeOf layout) rels ++ t = drop-at (placeOf layout r) (flatMap (placeOf layout) rels ++ t) 256 (h 0 (suc-le-suc zero-le)) in
+    let one : drop 256 (placeOf layout r ++ (flatMap (placeOf layout) rels ++ t)) ≡ flatMap (placeOf layout) rels ++ t = drop-at (placeOf layout r) (flatMap (placeOf layout) rels ++ t) 256
+    (h 0 (suc-le-suc zero-le)) in
     ap₂ {A = ℕ} {B = List ℕ} {C = List ℕ} (λ n l. take 256 (drop n l)) e (append-assoc (placeOf layout r) (flatMap (placeOf layout) rels) t)
     ∙ ap (take 256) (sym (drop-drop (256 * i) 256 (placeOf layout r ++ (flatMap (placeOf layout) rels ++ t))) ∙ ap (drop (256 * i)) one)
     ∙ flat-place rels t i (sized-tail r rels h) (le-of-suc-le-suc k)
@@ -58,7 +59,8 @@ flat-place (r ∷ rels) t (suc i) h k =
 zeros-inside : (a b n : ℕ) (t : List ℕ) → a + b ≤ n → take b (drop a (replicate n 0 ++ t)) ≡ replicate b 0
 zeros-inside a b n t h =
     let whole : replicate {A = ℕ} n 0 ≡ replicate a 0 ++ (replicate b 0 ++ replicate (n - (a + b)) 0) =
-    (let e : a + (b + (n - (a + b))) ≡ n = omega arith in ap (λ (k : ℕ). replicate {A = ℕ} k 0) (sym e)) ∙ sym (replicate-append-replicate {A = ℕ} a (b + (n - (a + b))) 0) ∙ ap (λ (l : List ℕ). replicate a 0 ++ l) (sym (replicate-append-replicate {A = ℕ} b (n - (a + b)) 0)) in
+    (let e : a + (b + (n - (a + b))) ≡ n = omega arith in ap (λ (k : ℕ). replicate {A = ℕ} k 0) (sym e)) ∙ sym (replicate-append-replicate {A = ℕ} a (b + (n - (a + b))) 0)
+    ∙ ap (λ (l : List ℕ). replicate a 0 ++ l) (sym (replicate-append-replicate {A = ℕ} b (n - (a + b)) 0)) in
     ap (λ (l : List ℕ). take b (drop a (l ++ t))) whole
     ∙ ap (λ (l : List ℕ). take b (drop a l)) (append-assoc (replicate a 0) (replicate b 0 ++ replicate (n - (a + b)) 0) t)
     ∙ ap (take b) (drop-at (replicate a 0) ((replicate b 0 ++ replicate (n - (a + b)) 0) ++ t) a (length-replicate {A = ℕ} a 0))
@@ -103,7 +105,8 @@ module _ (ws : List ℕ) (rels : List Relation) (f : Fitting ws rels) where
     place-at : (i : ℕ) → i < length ws → take 256 (drop (256 * i) written) ≡ placeOf layout (getD rels i [])
     unfolding areaOf
     place-at i h =
-        ap (λ (l : List ℕ). take 256 (drop (256 * i) l)) (append-assoc (flatMap (placeOf layout) rels) (replicate (8192 - length (flatMap (placeOf layout) rels)) 0) (drop (length (areaOf layout rels)) before))
+        ap (λ (l : List ℕ). take 256 (drop (256 * i) l))
+        (append-assoc (flatMap (placeOf layout) rels) (replicate (8192 - length (flatMap (placeOf layout) rels)) 0) (drop (length (areaOf layout rels)) before))
         ∙ flat-place rels (replicate (8192 - length (flatMap (placeOf layout) rels)) 0 ++ drop (length (areaOf layout rels)) before) i sized (rw (f .size) h)
 
     place-empty : (i : ℕ) → length ws ≤ i → i < 32 → take 256 (drop (256 * i) written) ≡ replicate 256 0
@@ -113,8 +116,12 @@ module _ (ws : List ℕ) (rels : List Relation) (f : Fitting ws rels) where
         let e : 256 * i ≡ 256 * length ws + (256 * i - 256 * length ws) = omega arith in
         let rest : List ℕ = drop (length (areaOf layout rels)) before in
         let zeros : List ℕ = replicate (8192 - length (flatMap (placeOf layout) rels)) 0 in
-        ap₂ {A = ℕ} {B = List ℕ} {C = List ℕ} (λ m l. take 256 (drop m l)) e (append-assoc (flatMap (placeOf layout) rels) (replicate (8192 - length (flatMap (placeOf layout) rels)) 0) (drop (length (areaOf layout rels)) before))
-        ∙ ap (take 256) (sym (drop-drop (256 * i - 256 * length ws) (256 * length ws) (flatMap (placeOf layout) rels ++ (replicate (8192 - length (flatMap (placeOf layout) rels)) 0 ++ drop (length (areaOf layout rels)) before))) ∙ ap (drop (256 * i - 256 * length ws)) (drop-at (flatMap (placeOf layout) rels) (replicate (8192 - length (flatMap (placeOf layout) rels)) 0 ++ drop (length (areaOf layout rels)) before) (256 * length ws) n))
+        ap₂ {A = ℕ} {B = List ℕ} {C = List ℕ} (λ m l. take 256 (drop m l)) e
+        (append-assoc (flatMap (placeOf layout) rels) (replicate (8192 - length (flatMap (placeOf layout) rels)) 0) (drop (length (areaOf layout rels)) before))
+        ∙ ap (take 256) (sym (drop-drop (256 * i - 256 * length ws) (256 * length ws)
+        (flatMap (placeOf layout) rels ++ (replicate (8192 - length (flatMap (placeOf layout) rels)) 0 ++ drop (length (areaOf layout rels)) before)))
+        ∙ ap (drop (256 * i - 256 * length ws))
+        (drop-at (flatMap (placeOf layout) rels) (replicate (8192 - length (flatMap (placeOf layout) rels)) 0 ++ drop (length (areaOf layout rels)) before) (256 * length ws) n))
         ∙ zeros-inside (256 * i - 256 * length ws) 256 (8192 - length (flatMap (placeOf layout) rels)) (drop (length (areaOf layout rels)) before) (omega (arith, n))
 
     pub held : (i : ℕ) → i < length ws → heldIn layout (getD ws i 0) (length (getD rels i [])) written i ≡ getD rels i []
@@ -123,17 +130,21 @@ module _ (ws : List ℕ) (rels : List Relation) (f : Fitting ws rels) where
     good-at : (i : ℕ) → i < length ws → goodPlace layout (getD ws i 0) (length (getD rels i [])) written i ≡ true
     unfolding goodPlace
     good-at i h =
-        and-both (leb (length (getD rels i [])) 64 && ascending (heldIn layout (getD ws i 0) (length (getD rels i [])) written i)) (unusedZero layout (getD ws i 0) (length (getD rels i [])) written i)
-        (and-both (leb (length (getD rels i [])) 64) (ascending (heldIn layout (getD ws i 0) (length (getD rels i [])) written i)) (le-leb (length (getD rels i [])) 64 (f .small i h)) (ap ascending (held i h) ∙ f .asc i h))
+        and-both (leb (length (getD rels i [])) 64 && ascending (heldIn layout (getD ws i 0) (length (getD rels i [])) written i))
+        (unusedZero layout (getD ws i 0) (length (getD rels i [])) written i)
+        (and-both (leb (length (getD rels i [])) 64) (ascending (heldIn layout (getD ws i 0) (length (getD rels i [])) written i)) (le-leb (length (getD rels i [])) 64 (f .small i h))
+        (ap ascending (held i h) ∙ f .asc i h))
         (place-clean layout (getD ws i 0) written i (getD rels i []) (f .narrow i) (f .wide i h) (f .small i h) (inside i (omega (arith, f .few))) (place-at i h))
 
     empty-at : (i : ℕ) → length ws ≤ i → i < 32 → unusedZero layout 0 0 written i ≡ true
     empty-at i h k = place-clean layout 0 written i [] zero-le tt zero-le (inside i k) (place-empty i h k ∙ place-none)
 
     -- good form, with the counts beside it
-    pub written-good : (count : ℕ → ℕ) → ((i : ℕ) → i < length ws → count i ≡ length (getD rels i [])) → ((i : ℕ) → length ws ≤ i → i < 32 → count i ≡ 0) → goodArea layout ws count written ≡ true
+    pub written-good : (count : ℕ → ℕ) → ((i : ℕ) → i < length ws → count i ≡ length (getD rels i [])) → ((i : ℕ) → length ws ≤ i → i < 32 → count i ≡ 0) → goodArea layout ws count written
+        ≡ true
     unfolding goodArea emptyPlace
-    written-good count c z = below-all (λ i. cond (ltb i (length ws)) (goodPlace layout (getD ws i 0) (count i) written i) (emptyPlace layout (count i) written i)) 0 32 (λ i h. rw (zero-add i) (go i h (ltb i (length ws)) refl))
+    written-good count c z = below-all (λ i. cond (ltb i (length ws)) (goodPlace layout (getD ws i 0) (count i) written i) (emptyPlace layout (count i) written i)) 0 32
+        (λ i h. rw (zero-add i) (go i h (ltb i (length ws)) refl))
       where
         go : (i : ℕ) → i < 32 → (t : Bool) → ltb i (length ws) ≡ t → cond t (goodPlace layout (getD ws i 0) (count i) written i) (emptyPlace layout (count i) written i) ≡ true
         go i h true e = rw (c i (ltb-true i (length ws) e)) (good-at i (ltb-true i (length ws) e))
@@ -143,7 +154,9 @@ module _ (ws : List ℕ) (rels : List Relation) (f : Fitting ws rels) where
     pub written-back : (count : ℕ → ℕ) → ((i : ℕ) → i < length ws → count i ≡ length (getD rels i [])) → relationsIn layout ws count written ≡ rels
     unfolding relationsIn
     written-back count c =
-        ext-getD [] (map (λ i. heldIn layout (getD ws i 0) (count i) written i) (numbersBelow (length ws))) rels (length-counted (λ i. heldIn layout (getD ws i 0) (count i) written i) 0 (length ws) ∙ sym (f .size))
+        ext-getD [] (map (λ i. heldIn layout (getD ws i 0) (count i) written i) (numbersBelow (length ws))) rels
+        (length-counted (λ i. heldIn layout (getD ws i 0) (count i) written i) 0 (length ws) ∙ sym (f .size))
         (λ i h.
         let k : i < length ws = rw (length-counted (λ j. heldIn layout (getD ws j 0) (count j) written j) 0 (length ws)) at h in
-        counted-at [] (λ j. heldIn layout (getD ws j 0) (count j) written j) 0 (length ws) i k ∙ ap (λ (j : ℕ). heldIn layout (getD ws j 0) (count j) written j) (zero-add i) ∙ ap (λ (n : ℕ). heldIn layout (getD ws i 0) n written i) (c i k) ∙ held i k)
+        counted-at [] (λ j. heldIn layout (getD ws j 0) (count j) written j) 0 (length ws) i k ∙ ap (λ (j : ℕ). heldIn layout (getD ws j 0) (count j) written j) (zero-add i)
+        ∙ ap (λ (n : ℕ). heldIn layout (getD ws i 0) n written i) (c i k) ∙ held i k)

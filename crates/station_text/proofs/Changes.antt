@@ -22,7 +22,8 @@ use Rattle.monitor.proofs.Reported.{change-at}
 use Rattle.station_text.specs.Lines.{Put, watchLines, linesIn}
 
 -- one field more of a row
-pub numbers-more : (node k : ℕ) (words : List ℕ) (from : ℕ) (numbers : List ℕ) (x : ℕ) → k < 4 → numbers ≡ padded 5 (node ∷ fields k words from) → x ≡ getD words (from + k) 0 → set numbers (k + 1) x ≡ padded 5 (node ∷ fields (k + 1) words from)
+pub numbers-more : (node k : ℕ) (words : List ℕ) (from : ℕ) (numbers : List ℕ) (x : ℕ) → k < 4 → numbers ≡ padded 5 (node ∷ fields k words from) → x ≡ getD words (from + k) 0 →
+    set numbers (k + 1) x ≡ padded 5 (node ∷ fields (k + 1) words from)
 unfolding fields
 numbers-more node k words from numbers x h e f =
     ap₂ {A = List ℕ} {B = ℕ} {C = List ℕ} (λ n y. set n (k + 1) y) e f
@@ -34,21 +35,25 @@ pub numbers-taken : (node w : ℕ) (words : List ℕ) (from : ℕ) (numbers : Li
 numbers-taken node w words from numbers h e = ap (take (w + 1)) e ∙ take-padded 5 (w + 1) (node ∷ fields w words from) (omega (arith, length-fields w words from))
 
 -- one row more
-pub lines-more : (sign node w j : ℕ) (area out before after : List ℕ) (at to r : ℕ) → before ≡ sets out at (changeLines sign node (heldIn layout w j area node)) → to ≡ at + length (changeLines sign node (heldIn layout w j area node)) →
+pub lines-more : (sign node w j : ℕ) (area out before after : List ℕ) (at to r : ℕ) → before ≡ sets out at (changeLines sign node (heldIn layout w j area node)) →
+    to ≡ at + length (changeLines sign node (heldIn layout w j area node)) →
     after ≡ sets before to (line (sign ∷ []) (node ∷ fields w area (node * 256 + j * 4))) → r ≡ to + length (line (sign ∷ []) (node ∷ fields w area (node * 256 + j * 4))) →
     (after ≡ sets out at (changeLines sign node (heldIn layout w (j + 1) area node))) × (r ≡ at + length (changeLines sign node (heldIn layout w (j + 1) area node)))
 unfolding changeLines
 lines-more sign node w j area out before after at to r e f g h =
     let one : List ℕ = line (sign ∷ []) (node ∷ fields w area (node * 256 + j * 4)) in
-    let all : changeLines sign node (heldIn layout w (j + 1) area node) ≡ changeLines sign node (heldIn layout w j area node) ++ line (sign ∷ []) (node ∷ fields w area (node * 256 + j * 4)) =
+    let all : changeLines sign node (heldIn layout w (j + 1) area node) ≡ changeLines sign node (heldIn layout w j area node) ++ line (sign ∷ [])
+    (node ∷ fields w area (node * 256 + j * 4)) =
     ap (changeLines sign node) (held-more w j area node)
     ∙ flat-append (λ x. line (sign ∷ []) (node ∷ x)) (heldIn layout w j area node) (fields w area (node * 256 + j * 4) ∷ [])
     ∙ ap (λ (l : List ℕ). changeLines sign node (heldIn layout w j area node) ++ l) (flat-one (λ x. line (sign ∷ []) (node ∷ x)) (fields w area (node * 256 + j * 4))) in (
-      sets-more out before after at to (changeLines sign node (heldIn layout w j area node)) (line (sign ∷ []) (node ∷ fields w area (node * 256 + j * 4))) e f g ∙ ap (sets out at) (sym all),
+      sets-more out before after at to (changeLines sign node (heldIn layout w j area node)) (line (sign ∷ []) (node ∷ fields w area (node * 256 + j * 4))) e f g
+          ∙ ap (sets out at) (sym all),
       omega (arith, f, h, ap length all, length-append (changeLines sign node (heldIn layout w j area node)) (line (sign ∷ []) (node ∷ fields w area (node * 256 + j * 4)))),
     )
 
-pub lines-none : (sign node w : ℕ) (area out : List ℕ) (at : ℕ) → (out ≡ sets out at (changeLines sign node (heldIn layout w 0 area node))) × (at ≡ at + length (changeLines sign node (heldIn layout w 0 area node)))
+pub lines-none : (sign node w : ℕ) (area out : List ℕ) (at : ℕ) → (out ≡ sets out at (changeLines sign node (heldIn layout w 0 area node)))
+    × (at ≡ at + length (changeLines sign node (heldIn layout w 0 area node)))
 unfolding changeLines heldIn flatMap
 lines-none sign node w area out at = (refl, omega arith)
 

@@ -43,7 +43,8 @@ pub record PutIfRoom (text : Bytes) (most : ℕ) (before after : Bytes) (r : ℕ
 
 -- a node's lines, as its watch's sign allows: "gained first"
 abbrev pub watchLines : ℕ → ℕ → Change → Bytes
-watchLines sign node change = cond (allowsGained sign) (changeLines 43 node (change .gained)) [] ++ cond (allowsLost sign) (changeLines 45 node (change .lost)) []
+watchLines sign node change = cond (allowsGained sign) (changeLines 43 node (change .gained)) [] ++ cond (allowsLost sign)
+    (changeLines 45 node (change .lost)) []
 
 -- a node's lines, from the areas
 abbrev pub linesIn : Network → List ℕ → List ℕ → List ℕ → ℕ → Bytes

@@ -22,7 +22,8 @@ refusalOf End = accepted
 
 -- the first of them, and those after it
 abbrev pub Next : Bytes → ℕ → Piece → Type 0
-Next file start (Batch end) = (start ≤ end) × (end + 4 ≤ length file) × (piecesOn file start ≡ batch (bytesBetween file start end) ∷ piecesOn file (end + 4))
+Next file start (Batch end) = (start ≤ end) × (end + 4 ≤ length file)
+    × (piecesOn file start ≡ batch (bytesBetween file start end) ∷ piecesOn file (end + 4))
 Next file start (Broken at) = piecesOn file start ≡ broken at ∷ []
 Next file start Unfinished = piecesOn file start ≡ unfinished ∷ []
 Next file start End = piecesOn file start ≡ []

@@ -29,7 +29,8 @@ wide-one bs at w rel true h = wide-insert w (rowIn bs (at + 6) w) rel (length-ro
 wide-one bs at w rel false h = wide-keep w (λ s. not (sameRow s (rowIn bs (at + 6) w))) rel h
 
 padded-one : (bs : Bytes) (at w : ℕ) (rel : Relation) (k : Bool) → Wide w rel →
-    cond k (insertRow (padded 4 (rowIn bs (at + 6) w)) (map (padded 4) rel)) (deleteRow (padded 4 (rowIn bs (at + 6) w)) (map (padded 4) rel)) ≡ map (padded 4) (cond k (insertRow (rowIn bs (at + 6) w) rel) (deleteRow (rowIn bs (at + 6) w) rel))
+    cond k (insertRow (padded 4 (rowIn bs (at + 6) w)) (map (padded 4) rel)) (deleteRow (padded 4 (rowIn bs (at + 6) w)) (map (padded 4) rel))
+    ≡ map (padded 4) (cond k (insertRow (rowIn bs (at + 6) w) rel) (deleteRow (rowIn bs (at + 6) w) rel))
 padded-one bs at w rel true h = insert-padded 4 w (rowIn bs (at + 6) w) rel (length-row-in bs (at + 6) w) h
 padded-one bs at w rel false h = delete-padded 4 w (rowIn bs (at + 6) w) rel (length-row-in bs (at + 6) w) h
 
@@ -40,7 +41,8 @@ fold-padded bs t w (at ∷ ats) rel h = go (eqb (fieldAt bs at 0) t) (fold-padde
   where
     go : (b : Bool) → ((rel : Relation) → Wide w rel → foldAt bs t w ats (map (padded 4) rel) ≡ map (padded 4) (foldRows bs t w ats rel)) →
         foldAt bs t w ats (cond b (actOn bs at w (map (padded 4) rel)) (map (padded 4) rel)) ≡ map (padded 4) (foldRows bs t w ats (cond b (actIn (λ r. r) bs at w rel) rel))
-    go true ih = ap (foldAt bs t w ats) (padded-one bs at w rel (eqb (kindAt bs at) 32) h) ∙ ih (cond (eqb (kindAt bs at) 32) (insertRow (rowIn bs (at + 6) w) rel) (deleteRow (rowIn bs (at + 6) w) rel)) (wide-one bs at w rel (eqb (kindAt bs at) 32) h)
+    go true ih = ap (foldAt bs t w ats) (padded-one bs at w rel (eqb (kindAt bs at) 32) h)
+        ∙ ih (cond (eqb (kindAt bs at) 32) (insertRow (rowIn bs (at + 6) w) rel) (deleteRow (rowIn bs (at + 6) w) rel)) (wide-one bs at w rel (eqb (kindAt bs at) 32) h)
     go false ih = ih rel h
 
 pub fold-wide : (bs : Bytes) (t w : ℕ) (ats : List ℕ) (rel : Relation) → Wide w rel → Wide w (foldRows bs t w ats rel)
@@ -55,7 +57,8 @@ pub fold-asc : (bs : Bytes) (t w : ℕ) (ats : List ℕ) (rel : Relation) → As
 fold-asc bs t w [] rel h = h
 fold-asc bs t w (at ∷ ats) rel h = go (eqb (fieldAt bs at 0) t) (eqb (kindAt bs at) 32) (fold-asc bs t w ats)
   where
-    go : (b k : Bool) → ((rel : Relation) → Ascending rel → Ascending (foldRows bs t w ats rel)) → Ascending (foldRows bs t w ats (cond b (cond k (insertRow (rowIn bs (at + 6) w) rel) (deleteRow (rowIn bs (at + 6) w) rel)) rel))
+    go : (b k : Bool) → ((rel : Relation) → Ascending rel → Ascending (foldRows bs t w ats rel)) →
+        Ascending (foldRows bs t w ats (cond b (cond k (insertRow (rowIn bs (at + 6) w) rel) (deleteRow (rowIn bs (at + 6) w) rel)) rel))
     go true true ih = ih (insertRow (rowIn bs (at + 6) w) rel) (asc-insert (rowIn bs (at + 6) w) rel h)
     go true false ih = ih (deleteRow (rowIn bs (at + 6) w) rel) (asc-delete (rowIn bs (at + 6) w) rel h)
     go false k ih = ih rel h
@@ -81,14 +84,20 @@ module _ (nodes : List Node) (bs : Bytes) where
   fault-fits : (before at : ℕ) → eventFault nodes before bs at ≡ 0 → Fits before at
   unfolding eventFault eventFits
   fault-fits before at z =
-      let f : (isBroken bs at ≡ false) × (leb 64 before ≡ false) × (eventFits nodes bs at ≡ true) = fault-none (isBroken bs at) (not (eqb (kindAt bs at) 32 || eqb (kindAt bs at) 33)) (leb 64 before) (eventFits nodes bs at) z in
-      let three : (leb 6 (lengthAt bs at) && ltb (fieldAt bs at 0) (length nodes) && isTable (nodeAt nodes (fieldAt bs at 0))) ≡ true = and-first (leb 6 (lengthAt bs at) && ltb (fieldAt bs at 0) (length nodes) && isTable (nodeAt nodes (fieldAt bs at 0))) (eqb (lengthAt bs at) (6 + 4 * getD (widths nodes) (fieldAt bs at 0) 0)) (f .2) in
-      let two : (leb 6 (lengthAt bs at) && ltb (fieldAt bs at 0) (length nodes)) ≡ true = and-first (leb 6 (lengthAt bs at) && ltb (fieldAt bs at 0) (length nodes)) (isTable (nodeAt nodes (fieldAt bs at 0))) three in
+      let f : (isBroken bs at ≡ false) × (leb 64 before ≡ false) × (eventFits nodes bs at ≡ true) = fault-none (isBroken bs at) (not (eqb (kindAt bs at) 32 || eqb (kindAt bs at) 33))
+      (leb 64 before) (eventFits nodes bs at) z in
+      let three : (leb 6 (lengthAt bs at) && ltb (fieldAt bs at 0) (length nodes) && isTable (nodeAt nodes (fieldAt bs at 0)))
+      ≡ true = and-first (leb 6 (lengthAt bs at) && ltb (fieldAt bs at 0) (length nodes) && isTable (nodeAt nodes (fieldAt bs at 0)))
+      (eqb (lengthAt bs at) (6 + 4 * getD (widths nodes) (fieldAt bs at 0) 0)) (f .2) in
+      let two : (leb 6 (lengthAt bs at) && ltb (fieldAt bs at 0) (length nodes)) ≡ true = and-first (leb 6 (lengthAt bs at) && ltb (fieldAt bs at 0) (length nodes))
+      (isTable (nodeAt nodes (fieldAt bs at 0))) three in
       record {
         whole? = f .0;
         early = leb-false 64 before (f .1);
         least = leb-true 6 (lengthAt bs at) (and-first (leb 6 (lengthAt bs at)) (ltb (fieldAt bs at 0) (length nodes)) two);
-        size = eqb-true (lengthAt bs at) (6 + 4 * getD (widths nodes) (fieldAt bs at 0) 0) (and-second (leb 6 (lengthAt bs at) && ltb (fieldAt bs at 0) (length nodes) && isTable (nodeAt nodes (fieldAt bs at 0))) (eqb (lengthAt bs at) (6 + 4 * getD (widths nodes) (fieldAt bs at 0) 0)) (f .2));
+        size = eqb-true (lengthAt bs at) (6 + 4 * getD (widths nodes) (fieldAt bs at 0) 0)
+            (and-second (leb 6 (lengthAt bs at) && ltb (fieldAt bs at 0) (length nodes) && isTable (nodeAt nodes (fieldAt bs at 0)))
+            (eqb (lengthAt bs at) (6 + 4 * getD (widths nodes) (fieldAt bs at 0) 0)) (f .2));
       }
 
   module _ (t : ℕ) where
@@ -103,16 +112,22 @@ module _ (nodes : List Node) (bs : Bytes) where
 
     event-inside : (before at : ℕ) → Fits before at → (at + 6 ≤ length bs) × (fieldAt bs at 0 ≡ t → at + 6 + 4 * getD (widths nodes) t 0 ≤ length bs)
     event-inside before at f =
-        let h : Whole bs at = whole bs at (f .whole?) in
-        (omega (arith, h .inside, f .least), λ e. let size : lengthAt bs at ≡ 6 + 4 * getD (widths nodes) t 0 = f .size ∙ ap (λ (x : ℕ). 6 + 4 * getD (widths nodes) x 0) e in omega (arith, h .inside, size))
+        let h : Whole bs at = whole bs at (f .whole?) in (
+          omega (arith, h .inside, f .least),
+          λ e. let size : lengthAt bs at ≡ 6 + 4 * getD (widths nodes) t 0 = f .size ∙ ap (λ (x : ℕ). 6 + 4 * getD (widths nodes) x 0) e in omega
+              (arith, h .inside, size),
+        )
 
     reads : (done : List Event) (ats : List ℕ) → isAccepted (readEvents nodes bs done ats .verdict) ≡ true → Reads done ats
     unfolding readEvents
     reads done [] a = record { events = sym (append-nil done); foldable = tt; few = λ h. omega (arith, h) }
     reads done (at ∷ rest) a = go (eqb (eventFault nodes (length done) bs at) 0) refl a (reads (done ++ (eventAt (widths nodes) bs at ∷ [])) rest)
       where
-        go : (b : Bool) → eqb (eventFault nodes (length done) bs at) 0 ≡ b → isAccepted (cond b (readEvents nodes bs (done ++ (eventAt (widths nodes) bs at ∷ [])) rest) (record { verdict = refused (eventFault nodes (length done) bs at) at; events = [] }) .verdict) ≡ true →
-            (isAccepted (readEvents nodes bs (done ++ (eventAt (widths nodes) bs at ∷ [])) rest .verdict) ≡ true → Reads (done ++ (eventAt (widths nodes) bs at ∷ [])) rest) → Reads done (at ∷ rest)
+        go : (b : Bool) → eqb (eventFault nodes (length done) bs at) 0 ≡ b →
+            isAccepted (cond b (readEvents nodes bs (done ++ (eventAt (widths nodes) bs at ∷ [])) rest)
+            (record { verdict = refused (eventFault nodes (length done) bs at) at; events = [] }) .verdict) ≡ true →
+            (isAccepted (readEvents nodes bs (done ++ (eventAt (widths nodes) bs at ∷ [])) rest .verdict) ≡ true → Reads (done ++ (eventAt (widths nodes) bs at ∷ [])) rest) →
+            Reads done (at ∷ rest)
         go false e c ih = absurd (true≢false (sym c ∙ e))
         go true e c ih =
             let later : Reads (done ++ (eventAt (widths nodes) bs at ∷ [])) rest = ih c in
@@ -121,24 +136,32 @@ module _ (nodes : List Node) (bs : Bytes) where
             record {
               events = rw e (later .events ∙ append-assoc done (eventAt (widths nodes) bs at ∷ []) (map (eventAt (widths nodes) bs) rest));
               foldable = (fits .whole?, inside .0, inside .1, later .foldable);
-              few = λ h. let size : length (done ++ (eventAt (widths nodes) bs at ∷ [])) ≡ length done + 1 = length-append done (eventAt (widths nodes) bs at ∷ []) in omega (arith, size, later .few (omega (arith, size, fits .early)));
+              few = λ h. let size : length (done ++ (eventAt (widths nodes) bs at ∷ [])) ≡ length done + 1 = length-append done (eventAt (widths nodes) bs at ∷ []) in omega
+                  (arith, size, later .few (omega (arith, size, fits .early)));
             }
 
     -- one event on the table
     acts-one : (at f : ℕ) (tables : List Relation) (k b : Bool) → t < length tables → eqb f t ≡ b →
-        rowsAt (act (eventOf k f (rowIn bs (at + 6) (getD (widths nodes) f 0))) tables) t ≡ cond b (cond k (insertRow (rowIn bs (at + 6) (getD (widths nodes) t 0)) (rowsAt tables t)) (deleteRow (rowIn bs (at + 6) (getD (widths nodes) t 0)) (rowsAt tables t))) (rowsAt tables t)
+        rowsAt (act (eventOf k f (rowIn bs (at + 6) (getD (widths nodes) f 0))) tables) t
+        ≡ cond b (cond k (insertRow (rowIn bs (at + 6) (getD (widths nodes) t 0)) (rowsAt tables t)) (deleteRow (rowIn bs (at + 6) (getD (widths nodes) t 0)) (rowsAt tables t)))
+        (rowsAt tables t)
     unfolding act
-    acts-one at f tables true true h e = ap (λ (x : ℕ). rowsAt (set tables x (insertRow (rowIn bs (at + 6) (getD (widths nodes) x 0)) (getD tables x []))) t) (eqb-true f t e) ∙ getD-set-same tables t (insertRow (rowIn bs (at + 6) (getD (widths nodes) t 0)) (getD tables t [])) [] h
-    acts-one at f tables false true h e = ap (λ (x : ℕ). rowsAt (set tables x (deleteRow (rowIn bs (at + 6) (getD (widths nodes) x 0)) (getD tables x []))) t) (eqb-true f t e) ∙ getD-set-same tables t (deleteRow (rowIn bs (at + 6) (getD (widths nodes) t 0)) (getD tables t [])) [] h
-    acts-one at f tables true false h e = let n : f ≡ t → ⊥ = eqb-false f t e in getD-set-other tables f t (insertRow (rowIn bs (at + 6) (getD (widths nodes) f 0)) (getD tables f [])) [] (λ z. n (sym z))
-    acts-one at f tables false false h e = let n : f ≡ t → ⊥ = eqb-false f t e in getD-set-other tables f t (deleteRow (rowIn bs (at + 6) (getD (widths nodes) f 0)) (getD tables f [])) [] (λ z. n (sym z))
+    acts-one at f tables true true h e = ap (λ (x : ℕ). rowsAt (set tables x (insertRow (rowIn bs (at + 6) (getD (widths nodes) x 0)) (getD tables x []))) t) (eqb-true f t e)
+        ∙ getD-set-same tables t (insertRow (rowIn bs (at + 6) (getD (widths nodes) t 0)) (getD tables t [])) [] h
+    acts-one at f tables false true h e = ap (λ (x : ℕ). rowsAt (set tables x (deleteRow (rowIn bs (at + 6) (getD (widths nodes) x 0)) (getD tables x []))) t) (eqb-true f t e)
+        ∙ getD-set-same tables t (deleteRow (rowIn bs (at + 6) (getD (widths nodes) t 0)) (getD tables t [])) [] h
+    acts-one at f tables true false h e = let n : f ≡ t → ⊥ = eqb-false f t e in getD-set-other tables f t (insertRow (rowIn bs (at + 6) (getD (widths nodes) f 0)) (getD tables f [])) []
+        (λ z. n (sym z))
+    acts-one at f tables false false h e = let n : f ≡ t → ⊥ = eqb-false f t e in getD-set-other tables f t (deleteRow (rowIn bs (at + 6) (getD (widths nodes) f 0)) (getD tables f [])) []
+        (λ z. n (sym z))
 
     act-length : (e : Event) (tables : List Relation) → length (act e tables) ≡ length tables
     unfolding act
     act-length (put f r) tables = length-set tables f (insertRow r (getD tables f []))
     act-length (remove f r) tables = length-set tables f (deleteRow r (getD tables f []))
 
-    acts : (ats : List ℕ) (tables : List Relation) → t < length tables → rowsAt (actAll (map (eventAt (widths nodes) bs) ats) tables) t ≡ foldRows bs t (getD (widths nodes) t 0) ats (rowsAt tables t)
+    acts : (ats : List ℕ) (tables : List Relation) → t < length tables → rowsAt (actAll (map (eventAt (widths nodes) bs) ats) tables) t
+        ≡ foldRows bs t (getD (widths nodes) t 0) ats (rowsAt tables t)
     unfolding actAll eventAt
     acts [] tables h = refl
     acts (at ∷ ats) tables h =
@@ -151,7 +174,8 @@ module _ (nodes : List Node) (bs : Bytes) where
       here = reads [] (offsets bs) accepts
 
       -- a table's rows after an accepted batch
-      pub acts-fold : (tables : List Relation) → t < length tables → rowsAt (actAll (readBatch nodes bs .events) tables) t ≡ foldRows bs t (getD (widths nodes) t 0) (offsets bs) (rowsAt tables t)
+      pub acts-fold : (tables : List Relation) → t < length tables → rowsAt (actAll (readBatch nodes bs .events) tables) t
+          ≡ foldRows bs t (getD (widths nodes) t 0) (offsets bs) (rowsAt tables t)
       unfolding readBatch
       acts-fold tables h = ap (λ (es : List Event). rowsAt (actAll es tables) t) (here .events) ∙ acts (offsets bs) tables h
 

@@ -140,10 +140,15 @@ module _ (bs : Bytes) (t w : ℕ) (start : List Row) (words : List ℕ) (count a
   after-fine narrow = go (eqb (fieldAt bs at 0) t)
     where
       go : (b : Bool) → Wide 4 (cond b (actOn bs at w (firstRows words count)) (firstRows words count)) × Ascending (cond b (actOn bs at w (firstRows words count)) (firstRows words count))
-      go true = (wide-act bs at w (firstRows words count) narrow (wide-rows 4 words 0 count), asc-act bs at w (firstRows words count) (ascending-holds (firstRows words count) (f .table .asc)))
+      go true = (
+        wide-act bs at w (firstRows words count) narrow (wide-rows 4 words 0 count),
+        asc-act bs at w (firstRows words count)
+            (ascending-holds (firstRows words count) (f .table .asc)),
+      )
       go false = (wide-rows 4 words 0 count, ascending-holds (firstRows words count) (f .table .asc))
 
-  pub folded-more : (out : List ℕ) (more next : ℕ) → w ≤ 4 → Stands (cond (eqb (fieldAt bs at 0) t) (actOn bs at w (firstRows words count)) (firstRows words count)) out more → more ≤ count + 1 → next ≡ at + lengthAt bs at → Folded bs t w start out more next
+  pub folded-more : (out : List ℕ) (more next : ℕ) → w ≤ 4 → Stands (cond (eqb (fieldAt bs at 0) t) (actOn bs at w (firstRows words count)) (firstRows words count)) out more →
+      more ≤ count + 1 → next ≡ at + lengthAt bs at → Folded bs t w start out more next
   folded-more out more next narrow s few k =
       let fine : Wide 4 after × Ascending after = after-fine narrow in
       let back : (firstRows out more ≡ after) × Table out more × (length out ≡ 512) = stands-table after out more (fine .0) (fine .1) s in
@@ -155,7 +160,8 @@ module _ (bs : Bytes) (t w : ℕ) (start : List Row) (words : List ℕ) (count a
         same = f .same ∙ ap (λ (l : List ℕ). foldAt bs t w l (firstRows words count)) next-is ∙ ap (foldAt bs t w (remaining bs (at + lengthAt bs at))) (sym (back .0));
       })
 
-pub folded-end : (bs : Bytes) (t w : ℕ) (start : List Row) (words : List ℕ) (count at : ℕ) → Folded bs t w start words count at → length bs ≤ at → Stands (foldAt bs t w (offsets bs) start) words count
+pub folded-end : (bs : Bytes) (t w : ℕ) (start : List Row) (words : List ℕ) (count at : ℕ) → Folded bs t w start words count at → length bs ≤ at →
+    Stands (foldAt bs t w (offsets bs) start) words count
 folded-end bs t w start words count at f h =
     let same : foldAt bs t w (offsets bs) start ≡ firstRows words count = f .same ∙ ap (λ (l : List ℕ). foldAt bs t w l (firstRows words count)) (remaining-none bs at h) in
     rw same (f .table .stands)

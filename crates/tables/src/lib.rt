@@ -1,15 +1,13 @@
 // Events on a table's rows.
 ghost use mathlib.Core.Path.{_≡_};
-ghost use mathlib.Core.Bool.{Bool, true, false, cond};
-ghost use mathlib.Core.List.{List, []};
-ghost use Prim.Native.Nat.{ℕ, _+_, _*_, _≤_, _<_};
+ghost use mathlib.Core.Bool.{cond};
+ghost use Prim.Native.Nat.{_+_, _*_, _≤_, _<_};
 ghost use lib.Dec.{eqb};
-ghost use lib.ListN.{length, take, replicate};
-ghost use Rattle.model.specs.Row.{ascending};
-ghost use Rattle.model.specs.Record.{kindAt, fieldAt, lengthAt, offsets};
+ghost use lib.ListN.{length};
+ghost use Rattle.model.specs.Record.{fieldAt, offsets};
 ghost use Rattle.model.specs.Batch.{rowIn};
 ghost use Rattle.model.specs.Areas.{padded};
-ghost use Rattle.rows.specs.Rows.{stride, firstRows, stored};
+ghost use Rattle.rows.specs.Rows.{firstRows};
 ghost use Rattle.tables.specs.Fold.{Stands, Table, actOn, foldAt, Foldable};
 use rows::Inserted;
 use rows::STRIDE;
@@ -56,8 +54,11 @@ fn fold_one(
     table: usize,
     width: usize,
 ) -> usize
-    requires { ⌜ (width ≤ 4) × (at + 6 ≤ length (now bytes)) × (fieldAt (now bytes) at 0 ≡ table → at + 6 + 4 * width ≤ length (now bytes)) × Table (now words) n × (n < 128) × (length (now words) ≡ 512) ⌝ }
-    ensures { λ r. ⌜ Stands (cond (eqb (fieldAt (now (bytes .entry)) at 0) table) (actOn (now (bytes .entry)) at width (firstRows (now (words .entry)) n)) (firstRows (now (words .entry)) n)) (now (words .exit)) r × (r ≤ n + 1) ⌝ }
+    requires { ⌜ (width ≤ 4) × (at + 6 ≤ length (now bytes)) × (fieldAt (now bytes) at 0 ≡ table → at + 6 + 4 * width ≤ length (now bytes))
+        × Table (now words) n × (n < 128) × (length (now words) ≡ 512) ⌝ }
+    ensures { λ r. ⌜ Stands
+        (cond (eqb (fieldAt (now (bytes .entry)) at 0) table) (actOn (now (bytes .entry)) at width (firstRows (now (words .entry)) n))
+        (firstRows (now (words .entry)) n)) (now (words .exit)) r × (r ≤ n + 1) ⌝ }
 {
     if records::field_at(bytes, at, 0) == table {
         return act(words, n, bytes, at, width);
@@ -68,7 +69,8 @@ fn fold_one(
 // The events of a table, in order, on its rows: how many there are afterwards.
 pub fn fold(words: &mut [u32], n: usize, bytes: &[u8], table: usize, width: usize) -> usize
     requires { ⌜ Foldable (now bytes) table width × Table (now words) n × (n ≤ 64) × (length (now words) ≡ 512) ⌝ }
-    ensures { λ r. ⌜ Stands (foldAt (now (bytes .entry)) table width (offsets (now (bytes .entry))) (firstRows (now (words .entry)) n)) (now (words .exit)) r ⌝ }
+    ensures { λ r. ⌜ Stands (foldAt (now (bytes .entry)) table width (offsets (now (bytes .entry))) (firstRows (now (words .entry)) n))
+        (now (words .exit)) r ⌝ }
 {
     let mut count = n;
     let mut at = 0;

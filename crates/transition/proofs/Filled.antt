@@ -38,7 +38,8 @@ module _ (area : List ℕ) (i : ℕ) (fits : i * 256 + 256 ≤ length area) wher
   placed-same rel size e = sym (ap (λ (l : List ℕ). take (i * 256) area ++ l ++ drop (i * 256 + 256) area) (take-all 256 (placeOf layout rel) (omega (arith, size)) ∙ sym e) ∙ whole)
 
   -- the words of the rows set to 0
-  pub placed-none : (w count : ℕ) (after : List ℕ) → Place w (placeAt area i) count → after ≡ paste area (i * 256) (replicate (i * 256 + count * 4 - i * 256) 0) (i * 256 + count * 4 - i * 256) → after ≡ placed area i []
+  pub placed-none : (w count : ℕ) (after : List ℕ) → Place w (placeAt area i) count →
+      after ≡ paste area (i * 256) (replicate (i * 256 + count * 4 - i * 256) 0) (i * 256 + count * 4 - i * 256) → after ≡ placed area i []
   unfolding placeOf
   placed-none w count after p e =
       let few : count ≤ 64 = place-few w (placeAt area i) count p in
@@ -48,16 +49,21 @@ module _ (area : List ℕ) (i : ℕ) (fits : i * 256 + 256 ≤ length area) wher
       let rel : Relation = relationIn w (placeAt area i) count in
       let size : length (relationIn w (placeAt area i) count) ≡ count = place-count w (placeAt area i) count p in
       let tail : drop (count * 4) (placeAt area i) ≡ replicate (256 - count * 4) 0 =
-      ap (drop (count * 4)) (place-is w (placeAt area i) count p) ∙ ap (λ (k : ℕ). drop (k * 4) (placeOf layout (relationIn w (placeAt area i) count))) (sym size) ∙ rest-zero w (relationIn w (placeAt area i) count) (p .narrow) (place-wide w (placeAt area i) count p) (rw size few) ∙ ap (λ (k : ℕ). replicate (256 - k * 4) 0) size in
+      ap (drop (count * 4)) (place-is w (placeAt area i) count p) ∙ ap (λ (k : ℕ). drop (k * 4) (placeOf layout (relationIn w (placeAt area i) count))) (sym size)
+      ∙ rest-zero w (relationIn w (placeAt area i) count) (p .narrow) (place-wide w (placeAt area i) count p) (rw size few) ∙ ap (λ (k : ℕ). replicate (256 - k * 4) 0) size in
       let same : take (256 - count * 4) (drop (i * 256 + count * 4) area) ≡ replicate (256 - count * 4) 0 =
-      ap (take (256 - count * 4)) (sym (drop-drop (count * 4) (i * 256) area)) ∙ sym (drop-take (count * 4) (256 - count * 4) (drop (i * 256) area)) ∙ ap (λ (k : ℕ). drop (count * 4) (take k (drop (i * 256) area))) (sym split ∙ sym cut) ∙ tail in
+      ap (take (256 - count * 4)) (sym (drop-drop (count * 4) (i * 256) area)) ∙ sym (drop-take (count * 4) (256 - count * 4) (drop (i * 256) area))
+      ∙ ap (λ (k : ℕ). drop (count * 4) (take k (drop (i * 256) area))) (sym split ∙ sym cut) ∙ tail in
       let rest : drop (i * 256 + count * 4) area ≡ replicate (256 - count * 4) 0 ++ drop (i * 256 + 256) area =
       sym (take-append-drop (256 - count * 4) (drop (i * 256 + count * 4) area))
-      ∙ ap₂ {A = List ℕ} {B = List ℕ} {C = List ℕ} (λ a b. a ++ b) same (drop-drop (256 - count * 4) (i * 256 + count * 4) area ∙ ap (λ (k : ℕ). drop k area) (let f : i * 256 + count * 4 + (256 - count * 4) ≡ i * 256 + 256 = omega arith in f)) in
-      let zeros : replicate {A = ℕ} (count * 4) 0 ++ replicate (256 - count * 4) 0 ≡ placeOf layout [] = replicate-append-replicate {A = ℕ} (count * 4) (256 - count * 4) 0 ∙ ap (λ (k : ℕ). replicate {A = ℕ} k 0) (sym split) ∙ place-none in
+      ∙ ap₂ {A = List ℕ} {B = List ℕ} {C = List ℕ} (λ a b. a ++ b) same
+      (drop-drop (256 - count * 4) (i * 256 + count * 4) area ∙ ap (λ (k : ℕ). drop k area) (let f : i * 256 + count * 4 + (256 - count * 4) ≡ i * 256 + 256 = omega arith in f)) in
+      let zeros : replicate {A = ℕ} (count * 4) 0 ++ replicate (256 - count * 4) 0 ≡ placeOf layout [] = replicate-append-replicate {A = ℕ} (count * 4) (256 - count * 4) 0
+      ∙ ap (λ (k : ℕ). replicate {A = ℕ} k 0) (sym split) ∙ place-none in
       e
       ∙ ap (λ (k : ℕ). paste area (i * 256) (replicate k 0) k) cut′
-      ∙ ap₂ {A = List ℕ} {B = List ℕ} {C = List ℕ} (λ a b. take (i * 256) area ++ a ++ b) (take-all (count * 4) (replicate (count * 4) 0) (omega (arith, length-replicate {A = ℕ} (count * 4) 0))) rest
+      ∙ ap₂ {A = List ℕ} {B = List ℕ} {C = List ℕ} (λ a b. take (i * 256) area ++ a ++ b)
+      (take-all (count * 4) (replicate (count * 4) 0) (omega (arith, length-replicate {A = ℕ} (count * 4) 0))) rest
       ∙ sym (append-assoc (take (i * 256) area ++ replicate (count * 4) 0) (replicate (256 - count * 4) 0) (drop (i * 256 + 256) area))
       ∙ ap (λ (l : List ℕ). l ++ drop (i * 256 + 256) area) (append-assoc (take (i * 256) area) (replicate (count * 4) 0) (replicate (256 - count * 4) 0))
       ∙ ap (λ (l : List ℕ). take (i * 256) area ++ l ++ drop (i * 256 + 256) area) zeros
@@ -103,9 +109,12 @@ module _ (rels : List Relation) (area : List ℕ) (s : Sized rels) where
       let e : i + 1 ≡ suc i = omega arith in
       let done : List ℕ = flatMap (placeOf layout) (take i rels) in
       let next : flatMap (placeOf layout) (take (i + 1) rels) ≡ flatMap (placeOf layout) (take i rels) ++ placeOf layout (getD rels i []) =
-      ap (λ (k : ℕ). flatMap (placeOf layout) (take k rels)) e ∙ ap (flatMap (placeOf layout)) (take-suc rels i [] h) ∙ flat-append (placeOf layout) (take i rels) (getD rels i [] ∷ []) ∙ ap (λ (l : List ℕ). flatMap (placeOf layout) (take i rels) ++ l) (flat-one (placeOf layout) (getD rels i [])) in
-      ap₂ {A = List ℕ} {B = List ℕ} {C = List ℕ} (λ a b. a ++ take 256 (placeOf layout (getD rels i [])) ++ b) (take-at (flatMap (placeOf layout) (take i rels)) (drop (i * 256) area) (i * 256) (front i (omega arith))) (past i (omega arith) (i * 256 + 256) (omega arith))
-      ∙ ap₂ {A = List ℕ} {B = ℕ} {C = List ℕ} (λ a k. flatMap (placeOf layout) (take i rels) ++ a ++ drop k area) (take-all 256 (placeOf layout (getD rels i [])) (omega (arith, place-size i h))) (let f : i * 256 + 256 ≡ (i + 1) * 256 = omega arith in f)
+      ap (λ (k : ℕ). flatMap (placeOf layout) (take k rels)) e ∙ ap (flatMap (placeOf layout)) (take-suc rels i [] h) ∙ flat-append (placeOf layout) (take i rels) (getD rels i [] ∷ [])
+      ∙ ap (λ (l : List ℕ). flatMap (placeOf layout) (take i rels) ++ l) (flat-one (placeOf layout) (getD rels i [])) in
+      ap₂ {A = List ℕ} {B = List ℕ} {C = List ℕ} (λ a b. a ++ take 256 (placeOf layout (getD rels i [])) ++ b)
+      (take-at (flatMap (placeOf layout) (take i rels)) (drop (i * 256) area) (i * 256) (front i (omega arith))) (past i (omega arith) (i * 256 + 256) (omega arith))
+      ∙ ap₂ {A = List ℕ} {B = ℕ} {C = List ℕ} (λ a k. flatMap (placeOf layout) (take i rels) ++ a ++ drop k area)
+      (take-all 256 (placeOf layout (getD rels i [])) (omega (arith, place-size i h))) (let f : i * 256 + 256 ≡ (i + 1) * 256 = omega arith in f)
       ∙ ap (λ (l : List ℕ). l ++ drop ((i + 1) * 256) area) (sym next)
     where
       place-size : (j : ℕ) → j < length rels → length (placeOf layout (getD rels j [])) ≡ 256
@@ -127,17 +136,20 @@ zeros-to area (suc k) n e z =
     ∙ ap (λ (m : ℕ). replicate {A = ℕ} m 0) (sym f)
 
 -- every node's place written: the named words are those of the relations
-pub filled-all : (rels : List Relation) (area : List ℕ) → Sized rels → length rels ≤ 32 → 8192 ≤ length area → ((j : ℕ) → length rels ≤ j → j < 32 → placeAt area j ≡ replicate 256 0) → filled rels (length rels) area ≡ over (areaOf layout rels) area
+pub filled-all : (rels : List Relation) (area : List ℕ) → Sized rels → length rels ≤ 32 → 8192 ≤ length area → ((j : ℕ) → length rels ≤ j → j < 32 → placeAt area j ≡ replicate 256 0) →
+    filled rels (length rels) area ≡ over (areaOf layout rels) area
 unfolding areaOf
 filled-all rels area s few long z =
     let n : ℕ = length rels in
     let size : length (flatMap (placeOf layout) rels) ≡ 256 * length rels = flat-length rels s in
     let left : ℕ = 8192 - length (flatMap (placeOf layout) rels) in
     let part : 8192 - length (flatMap (placeOf layout) rels) ≡ (32 - length rels) * 256 = omega (arith, size) in
-    let words : length (flatMap (placeOf layout) rels ++ replicate (8192 - length (flatMap (placeOf layout) rels)) 0) ≡ 8192 = length-append (flatMap (placeOf layout) rels) (replicate (8192 - length (flatMap (placeOf layout) rels)) 0) ∙ rw (length-replicate, size) (omega arith) in
+    let words : length (flatMap (placeOf layout) rels ++ replicate (8192 - length (flatMap (placeOf layout) rels)) 0)
+    ≡ 8192 = length-append (flatMap (placeOf layout) rels) (replicate (8192 - length (flatMap (placeOf layout) rels)) 0) ∙ rw (length-replicate, size) (omega arith) in
     let rest : drop (length rels * 256) area ≡ replicate (8192 - length (flatMap (placeOf layout) rels)) 0 ++ drop 8192 area =
     sym (take-append-drop ((32 - length rels) * 256) (drop (length rels * 256) area))
-    ∙ ap₂ {A = List ℕ} {B = List ℕ} {C = List ℕ} (λ a b. a ++ b) (zeros-to area (32 - length rels) (length rels) (omega arith) z ∙ ap (λ (m : ℕ). replicate {A = ℕ} m 0) (sym part)) (drop-drop ((32 - length rels) * 256) (length rels * 256) area ∙ ap (λ (m : ℕ). drop m area) (let f : length rels * 256 + (32 - length rels) * 256 ≡ 8192 = omega arith in f)) in
+    ∙ ap₂ {A = List ℕ} {B = List ℕ} {C = List ℕ} (λ a b. a ++ b) (zeros-to area (32 - length rels) (length rels) (omega arith) z ∙ ap (λ (m : ℕ). replicate {A = ℕ} m 0) (sym part))
+    (drop-drop ((32 - length rels) * 256) (length rels * 256) area ∙ ap (λ (m : ℕ). drop m area) (let f : length rels * 256 + (32 - length rels) * 256 ≡ 8192 = omega arith in f)) in
     ap₂ {A = List Relation} {B = List ℕ} {C = List ℕ} (λ r l. flatMap (placeOf layout) r ++ l) (take-length rels) rest
     ∙ sym (append-assoc (flatMap (placeOf layout) rels) (replicate (8192 - length (flatMap (placeOf layout) rels)) 0) (drop 8192 area))
     ∙ ap (λ (m : ℕ). (flatMap (placeOf layout) rels ++ replicate (8192 - length (flatMap (placeOf layout) rels)) 0) ++ drop m area) (sym words)

@@ -104,10 +104,12 @@ module _ (net : Network) (rows gained lost head work counts : List ℕ) (changed
       first : length (take (net .count) counts) ≡ net .count
       first = length-take-le (net .count) counts (rw (o .worked .sized .counts) few)
 
-  sizes-are : (g : Change → Relation) (l : List ℕ) → l ≡ padded 32 (map length (take (net .count) (map g (netChanges old (o .new))))) → l ≡ padded 32 (map (λ c. length (g c)) (netChanges old (o .new)))
+  sizes-are : (g : Change → Relation) (l : List ℕ) → l ≡ padded 32 (map length (take (net .count) (map g (netChanges old (o .new))))) →
+      l ≡ padded 32 (map (λ c. length (g c)) (netChanges old (o .new)))
   sizes-are g l e =
       e ∙ ap (padded 32)
-      (ap (map length) (take-all (net .count) (map g (netChanges old (o .new))) (rw (length-map (netChanges old (o .new)) g ∙ changes-many) (le-refl (net .count)))) ∙ sym (map-twice g (netChanges old (o .new))))
+      (ap (map length) (take-all (net .count) (map g (netChanges old (o .new))) (rw (length-map (netChanges old (o .new)) g ∙ changes-many) (le-refl (net .count))))
+      ∙ sym (map-twice g (netChanges old (o .new))))
 
   -- ---- stamps
 
@@ -116,7 +118,8 @@ module _ (net : Network) (rows gained lost head work counts : List ℕ) (changed
       let earlier : length (map (stampAt head) (numbersBelow (length (nodesOf net)))) ≡ length (nodesOf net) = length-counted (stampAt head) 0 (length (nodesOf net)) in
       let same : length (netChanges old (o .new)) ≡ length (map (stampAt head) (numbersBelow (length (nodesOf net)))) = changes-many ∙ sym (earlier ∙ many) in
       let first : length (stampsFrom head changed number (net .count)) ≡ net .count = length-counted (λ j. cond (getD changed j false) number (stampAt head j)) 0 (net .count) in
-      ext-getD 0 (stampsFrom head changed number (net .count)) (zipWith (stampOf number) (netChanges old (o .new)) (map (stampAt head) (numbersBelow (length (nodesOf net))))) (first ∙ sym (stamps-length number (netChanges old (o .new)) (map (stampAt head) (numbersBelow (length (nodesOf net)))) same ∙ earlier ∙ many))
+      ext-getD 0 (stampsFrom head changed number (net .count)) (zipWith (stampOf number) (netChanges old (o .new)) (map (stampAt head) (numbersBelow (length (nodesOf net)))))
+      (first ∙ sym (stamps-length number (netChanges old (o .new)) (map (stampAt head) (numbersBelow (length (nodesOf net)))) same ∙ earlier ∙ many))
       (λ i h.
       let k : i < net .count = rw first at h in
       counted-at 0 (λ j. cond (getD changed j false) number (stampAt head j)) 0 (net .count) i k
@@ -139,8 +142,10 @@ module _ (net : Network) (rows gained lost head work counts : List ℕ) (changed
       node : nodeAt (nodesOf net) i ≡ slotNode (getD (net .slots) i noSlot)
       node = slot-node net b i h
 
-      go : (t : Bool) → eqb (getD (net .levels) i 0) 0 ≡ t → cond t false (inputChanged (getD (net .slots) i noSlot) changed) ≡ someOf (λ j. isChanged (changeAt (netChanges old (o .new)) j)) (inputsOf (nodeAt (nodesOf net) i))
-      go true e = sym (inputs-none (nodeAt (nodesOf net) i) (λ j. isChanged (changeAt (netChanges old (o .new)) j)) (ap isTable node ∙ level-table net b fit i h (eqb-true (getD (net .levels) i 0) 0 e)))
+      go : (t : Bool) → eqb (getD (net .levels) i 0) 0 ≡ t → cond t false (inputChanged (getD (net .slots) i noSlot) changed) ≡ someOf (λ j. isChanged (changeAt (netChanges old (o .new)) j))
+          (inputsOf (nodeAt (nodesOf net) i))
+      go true e = sym (inputs-none (nodeAt (nodesOf net) i) (λ j. isChanged (changeAt (netChanges old (o .new)) j))
+          (ap isTable node ∙ level-table net b fit i h (eqb-true (getD (net .levels) i 0) 0 e)))
       go false e =
           let d : Derived (getD (net .slots) i noSlot) (net .widths) i = level-derived net b fit i h (eqb-false (getD (net .levels) i 0) 0 e) in
           ap₂ {A = Bool} {B = Bool} {C = Bool} (λ x y. x || y)
@@ -149,7 +154,8 @@ module _ (net : Network) (rows gained lost head work counts : List ℕ) (changed
           ∙ ap (λ (n : Node). isChanged (changeAt (netChanges old (o .new)) (leftOf n)) || isChanged (changeAt (netChanges old (o .new)) (rightOf n))) (sym node)
           ∙ sym (inputs-some (nodeAt (nodesOf net) i) (λ j. isChanged (changeAt (netChanges old (o .new)) j)) (ap isTable node ∙ d .derived))
 
-  worked-are : (listed : List Bool) → ((i : ℕ) → i < net .count → getD listed i false ≡ listedIn net changed i) → listTo (net .levels) listed (net .count) (net .count) ≡ workedList (nodesOf net) (netChanges old (o .new))
+  worked-are : (listed : List Bool) → ((i : ℕ) → i < net .count → getD listed i false ≡ listedIn net changed i) → listTo (net .levels) listed (net .count) (net .count)
+      ≡ workedList (nodesOf net) (netChanges old (o .new))
   unfolding workedList workedAtLevel
   worked-are listed f =
       flat-same (levelList (net .levels) listed (net .count)) (workedAtLevel (nodesOf net) (netChanges old (o .new))) (numbersBelow (net .count))
@@ -163,7 +169,8 @@ module _ (net : Network) (rows gained lost head work counts : List ℕ) (changed
 
   -- ---- all words
 
-  area-are : (rels : List Relation) (area after : List ℕ) (count : ℕ → ℕ) → Fitting (widths (nodesOf net)) rels → 8192 ≤ length area → goodArea layout (widths (nodesOf net)) count area ≡ true → after ≡ filled rels (net .count) area → after ≡ over (areaOf layout rels) area
+  area-are : (rels : List Relation) (area after : List ℕ) (count : ℕ → ℕ) → Fitting (widths (nodesOf net)) rels → 8192 ≤ length area → goodArea layout (widths (nodesOf net)) count area
+      ≡ true → after ≡ filled rels (net .count) area → after ≡ over (areaOf layout rels) area
   area-are rels area after count f long g e =
       let n : length rels ≡ net .count = f .size ∙ size net rows gained lost head work counts changed o in
       e
@@ -172,19 +179,27 @@ module _ (net : Network) (rows gained lost head work counts : List ℕ) (changed
       (λ j h k. area-empty (widths (nodesOf net)) (f .few) (f .narrow) count area g long j (rw (← f .size) h) k)
 
   pub state-written : (rows′ gained′ lost′ head′ gains losses stamps entries : List ℕ) (listed : List Bool) (number k : ℕ) (copy : List Relation) →
-      number ≡ batchNumber head + 1 → WritesNodes (nodesOf net) (o .new) rows gained lost head rows′ gained′ lost′ gains losses (net .count) → stamps ≡ padded 32 (stampsFrom head changed number (net .count)) →
-      ((i : ℕ) → i < net .count → getD listed i false ≡ listedIn net changed i) → entries ≡ padded 32 (listTo (net .levels) listed (net .count) (net .count)) → k ≡ length (listTo (net .levels) listed (net .count) (net .count)) →
+      number ≡ batchNumber head + 1 → WritesNodes (nodesOf net) (o .new) rows gained lost head rows′ gained′ lost′ gains losses (net .count) →
+      stamps ≡ padded 32 (stampsFrom head changed number (net .count)) →
+      ((i : ℕ) → i < net .count → getD listed i false ≡ listedIn net changed i) → entries ≡ padded 32 (listTo (net .levels) listed (net .count) (net .count)) →
+      k ≡ length (listTo (net .levels) listed (net .count) (net .count)) →
       head′ ≡ over (headFrom number counts stamps gains losses k entries) head →
-      lent rows′ gained′ lost′ head′ ≡ holdingRows (o .new) (nextState (nodesOf net) (stateIn layout (nodesOf net) (lent rows gained lost head)) copy old (o .new)) (lent rows gained lost head)
+      lent rows′ gained′ lost′ head′ ≡ holdingRows (o .new) (nextState (nodesOf net) (stateIn layout (nodesOf net) (lent rows gained lost head)) copy old (o .new))
+      (lent rows gained lost head)
   unfolding headOf stateIn
   state-written rows′ gained′ lost′ head′ gains losses stamps entries listed number k copy en w es fl ee ek eh =
       let longs : (8192 ≤ length rows) × (8192 ≤ length gained) × (8192 ≤ length lost) × (162 ≤ length head) = long-parts rows gained lost head (o .long) in
-      let parts : (goodArea layout (widths (nodesOf net)) (rowCount head) rows ≡ true) × (goodArea layout (widths (nodesOf net)) (gainedCount head) gained ≡ true) × (goodArea layout (widths (nodesOf net)) (lostCount head) lost ≡ true) × (goodStamps (length (nodesOf net)) head ≡ true) × (goodWorked (length (nodesOf net)) head ≡ true) = form-parts (nodesOf net) (lent rows gained lost head) (o .form) in
+      let parts : (goodArea layout (widths (nodesOf net)) (rowCount head) rows ≡ true) × (goodArea layout (widths (nodesOf net)) (gainedCount head) gained ≡ true)
+      × (goodArea layout (widths (nodesOf net)) (lostCount head) lost ≡ true) × (goodStamps (length (nodesOf net)) head ≡ true) × (goodWorked (length (nodesOf net)) head ≡ true) = form-parts
+      (nodesOf net) (lent rows gained lost head) (o .form) in
       let r : rows′ ≡ over (areaOf layout (o .new)) rows = area-are (o .new) rows rows′ (rowCount head) (o .fits) (longs .0) (parts .0) (w .rows-are) in
-      let g : gained′ ≡ over (areaOf layout (gainedOf old (o .new))) gained = area-are (gainedOf old (o .new)) gained gained′ (gainedCount head) (gained-fit net rows gained lost head work counts changed o) (longs .1) (parts .1) (w .gained-are) in
-      let l : lost′ ≡ over (areaOf layout (lostOf old (o .new))) lost = area-are (lostOf old (o .new)) lost lost′ (lostCount head) (lost-fit net rows gained lost head work counts changed o) (longs .2) (parts .2) (w .lost-are) in
+      let g : gained′ ≡ over (areaOf layout (gainedOf old (o .new))) gained = area-are (gainedOf old (o .new)) gained gained′ (gainedCount head)
+      (gained-fit net rows gained lost head work counts changed o) (longs .1) (parts .1) (w .gained-are) in
+      let l : lost′ ≡ over (areaOf layout (lostOf old (o .new))) lost = area-are (lostOf old (o .new)) lost lost′ (lostCount head) (lost-fit net rows gained lost head work counts changed o)
+      (longs .2) (parts .2) (w .lost-are) in
       let list : listTo (net .levels) listed (net .count) (net .count) ≡ workedList (nodesOf net) (netChanges old (o .new)) = worked-are listed fl in
-      let words : headFrom number counts stamps gains losses k entries ≡ headOf (o .new) (nextState (nodesOf net) (stateIn layout (nodesOf net) (lent rows gained lost head)) copy old (o .new)) =
+      let words : headFrom number counts stamps gains losses k entries
+      ≡ headOf (o .new) (nextState (nodesOf net) (stateIn layout (nodesOf net) (lent rows gained lost head)) copy old (o .new)) =
       λ j.
       (en j ∷ [])
       ++ counts-are j

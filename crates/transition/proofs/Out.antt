@@ -42,10 +42,12 @@ lengths-more rels i h = let e : i + 1 ≡ suc i = omega arith in ap (λ (k : ℕ
     map-snoc (x ∷ l) r = ap (λ (m : List ℕ). length x ∷ m) (map-snoc l r)
 
 -- a count set in an array of 32
-sizes-more : (rels : List Relation) (i : ℕ) (array : List ℕ) (x : ℕ) → i < length rels → length rels ≤ 32 → array ≡ padded 32 (map length (take i rels)) → x ≡ length (getD rels i []) → set array i x ≡ padded 32 (map length (take (i + 1) rels))
+sizes-more : (rels : List Relation) (i : ℕ) (array : List ℕ) (x : ℕ) → i < length rels → length rels ≤ 32 → array ≡ padded 32 (map length (take i rels)) → x ≡ length (getD rels i []) →
+    set array i x ≡ padded 32 (map length (take (i + 1) rels))
 sizes-more rels i array x h few e f =
     let size : length (map length (take i rels)) ≡ i = length-map (take i rels) length ∙ length-take-le i rels (omega arith) in
-    ap₂ {A = List ℕ} {B = ℕ} {C = List ℕ} (λ a y. set a i y) e f ∙ padded-more 32 (map length (take i rels)) (length (getD rels i [])) i size (omega arith) ∙ ap (padded 32) (sym (lengths-more rels i h))
+    ap₂ {A = List ℕ} {B = ℕ} {C = List ℕ} (λ a y. set a i y) e f ∙ padded-more 32 (map length (take i rels)) (length (getD rels i [])) i size (omega arith)
+    ∙ ap (padded 32) (sym (lengths-more rels i h))
 
 module _ (net : Network) (rows gained lost head work counts : List ℕ) (changed : List Bool) (o : WorkedOut net rows gained lost head work counts changed) where
   abbrev a : Areas
@@ -81,7 +83,8 @@ module _ (net : Network) (rows gained lost head work counts : List ℕ) (changed
   inside : (i : ℕ) → i < net .count → i < length (widths (nodesOf net))
   inside i h = rw size h
 
-  parts : (goodArea layout (widths (nodesOf net)) (rowCount head) rows ≡ true) × (goodArea layout (widths (nodesOf net)) (gainedCount head) gained ≡ true) × (goodArea layout (widths (nodesOf net)) (lostCount head) lost ≡ true) × (goodStamps (length (nodesOf net)) head ≡ true) × (goodWorked (length (nodesOf net)) head ≡ true)
+  parts : (goodArea layout (widths (nodesOf net)) (rowCount head) rows ≡ true) × (goodArea layout (widths (nodesOf net)) (gainedCount head) gained ≡ true)
+      × (goodArea layout (widths (nodesOf net)) (lostCount head) lost ≡ true) × (goodStamps (length (nodesOf net)) head ≡ true) × (goodWorked (length (nodesOf net)) head ≡ true)
   parts = form-parts (nodesOf net) (lent rows gained lost head) (o .form)
 
   pub old-fits : Fitting (widths (nodesOf net)) old
@@ -99,11 +102,13 @@ module _ (net : Network) (rows gained lost head work counts : List ℕ) (changed
 
   gained-at : (i : ℕ) → i < net .count → getD (gainedOf old (o .new)) i [] ≡ differenceRows (getD (o .new) i []) (getD old i [])
   unfolding netChange
-  gained-at i h = map-at (λ c. c .gained) (netChanges old (o .new)) i (rw changes-count h) ∙ ap (λ (c : Change). c .gained) (changes-at old (o .new) i (old-fits .size ∙ sym (o .fits .size)) (rw (old-fits .size ∙ size) h))
+  gained-at i h = map-at (λ c. c .gained) (netChanges old (o .new)) i (rw changes-count h)
+      ∙ ap (λ (c : Change). c .gained) (changes-at old (o .new) i (old-fits .size ∙ sym (o .fits .size)) (rw (old-fits .size ∙ size) h))
 
   lost-at : (i : ℕ) → i < net .count → getD (lostOf old (o .new)) i [] ≡ differenceRows (getD old i []) (getD (o .new) i [])
   unfolding netChange
-  lost-at i h = map-at (λ c. c .lost) (netChanges old (o .new)) i (rw changes-count h) ∙ ap (λ (c : Change). c .lost) (changes-at old (o .new) i (old-fits .size ∙ sym (o .fits .size)) (rw (old-fits .size ∙ size) h))
+  lost-at i h = map-at (λ c. c .lost) (netChanges old (o .new)) i (rw changes-count h)
+      ∙ ap (λ (c : Change). c .lost) (changes-at old (o .new) i (old-fits .size ∙ sym (o .fits .size)) (rw (old-fits .size ∙ size) h))
 
   -- ---- one node
 
@@ -117,7 +122,8 @@ module _ (net : Network) (rows gained lost head work counts : List ℕ) (changed
     ready : Worked head (working (net .widths) rows work counts changed) (getD (o .new) i []) i
     ready = o .worked .worked i h
 
-    rows-place : Place (getD (widths (nodesOf net)) i 0) (placeAt rows i) (rowCount head i) × (relationIn (getD (widths (nodesOf net)) i 0) (placeAt rows i) (rowCount head i) ≡ getD old i [])
+    rows-place : Place (getD (widths (nodesOf net)) i 0) (placeAt rows i) (rowCount head i)
+        × (relationIn (getD (widths (nodesOf net)) i 0) (placeAt rows i) (rowCount head i) ≡ getD old i [])
     unfolding rowsIn
     rows-place = area-place (widths (nodesOf net)) few narrow (rowCount head) rows (parts .0) (longs .0) i (inside i h)
 
@@ -127,9 +133,11 @@ module _ (net : Network) (rows gained lost head work counts : List ℕ) (changed
     lost-place : Place (getD (widths (nodesOf net)) i 0) (placeAt lost i) (lostCount head i)
     lost-place = area-place (widths (nodesOf net)) few narrow (lostCount head) lost (parts .2) (longs .2) i (inside i h) .0
 
-    new-place : Place (getD (widths (nodesOf net)) i 0) (placeAt (cond (getD changed i false) work rows) i) (getD counts i 0) × (relationIn (getD (widths (nodesOf net)) i 0) (placeAt (cond (getD changed i false) work rows) i) (getD counts i 0) ≡ getD (o .new) i [])
+    new-place : Place (getD (widths (nodesOf net)) i 0) (placeAt (cond (getD changed i false) work rows) i) (getD counts i 0)
+        × (relationIn (getD (widths (nodesOf net)) i 0) (placeAt (cond (getD changed i false) work rows) i) (getD counts i 0) ≡ getD (o .new) i [])
     new-place =
-        fills-place (getD (widths (nodesOf net)) i 0) (getD (o .new) i []) (placeAt (cond (getD changed i false) work rows) i) (getD counts i 0) (narrow i) (o .fits .wide i (inside i h)) (ascending-holds (getD (o .new) i []) (o .fits .asc i (inside i h)))
+        fills-place (getD (widths (nodesOf net)) i 0) (getD (o .new) i []) (placeAt (cond (getD changed i false) work rows) i) (getD counts i 0) (narrow i) (o .fits .wide i (inside i h))
+        (ascending-holds (getD (o .new) i []) (o .fits .asc i (inside i h)))
         (record { count = ready .count; few = rw (ready .count) (ready .few); is = ready .place })
 
     old-same : oldRows head (working (net .widths) rows work counts changed) i ≡ getD old i []
@@ -141,12 +149,14 @@ module _ (net : Network) (rows gained lost head work counts : List ℕ) (changed
     flag-is =
         ready .changed
         ∙ ap (λ (r : Relation). not (sameRows (getD (o .new) i []) r)) old-same
-        ∙ sym (changed-is (getD old i []) (getD (o .new) i []) (ascending-holds (getD old i []) (old-fits .asc i (inside i h))) (ascending-holds (getD (o .new) i []) (o .fits .asc i (inside i h))))
+        ∙ sym (changed-is (getD old i []) (getD (o .new) i []) (ascending-holds (getD old i []) (old-fits .asc i (inside i h)))
+        (ascending-holds (getD (o .new) i []) (o .fits .asc i (inside i h))))
         ∙ ap isChanged (sym (changes-at old (o .new) i (old-fits .size ∙ sym (o .fits .size)) (rw (old-fits .size ∙ size) h)))
 
     kept-count : getD changed i false ≡ false → getD counts i 0 ≡ rowCount head i
     kept-count e =
-        let same : getD (o .new) i [] ≡ getD old i [] = same-flag (getD (o .new) i []) (getD old i []) (ap (λ (r : Relation). not (sameRows (getD (o .new) i []) r)) (sym old-same) ∙ sym (ready .changed) ∙ e) in
+        let same : getD (o .new) i [] ≡ getD old i [] = same-flag (getD (o .new) i []) (getD old i [])
+        (ap (λ (r : Relation). not (sameRows (getD (o .new) i []) r)) (sym old-same) ∙ sym (ready .changed) ∙ e) in
         ready .count ∙ ap length same ∙ ap length (sym (rows-place .1)) ∙ place-count (getD (widths (nodesOf net)) i 0) (placeAt rows i) (rowCount head i) (rows-place .0)
 
     -- ---- while the places before it are written
@@ -209,14 +219,18 @@ module _ (net : Network) (rows gained lost head work counts : List ℕ) (changed
       is : relationIn (getD (widths (nodesOf net)) i 0) (placeAt (cond (getD changed i false) work rows′) i) (getD counts i 0) ≡ getD (o .new) i []
       is = ap (λ (s : List ℕ). relationIn (getD (widths (nodesOf net)) i 0) s (getD counts i 0)) present-still ∙ new-place .1
 
-      gained-is : differenceRows (relationIn (getD (widths (nodesOf net)) i 0) (placeAt (cond (getD changed i false) work rows′) i) (getD counts i 0)) (relationIn (getD (widths (nodesOf net)) i 0) (placeAt rows′ i) (rowCount head i)) ≡ getD (gainedOf old (o .new)) i []
+      gained-is : differenceRows (relationIn (getD (widths (nodesOf net)) i 0) (placeAt (cond (getD changed i false) work rows′) i) (getD counts i 0))
+          (relationIn (getD (widths (nodesOf net)) i 0) (placeAt rows′ i) (rowCount head i)) ≡ getD (gainedOf old (o .new)) i []
       gained-is = ap₂ {A = Relation} {B = Relation} {C = Relation} (λ x y. differenceRows x y) is was ∙ sym (gained-at i h)
 
-      lost-is : differenceRows (relationIn (getD (widths (nodesOf net)) i 0) (placeAt rows′ i) (rowCount head i)) (relationIn (getD (widths (nodesOf net)) i 0) (placeAt (cond (getD changed i false) work rows′) i) (getD counts i 0)) ≡ getD (lostOf old (o .new)) i []
+      lost-is : differenceRows (relationIn (getD (widths (nodesOf net)) i 0) (placeAt rows′ i) (rowCount head i))
+          (relationIn (getD (widths (nodesOf net)) i 0) (placeAt (cond (getD changed i false) work rows′) i) (getD counts i 0)) ≡ getD (lostOf old (o .new)) i []
       lost-is = ap₂ {A = Relation} {B = Relation} {C = Relation} (λ x y. differenceRows x y) was is ∙ sym (lost-at i h)
 
       -- the sizes of a change are those of places
-      pub sizes-small : (rows″ gained″ lost″ : List ℕ) (sizes : Sizes) → WritesNode (relationIn (getD (widths (nodesOf net)) i 0) (placeAt rows′ i) (rowCount head i)) (relationIn (getD (widths (nodesOf net)) i 0) (placeAt (cond (getD changed i false) work rows′) i) (getD counts i 0)) rows′ gained′ lost′ rows″ gained″ lost″ i sizes → (sizes .gained ≤ 64) × (sizes .lost ≤ 64)
+      pub sizes-small : (rows″ gained″ lost″ : List ℕ) (sizes : Sizes) → WritesNode (relationIn (getD (widths (nodesOf net)) i 0) (placeAt rows′ i) (rowCount head i))
+          (relationIn (getD (widths (nodesOf net)) i 0) (placeAt (cond (getD changed i false) work rows′) i) (getD counts i 0)) rows′ gained′ lost′ rows″ gained″ lost″ i sizes →
+          (sizes .gained ≤ 64) × (sizes .lost ≤ 64)
       sizes-small rows″ gained″ lost″ sizes n =
           let g : sizes .gained ≡ length (getD (gainedOf old (o .new)) i []) = ap (λ (x : Sizes). x .gained) (n .sizes-are) ∙ ap length gained-is in
           let l : sizes .lost ≡ length (getD (lostOf old (o .new)) i []) = ap (λ (x : Sizes). x .lost) (n .sizes-are) ∙ ap length lost-is in
@@ -224,15 +238,21 @@ module _ (net : Network) (rows gained lost head work counts : List ℕ) (changed
 
       -- one node more
       pub writes-more : (rows″ gained″ lost″ : List ℕ) (sizes : Sizes) →
-          WritesNode (relationIn (getD (widths (nodesOf net)) i 0) (placeAt rows′ i) (rowCount head i)) (relationIn (getD (widths (nodesOf net)) i 0) (placeAt (cond (getD changed i false) work rows′) i) (getD counts i 0)) rows′ gained′ lost′ rows″ gained″ lost″ i sizes →
+          WritesNode (relationIn (getD (widths (nodesOf net)) i 0) (placeAt rows′ i) (rowCount head i))
+          (relationIn (getD (widths (nodesOf net)) i 0) (placeAt (cond (getD changed i false) work rows′) i) (getD counts i 0)) rows′ gained′ lost′ rows″ gained″ lost″ i sizes →
           WritesNodes (nodesOf net) (o .new) rows gained lost head rows″ gained″ lost″ (set gains i (sizes .gained)) (set losses i (sizes .lost)) (i + 1)
       writes-more rows″ gained″ lost″ sizes n =
           record {
-            rows-are = n .rows-are ∙ ap₂ {A = List ℕ} {B = Relation} {C = List ℕ} (λ s r. placed s i r) (k .rows-are) is ∙ filled-more (o .new) rows (sized (widths (nodesOf net)) (o .new) (o .fits)) i (below (o .new) (o .fits));
-            gained-are = n .gained-are ∙ ap₂ {A = List ℕ} {B = Relation} {C = List ℕ} (λ s r. placed s i r) (k .gained-are) gained-is ∙ filled-more (gainedOf old (o .new)) gained (sized (widths (nodesOf net)) (gainedOf old (o .new)) gained-fit) i (below (gainedOf old (o .new)) gained-fit);
-            lost-are = n .lost-are ∙ ap₂ {A = List ℕ} {B = Relation} {C = List ℕ} (λ s r. placed s i r) (k .lost-are) lost-is ∙ filled-more (lostOf old (o .new)) lost (sized (widths (nodesOf net)) (lostOf old (o .new)) lost-fit) i (below (lostOf old (o .new)) lost-fit);
-            gains-are = sizes-more (gainedOf old (o .new)) i gains (sizes .gained) (below (gainedOf old (o .new)) gained-fit) (short (gainedOf old (o .new)) gained-fit) (k .gains-are) (ap (λ (x : Sizes). x .gained) (n .sizes-are) ∙ ap length gained-is);
-            losses-are = sizes-more (lostOf old (o .new)) i losses (sizes .lost) (below (lostOf old (o .new)) lost-fit) (short (lostOf old (o .new)) lost-fit) (k .losses-are) (ap (λ (x : Sizes). x .lost) (n .sizes-are) ∙ ap length lost-is);
+            rows-are = n .rows-are ∙ ap₂ {A = List ℕ} {B = Relation} {C = List ℕ} (λ s r. placed s i r) (k .rows-are) is
+                ∙ filled-more (o .new) rows (sized (widths (nodesOf net)) (o .new) (o .fits)) i (below (o .new) (o .fits));
+            gained-are = n .gained-are ∙ ap₂ {A = List ℕ} {B = Relation} {C = List ℕ} (λ s r. placed s i r) (k .gained-are) gained-is
+                ∙ filled-more (gainedOf old (o .new)) gained (sized (widths (nodesOf net)) (gainedOf old (o .new)) gained-fit) i (below (gainedOf old (o .new)) gained-fit);
+            lost-are = n .lost-are ∙ ap₂ {A = List ℕ} {B = Relation} {C = List ℕ} (λ s r. placed s i r) (k .lost-are) lost-is
+                ∙ filled-more (lostOf old (o .new)) lost (sized (widths (nodesOf net)) (lostOf old (o .new)) lost-fit) i (below (lostOf old (o .new)) lost-fit);
+            gains-are = sizes-more (gainedOf old (o .new)) i gains (sizes .gained) (below (gainedOf old (o .new)) gained-fit) (short (gainedOf old (o .new)) gained-fit) (k .gains-are)
+                (ap (λ (x : Sizes). x .gained) (n .sizes-are) ∙ ap length gained-is);
+            losses-are = sizes-more (lostOf old (o .new)) i losses (sizes .lost) (below (lostOf old (o .new)) lost-fit) (short (lostOf old (o .new)) lost-fit) (k .losses-are)
+                (ap (λ (x : Sizes). x .lost) (n .sizes-are) ∙ ap length lost-is);
           }
         where
           below : (rels : List Relation) → Fitting (widths (nodesOf net)) rels → i < length rels
@@ -255,11 +275,18 @@ module _ (net : Network) (rows gained lost head work counts : List ℕ) (changed
   -- the lengths stay
   pub writes-lengths : (rows′ gained′ lost′ gains losses : List ℕ) (i : ℕ) → i ≤ net .count → WritesNodes (nodesOf net) (o .new) rows gained lost head rows′ gained′ lost′ gains losses i →
       (length rows′ ≡ length rows) × (length gained′ ≡ length gained) × (length lost′ ≡ length lost) × (length gains ≡ 32) × (length losses ≡ 32)
-  writes-lengths rows′ gained′ lost′ gains losses i h k =
-      (area (o .new) rows rows′ (o .fits) (longs .0) (k .rows-are), area (gainedOf old (o .new)) gained gained′ gained-fit (longs .1) (k .gained-are), area (lostOf old (o .new)) lost lost′ lost-fit (longs .2) (k .lost-are), array (gainedOf old (o .new)) gains gained-fit (k .gains-are), array (lostOf old (o .new)) losses lost-fit (k .losses-are))
+  writes-lengths rows′ gained′ lost′ gains losses i h k = (
+    area (o .new) rows rows′ (o .fits) (longs .0) (k .rows-are),
+    area (gainedOf old (o .new)) gained gained′ gained-fit (longs .1) (k .gained-are),
+    area (lostOf old (o .new)) lost lost′ lost-fit (longs .2) (k .lost-are),
+    array (gainedOf old (o .new)) gains gained-fit (k .gains-are),
+    array (lostOf old (o .new)) losses lost-fit
+        (k .losses-are),
+  )
     where
       area : (rels : List Relation) (x y : List ℕ) → Fitting (widths (nodesOf net)) rels → 8192 ≤ length x → y ≡ filled rels i x → length y ≡ length x
       area rels x y f l e = ap length e ∙ filled-length rels x (sized (widths (nodesOf net)) rels f) i (omega (arith, f .size, size, h)) (omega (arith, h, few-nodes, l))
 
       array : (rels : List Relation) (x : List ℕ) → Fitting (widths (nodesOf net)) rels → x ≡ padded 32 (map length (take i rels)) → length x ≡ 32
-      array rels x f e = ap length e ∙ padded-length 32 (map length (take i rels)) (rw (length-map (take i rels) length, length-take-le i rels (omega (arith, f .size, size, h))) (omega (arith, h, few-nodes)))
+      array rels x f e = ap length e
+          ∙ padded-length 32 (map length (take i rels)) (rw (length-map (take i rels) length, length-take-le i rels (omega (arith, f .size, size, h))) (omega (arith, h, few-nodes)))

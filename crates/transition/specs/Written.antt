@@ -2,20 +2,20 @@
 use mathlib.Core.Path.{_≡_}
 use mathlib.Core.Bool.{Bool, true, false, _&&_, cond}
 use mathlib.Core.List.{List, [], _∷_, _++_, map, zipWith, flatMap}
-use Prim.Native.Nat.{ℕ, _+_, _*_, _≤_, _<_}
+use Prim.Native.Nat.{ℕ, _+_, _*_}
 use lib.Dec.{eqb, ltb}
 use lib.ListN.{getD, length, take, drop}
 use lib.Seq.{paste}
 use Rattle.model.specs.Row.{Relation, keep, numbersBelow}
 use Rattle.model.specs.Algebra.{differenceRows}
 use Rattle.model.specs.Network.{Node, widths}
-use Rattle.model.specs.Delta.{Change, netChanges}
+use Rattle.model.specs.Delta.{netChanges}
 use Rattle.model.specs.Station.{State, stampOf, workedList}
 use Rattle.model.specs.Areas.{Areas, layout, placeOf, areaOf, headOf, over, padded, stampAt, goodForm, longEnough, rowsIn}
 use Rattle.network.specs.declared.Network.{Network}
 use Rattle.network.specs.Reading.{nodesOf, Built, noSlot}
 use Rattle.areas.specs.Lent.{lent}
-use Rattle.propagation.specs.Propagated.{Working, working, WorkedTo, inputChanged}
+use Rattle.propagation.specs.Propagated.{working, WorkedTo, inputChanged}
 use Rattle.states.proofs.Written.{Fitting}
 use Rattle.transition.specs.declared.Sizes.{Sizes}
 
@@ -44,7 +44,8 @@ abbrev pub lostOf : List Relation → List Relation → List Relation
 lostOf old new = map (λ c. c .lost) (netChanges old new)
 
 -- the places of the first i nodes are written, with the sizes of their changes
-pub record WritesNodes (nodes : List Node) (new : List Relation) (rows gained lost head rows′ gained′ lost′ gains losses : List ℕ) (i : ℕ) : Type 0 where
+pub record WritesNodes (nodes : List Node) (new : List Relation) (rows gained lost head rows′ gained′ lost′ gains losses : List ℕ)
+    (i : ℕ) : Type 0 where
   pub rows-are : rows′ ≡ filled new i rows
   pub gained-are : gained′ ≡ filled (gainedOf (rowsIn layout nodes (lent rows gained lost head)) new) i gained
   pub lost-are : lost′ ≡ filled (lostOf (rowsIn layout nodes (lent rows gained lost head)) new) i lost

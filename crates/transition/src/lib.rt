@@ -1,7 +1,7 @@
 // An accepted batch written: each node's new rows and its change, and the head.
 ghost use mathlib.Core.Path.{_≡_};
-ghost use mathlib.Core.Bool.{Bool, true, false, cond};
-ghost use mathlib.Core.List.{List, _++_, _∷_, []};
+ghost use mathlib.Core.Bool.{true, false, cond};
+ghost use mathlib.Core.List.{List, []};
 ghost use Prim.Native.Nat.{ℕ, _+_, _*_, _≤_, _<_};
 ghost use lib.Dec.{eqb};
 ghost use lib.ListN.{length, replicate};
@@ -10,13 +10,14 @@ ghost use Rattle.model.specs.Row.{Relation, ascending, keepIf};
 ghost use Rattle.model.specs.Network.{AllFit};
 ghost use Rattle.model.specs.Algebra.{differenceRows};
 ghost use Rattle.model.specs.Areas.{layout, padded, over, stateIn, rowsIn, batchNumber};
-ghost use Rattle.rows.specs.Rows.{stride, firstRows};
+ghost use Rattle.rows.specs.Rows.{firstRows};
 ghost use Rattle.network.specs.Reading.{nodesOf, Built, slotNode};
 ghost use Rattle.areas.specs.Lent.{lent, placeAt};
 ghost use Rattle.algebra.specs.Places.{Place, relationIn};
 ghost use Rattle.evaluation.specs.Derived.{leftOf, rightOf};
 ghost use Rattle.propagation.specs.Propagated.{inputChanged};
-ghost use Rattle.transition.specs.Written.{isOfLevel, placed, WritesNode, WritesNodes, stampsFrom, listedMarks, levelList, listTo, headFrom, nextState, holdingRows, WorkedOut};
+ghost use Rattle.transition.specs.Written.{isOfLevel, placed, WritesNode, WritesNodes, stampsFrom, listedMarks, levelList, listTo, headFrom};
+ghost use Rattle.transition.specs.Written.{nextState, holdingRows, WorkedOut};
 use areas::COUNTS;
 use areas::GAINED;
 use areas::LOST;
@@ -37,8 +38,11 @@ fn write_difference(
     area: &mut [u32],
     i: usize,
 ) -> usize
-    requires { ⌜ (i < 32) × (8192 ≤ length (now area)) × (n ≤ 64) × (m ≤ 64) × (length (now left) ≡ 256) × (length (now right) ≡ 256) × (ascending (firstRows (now right) m) ≡ true) ⌝ }
-    ensures { λ r. ⌜ ((w : ℕ) → Place w (now (left .entry)) n → Place w (now (right .entry)) m → (now (area .exit) ≡ placed (now (area .entry)) i (differenceRows (relationIn w (now (left .entry)) n) (relationIn w (now (right .entry)) m))) × (r ≡ length (differenceRows (relationIn w (now (left .entry)) n) (relationIn w (now (right .entry)) m)))) ⌝ }
+    requires { ⌜ (i < 32) × (8192 ≤ length (now area)) × (n ≤ 64) × (m ≤ 64) × (length (now left) ≡ 256) × (length (now right) ≡ 256)
+        × (ascending (firstRows (now right) m) ≡ true) ⌝ }
+    ensures { λ r. ⌜ ((w : ℕ) → Place w (now (left .entry)) n → Place w (now (right .entry)) m →
+        (now (area .exit) ≡ placed (now (area .entry)) i (differenceRows (relationIn w (now (left .entry)) n) (relationIn w (now (right .entry)) m)))
+        × (r ≡ length (differenceRows (relationIn w (now (left .entry)) n) (relationIn w (now (right .entry)) m)))) ⌝ }
 {
     let mut out = [0u32; PLACE];
     let count = algebra::difference_rows(left, n, right, m, &mut out);
@@ -70,8 +74,11 @@ fn write_change(
     gained: &mut [u32],
     lost: &mut [u32],
 ) -> Sizes
-    requires { ⌜ (i < 32) × (8192 ≤ length (now work)) × (8192 ≤ length (now rows)) × (8192 ≤ length (now gained)) × (8192 ≤ length (now lost)) × (n ≤ 64) × (m ≤ 64) × (ascending (firstRows (placeAt (now work) i) n) ≡ true) × (ascending (firstRows (placeAt (now rows) i) m) ≡ true) ⌝ }
-    ensures { λ r. ⌜ ((w : ℕ) → Place w (placeAt (now (work .entry)) i) n → Place w (placeAt (now (rows .entry)) i) m → WritesNode (relationIn w (placeAt (now (rows .entry)) i) m) (relationIn w (placeAt (now (work .entry)) i) n) (now (rows .entry)) (now (gained .entry)) (now (lost .entry)) (now (rows .exit)) (now (gained .exit)) (now (lost .exit)) i r) ⌝ }
+    requires { ⌜ (i < 32) × (8192 ≤ length (now work)) × (8192 ≤ length (now rows)) × (8192 ≤ length (now gained)) × (8192 ≤ length (now lost))
+        × (n ≤ 64) × (m ≤ 64) × (ascending (firstRows (placeAt (now work) i) n) ≡ true) × (ascending (firstRows (placeAt (now rows) i) m) ≡ true) ⌝ }
+    ensures { λ r. ⌜ ((w : ℕ) → Place w (placeAt (now (work .entry)) i) n → Place w (placeAt (now (rows .entry)) i) m →
+        WritesNode (relationIn w (placeAt (now (rows .entry)) i) m) (relationIn w (placeAt (now (work .entry)) i) n) (now (rows .entry))
+        (now (gained .entry)) (now (lost .entry)) (now (rows .exit)) (now (gained .exit)) (now (lost .exit)) i r) ⌝ }
 {
     let at = i * PLACE;
     let end = at + PLACE;
@@ -94,8 +101,14 @@ fn write_node(
     lost: &mut [u32],
     l: usize,
 ) -> Sizes
-    requires { ⌜ (i < 32) × (8192 ≤ length (now work)) × (8192 ≤ length (now rows)) × (8192 ≤ length (now gained)) × (8192 ≤ length (now lost)) × (n ≤ 64) × (m ≤ 64) × (g ≤ 64) × (l ≤ 64) × (ascending (firstRows (placeAt (cond changed (now work) (now rows)) i) n) ≡ true) × (ascending (firstRows (placeAt (now rows) i) m) ≡ true) × (changed ≡ false → n ≡ m) ⌝ }
-    ensures { λ r. ⌜ ((w : ℕ) → Place w (placeAt (cond changed (now (work .entry)) (now (rows .entry))) i) n → Place w (placeAt (now (rows .entry)) i) m → Place w (placeAt (now (gained .entry)) i) g → Place w (placeAt (now (lost .entry)) i) l → WritesNode (relationIn w (placeAt (now (rows .entry)) i) m) (relationIn w (placeAt (cond changed (now (work .entry)) (now (rows .entry))) i) n) (now (rows .entry)) (now (gained .entry)) (now (lost .entry)) (now (rows .exit)) (now (gained .exit)) (now (lost .exit)) i r) ⌝ }
+    requires { ⌜ (i < 32) × (8192 ≤ length (now work)) × (8192 ≤ length (now rows)) × (8192 ≤ length (now gained)) × (8192 ≤ length (now lost))
+        × (n ≤ 64) × (m ≤ 64) × (g ≤ 64) × (l ≤ 64) × (ascending (firstRows (placeAt (cond changed (now work) (now rows)) i) n) ≡ true)
+        × (ascending (firstRows (placeAt (now rows) i) m) ≡ true) × (changed ≡ false → n ≡ m) ⌝ }
+    ensures { λ r. ⌜ ((w : ℕ) → Place w (placeAt (cond changed (now (work .entry)) (now (rows .entry))) i) n →
+        Place w (placeAt (now (rows .entry)) i) m → Place w (placeAt (now (gained .entry)) i) g → Place w (placeAt (now (lost .entry)) i) l →
+        WritesNode (relationIn w (placeAt (now (rows .entry)) i) m)
+        (relationIn w (placeAt (cond changed (now (work .entry)) (now (rows .entry))) i) n) (now (rows .entry)) (now (gained .entry))
+        (now (lost .entry)) (now (rows .exit)) (now (gained .exit)) (now (lost .exit)) i r) ⌝ }
 {
     if changed {
         return write_change(i, work, n, rows, m, gained, lost);
@@ -118,8 +131,12 @@ fn write_nodes(
     gains: &mut [u32],
     losses: &mut [u32],
 )
-    requires { ⌜ WorkedOut net (now rows) (now gained) (now lost) (now head) (now work) (now counts) (now changed) × (now gains ≡ replicate 32 0) × (now losses ≡ replicate 32 0) ⌝ }
-    ensures { λ _. ⌜ ((o : WorkedOut net (now (rows .entry)) (now (gained .entry)) (now (lost .entry)) (now (head .entry)) (now (work .entry)) (now (counts .entry)) (now (changed .entry))) → WritesNodes (nodesOf net) (o .new) (now (rows .entry)) (now (gained .entry)) (now (lost .entry)) (now (head .entry)) (now (rows .exit)) (now (gained .exit)) (now (lost .exit)) (now (gains .exit)) (now (losses .exit)) (net .count)) ⌝ }
+    requires { ⌜ WorkedOut net (now rows) (now gained) (now lost) (now head) (now work) (now counts) (now changed) × (now gains ≡ replicate 32 0)
+        × (now losses ≡ replicate 32 0) ⌝ }
+    ensures { λ _. ⌜ ((o : WorkedOut net (now (rows .entry)) (now (gained .entry)) (now (lost .entry)) (now (head .entry)) (now (work .entry))
+        (now (counts .entry)) (now (changed .entry))) →
+        WritesNodes (nodesOf net) (o .new) (now (rows .entry)) (now (gained .entry)) (now (lost .entry)) (now (head .entry)) (now (rows .exit))
+        (now (gained .exit)) (now (lost .exit)) (now (gains .exit)) (now (losses .exit)) (net .count)) ⌝ }
 {
     let mut i = 0;
     while i < net.count {
@@ -194,8 +211,11 @@ fn list_node(
     entries: &mut [u32],
     k: usize,
 ) -> usize
-    requires { ⌜ (i < length (now levels)) × (i < length (now listed)) × (i < 32) × (length (now entries) ≡ 32) × (k + length (keepIf (isOfLevel (now levels) (now listed) level i) i []) ≤ 32) ⌝ }
-    ensures { λ r. ⌜ (now (entries .exit) ≡ sets (now (entries .entry)) k (keepIf (isOfLevel (now (levels .entry)) (now (listed .entry)) level i) i [])) × (r ≡ k + length (keepIf (isOfLevel (now (levels .entry)) (now (listed .entry)) level i) i [])) ⌝ }
+    requires { ⌜ (i < length (now levels)) × (i < length (now listed)) × (i < 32) × (length (now entries) ≡ 32)
+        × (k + length (keepIf (isOfLevel (now levels) (now listed) level i) i []) ≤ 32) ⌝ }
+    ensures { λ r. ⌜ (now (entries .exit)
+        ≡ sets (now (entries .entry)) k (keepIf (isOfLevel (now (levels .entry)) (now (listed .entry)) level i) i []))
+        × (r ≡ k + length (keepIf (isOfLevel (now (levels .entry)) (now (listed .entry)) level i) i [])) ⌝ }
 {
     if levels[i] != level {
         return k;
@@ -216,8 +236,10 @@ fn list_level(
     entries: &mut [u32],
     k: usize,
 ) -> usize
-    requires { ⌜ (n ≤ length (now levels)) × (n ≤ length (now listed)) × (n ≤ 32) × (length (now entries) ≡ 32) × (k + length (levelList (now levels) (now listed) n level) ≤ 32) ⌝ }
-    ensures { λ r. ⌜ (now (entries .exit) ≡ sets (now (entries .entry)) k (levelList (now (levels .entry)) (now (listed .entry)) n level)) × (r ≡ k + length (levelList (now (levels .entry)) (now (listed .entry)) n level)) ⌝ }
+    requires { ⌜ (n ≤ length (now levels)) × (n ≤ length (now listed)) × (n ≤ 32) × (length (now entries) ≡ 32)
+        × (k + length (levelList (now levels) (now listed) n level) ≤ 32) ⌝ }
+    ensures { λ r. ⌜ (now (entries .exit) ≡ sets (now (entries .entry)) k (levelList (now (levels .entry)) (now (listed .entry)) n level))
+        × (r ≡ k + length (levelList (now (levels .entry)) (now (listed .entry)) n level)) ⌝ }
 {
     let mut end = k;
     let mut i = 0;
@@ -231,7 +253,8 @@ fn list_level(
 // The listed nodes by level, then number, put in an array of zeros: how many.
 fn list_worked(levels: &[usize], listed: &[bool], n: usize, entries: &mut [u32]) -> usize
     requires { ⌜ (n ≤ length (now levels)) × (n ≤ length (now listed)) × (n ≤ 32) × (now entries ≡ replicate 32 0) ⌝ }
-    ensures { λ r. ⌜ (now (entries .exit) ≡ padded 32 (listTo (now (levels .entry)) (now (listed .entry)) n n)) × (r ≡ length (listTo (now (levels .entry)) (now (listed .entry)) n n)) × (r ≤ 32) ⌝ }
+    ensures { λ r. ⌜ (now (entries .exit) ≡ padded 32 (listTo (now (levels .entry)) (now (listed .entry)) n n))
+        × (r ≡ length (listTo (now (levels .entry)) (now (listed .entry)) n n)) × (r ≤ 32) ⌝ }
 {
     let mut k = 0;
     let mut level = 0;
@@ -253,8 +276,11 @@ fn write_head(
     k: usize,
     entries: &[u32],
 )
-    requires { ⌜ (162 ≤ length (now head)) × (length (now counts) ≡ 32) × (length (now stamps) ≡ 32) × (length (now gains) ≡ 32) × (length (now losses) ≡ 32) × (k ≤ 32) × (length (now entries) ≡ 32) ⌝ }
-    ensures { λ _. ⌜ now (head .exit) ≡ over (headFrom number (now (counts .entry)) (now (stamps .entry)) (now (gains .entry)) (now (losses .entry)) k (now (entries .entry))) (now (head .entry)) ⌝ }
+    requires { ⌜ (162 ≤ length (now head)) × (length (now counts) ≡ 32) × (length (now stamps) ≡ 32) × (length (now gains) ≡ 32)
+        × (length (now losses) ≡ 32) × (k ≤ 32) × (length (now entries) ≡ 32) ⌝ }
+    ensures { λ _. ⌜ now (head .exit)
+        ≡ over (headFrom number (now (counts .entry)) (now (stamps .entry)) (now (gains .entry)) (now (losses .entry)) k (now (entries .entry)))
+        (now (head .entry)) ⌝ }
 {
     head[0] = number;
     words::copy_run(counts, 0, head, COUNTS, NODES);
@@ -276,8 +302,16 @@ pub fn write_state(
     lost: &mut [u32],
     head: &mut [u32],
 )
-    requires { ⌜ WorkedOut net (now rows) (now gained) (now lost) (now head) (now work) (now counts) (now changed) × AllFit (nodesOf net) × (batchNumber (now head) ≡ 4294967295 → ⊥) ⌝ }
-    ensures { λ _. ⌜ ((o : WorkedOut net (now (rows .entry)) (now (gained .entry)) (now (lost .entry)) (now (head .entry)) (now (work .entry)) (now (counts .entry)) (now (changed .entry))) (copy : List Relation) → lent (now (rows .exit)) (now (gained .exit)) (now (lost .exit)) (now (head .exit)) ≡ holdingRows (o .new) (nextState (nodesOf net) (stateIn layout (nodesOf net) (lent (now (rows .entry)) (now (gained .entry)) (now (lost .entry)) (now (head .entry)))) copy (rowsIn layout (nodesOf net) (lent (now (rows .entry)) (now (gained .entry)) (now (lost .entry)) (now (head .entry)))) (o .new)) (lent (now (rows .entry)) (now (gained .entry)) (now (lost .entry)) (now (head .entry)))) ⌝ }
+    requires { ⌜ WorkedOut net (now rows) (now gained) (now lost) (now head) (now work) (now counts) (now changed) × AllFit (nodesOf net)
+        × (batchNumber (now head) ≡ 4294967295 → ⊥) ⌝ }
+    ensures { λ _. ⌜ ((o : WorkedOut net (now (rows .entry)) (now (gained .entry)) (now (lost .entry)) (now (head .entry)) (now (work .entry))
+        (now (counts .entry)) (now (changed .entry))) (copy : List Relation) →
+        lent (now (rows .exit)) (now (gained .exit)) (now (lost .exit)) (now (head .exit))
+        ≡ holdingRows (o .new)
+        (nextState (nodesOf net)
+        (stateIn layout (nodesOf net) (lent (now (rows .entry)) (now (gained .entry)) (now (lost .entry)) (now (head .entry)))) copy
+        (rowsIn layout (nodesOf net) (lent (now (rows .entry)) (now (gained .entry)) (now (lost .entry)) (now (head .entry)))) (o .new))
+        (lent (now (rows .entry)) (now (gained .entry)) (now (lost .entry)) (now (head .entry)))) ⌝ }
 {
     let number = head[0] + 1;
     let count = net.count;

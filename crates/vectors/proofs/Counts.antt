@@ -13,7 +13,8 @@ use Rattle.vectors.specs.declared.Vector.{Vector}
 use Rattle.vectors.specs.Packed.{Counted, Inside, comesOut, goodOf, noVector, packedSize, vectorAt, vectorOf, vectorsFrom, within}
 
 -- areas of the same lengths are long enough too
-pub long-same : (rows gained lost head rows₀ gained₀ lost₀ head₀ : List ℕ) → length rows ≡ length rows₀ → length gained ≡ length gained₀ → length lost ≡ length lost₀ → length head ≡ length head₀ →
+pub long-same : (rows gained lost head rows₀ gained₀ lost₀ head₀ : List ℕ) → length rows ≡ length rows₀ → length gained ≡ length gained₀ → length lost ≡ length lost₀ →
+    length head ≡ length head₀ →
     longEnough layout (lent rows₀ gained₀ lost₀ head₀) ≡ true → longEnough layout (lent rows gained lost head) ≡ true
 unfolding longEnough
 long-same rows gained lost head rows₀ gained₀ lost₀ head₀ e f g h k = rw (e, f, g, h) k

@@ -1,14 +1,14 @@
 -- Runs of words: copied, cleared, tested, one word at a time. Assumes nothing.
 use mathlib.Core.Path.{_≡_, refl, sym, ap, ap₂, _∙_}
 use mathlib.Core.Bool.{Bool, true, false, _&&_}
-use mathlib.Core.List.{List, [], _∷_, _++_}
-use Prim.Native.Nat.{ℕ, zero, suc, _+_, _-_, _≤_, _<_, compare, Ordering, Ordering·lt, Ordering·eq, Ordering·gt}
+use mathlib.Core.List.{List}
+use Prim.Native.Nat.{ℕ, suc, _+_, _-_, _≤_, _<_, compare, Ordering, Ordering·lt, Ordering·eq, Ordering·gt}
 use native.Mathlib.Omega.{arith}
 use native.Mathlib.Numerals.{add-one}
 use lib.Dec.{isEq, eqb}
 use lib.Bits.{bitOr, or-zero-l, or-add-and, and-le-r}
-use lib.ListN.{length, getD, set, take, drop, replicate, getD-replicate, length-replicate, length-drop}
-use lib.Seq.{paste, paste-zero, paste-suc, slice, slice-cons, slice-empty, getD-drop}
+use lib.ListN.{length, getD, set, drop, replicate, getD-replicate, length-replicate, length-drop}
+use lib.Seq.{paste, paste-suc, slice, slice-cons, slice-empty, getD-drop}
 use borrow.Author.Tests.{eqb-false, eqb-true, ne-eqb}
 use Rattle.model.specs.Row.{order, sameRow, andThen}
 use Rattle.model.specs.Areas.{allZero}

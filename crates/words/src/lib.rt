@@ -1,8 +1,8 @@
 // Runs of words in a slice: copied, cleared, tested.
 ghost use mathlib.Core.Path.{_≡_};
-ghost use mathlib.Core.Bool.{Bool, true, false};
-ghost use Prim.Native.Nat.{ℕ, _+_, _-_, _≤_};
-ghost use lib.ListN.{length, take, drop, replicate};
+ghost use mathlib.Core.Bool.{true, false};
+ghost use Prim.Native.Nat.{_+_, _-_, _≤_};
+ghost use lib.ListN.{length, drop, replicate};
 ghost use lib.Seq.{paste, slice};
 ghost use Rattle.model.specs.Areas.{allZero};
 ghost use Rattle.words.specs.Runs.{sameFirst};

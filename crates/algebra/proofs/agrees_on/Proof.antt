@@ -57,7 +57,8 @@ shared-slice-read-result-4 c = search needs
 returns : tie.Need-returns
 returns c =
     let a = c .before .before .before .before .args in
-    ap₂ (λ (x y : ℕ). eqb x y) (sym (row-cell (a .left .now) (a .i) (getD (a .pairs .now) (2 * a .k) 0) (c .before .before .before .before .pre .3))) (sym (row-cell (a .right .now) (a .j) (getD (a .pairs .now) (2 * a .k + 1) 0) (c .before .before .before .before .pre .4)))
+    ap₂ (λ (x y : ℕ). eqb x y) (sym (row-cell (a .left .now) (a .i) (getD (a .pairs .now) (2 * a .k) 0) (c .before .before .before .before .pre .3)))
+    (sym (row-cell (a .right .now) (a .j) (getD (a .pairs .now) (2 * a .k + 1) 0) (c .before .before .before .before .pre .4)))
 
 pub agrees-on-spec : {M : Type 1} → statement M
 agrees-on-spec =

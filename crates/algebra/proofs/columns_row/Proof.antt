@@ -18,7 +18,8 @@ abbrev μ-loop : tie.MeasureT-loop
 μ-loop left i right j split columns n row₀ k₀ row k = n - k
 
 loop-holds : tie.Need-loop-holds Inv-loop μ-loop
-loop-holds c = let a = c .before .before .before .args in (omega arith, row-started (joinedField (a .split) (rowAt stride (a .left .now) (a .i)) (rowAt stride (a .right .now) (a .j))) (a .columns .now), refl)
+loop-holds c = let a = c .before .before .before .args
+    in (omega arith, row-started (joinedField (a .split) (rowAt stride (a .left .now) (a .i)) (rowAt stride (a .right .now) (a .j))) (a .columns .now), refl)
 
 mul-joined-field : tie.Need-mul-joined-field Inv-loop μ-loop
 mul-joined-field c = omega arith
@@ -27,7 +28,13 @@ shared-slice-read-joined-field : tie.Need-shared-slice-read-joined-field Inv-loo
 shared-slice-read-joined-field c = omega arith
 
 joined-field-requires : tie.Need-joined-field-requires Inv-loop μ-loop
-joined-field-requires c κs = let a = c .before .before .before .before .before .before .args in (c .before .before .before .before .before .before .pre .0, c .before .before .before .before .before .before .pre .1, c .before .before .before .before .before .before .pre .2, column-below (a .split + stride) (a .columns .now) (a .n) (c .before .before .loop .k) (c .before .before .before .before .before .before .pre .5) (omega arith) (omega arith))
+joined-field-requires c κs = let a = c .before .before .before .before .before .before .args
+    in (
+      c .before .before .before .before .before .before .pre .0,
+      c .before .before .before .before .before .before .pre .1,
+      c .before .before .before .before .before .before .pre .2,
+      column-below (a .split + stride) (a .columns .now) (a .n) (c .before .before .loop .k) (c .before .before .before .before .before .before .pre .5) (omega arith) (omega arith),
+    )
 
 mul-row : tie.Need-mul-row Inv-loop μ-loop
 mul-row c = omega arith
@@ -42,7 +49,13 @@ loop-less : tie.Need-loop-less Inv-loop μ-loop
 loop-less c = omega arith
 
 loop-again : tie.Need-loop-again Inv-loop μ-loop
-loop-again c = let a = c .before .before .before .before .before .before .before .args in (omega arith, row-filled (joinedField (a .split) (rowAt stride (a .left .now) (a .i)) (rowAt stride (a .right .now) (a .j))) (a .columns .now) (c .before .before .before .loop .k) (c .before .before .before .loop .row) (c .joined-field .result) (omega arith) (omega arith) (c .before .before .before .loop .inv .1) (c .joined-field .ensures), length-set (c .before .before .before .loop .row) (c .before .before .before .loop .k) (c .joined-field .result) ∙ c .before .before .before .loop .inv .2)
+loop-again c = let a = c .before .before .before .before .before .before .before .args
+    in (
+      omega arith,
+      row-filled (joinedField (a .split) (rowAt stride (a .left .now) (a .i)) (rowAt stride (a .right .now) (a .j))) (a .columns .now) (c .before .before .before .loop .k)
+          (c .before .before .before .loop .row) (c .joined-field .result) (omega arith) (omega arith) (c .before .before .before .loop .inv .1) (c .joined-field .ensures),
+      length-set (c .before .before .before .loop .row) (c .before .before .before .loop .k) (c .joined-field .result) ∙ c .before .before .before .loop .inv .2,
+    )
 
 returns : tie.Need-returns Inv-loop μ-loop
 returns c = let a = c .before .before .before .before .before .args in let e : c .before .loop .k ≡ a .n = omega arith in rw (← e) (c .before .loop .inv .1)

@@ -1,8 +1,7 @@
-use mathlib.Core.Path.{_≡_, sym}
+use mathlib.Core.Path.{sym}
 use Rattle.model.specs.Algebra.{compareFields}
 use Rattle.model.proofs.Order.{lt-compare, gt-compare, eq-compare}
 use native.Mathlib.Omega.{arith}
-use borrow.Author.Needs.{needs}
 use Rattle.algebra.proofs.compare_values.Statement.{statement}
 use Rattle.algebra.proofs.compare_values.Tie as tie
 use Rattle.algebra.proofs.compare_values.Reads as reads

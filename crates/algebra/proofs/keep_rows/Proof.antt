@@ -1,13 +1,12 @@
-use mathlib.Core.Path.{_≡_, refl, sym, ap, _∙_}
+use mathlib.Core.Path.{_≡_, sym, ap, _∙_}
 use mathlib.Core.Bool.{Bool, Bool·beq}
-use Prim.Native.Nat.{ℕ, _≤_, _-_, _+_, _*_}
+use Prim.Native.Nat.{_≤_, _-_}
 use lib.ListN.{length}
-use Rattle.model.specs.Row.{Row, member}
+use Rattle.model.specs.Row.{member}
 use Rattle.rows.specs.Rows.{firstRows}
 use Rattle.algebra.specs.Places.{Kept}
 use Rattle.algebra.proofs.Places.{kept-start, kept-no, kept-copied}
 use native.Mathlib.Omega.{arith}
-use borrow.Author.Needs.{needs}
 use Rattle.algebra.proofs.keep_rows.Statement.{statement}
 use Rattle.algebra.proofs.keep_rows.Tie as tie
 use Rattle.algebra.proofs.keep_rows.Reads as reads
@@ -22,7 +21,8 @@ abbrev μ-loop : tie.MeasureT-loop
 μ-loop left n right m wanted out₀ count₀ i₀ out count i = n - i
 
 loop-holds : tie.Need-loop-holds Inv-loop μ-loop
-loop-holds c = let a = c .before .before .before .args in (omega arith, kept-start (λ x. Bool·beq (member x (firstRows (a .right .now) (a .m))) (a .wanted)) (a .left .now) (a .out .now) (c .before .before .before .pre .4))
+loop-holds c = let a = c .before .before .before .args
+    in (omega arith, kept-start (λ x. Bool·beq (member x (firstRows (a .right .now) (a .m))) (a .wanted)) (a .left .now) (a .out .now) (c .before .before .before .pre .4))
 
 add-i : tie.Need-add-i Inv-loop μ-loop
 add-i c = omega arith
@@ -47,16 +47,25 @@ loop-less c = omega arith
 
 loop-again : tie.Need-loop-again Inv-loop μ-loop
 loop-again c =
-    let a = c .before .before .before .before .before .before .before .before .before .before .before .args in
-    (omega arith, kept-copied (λ x. Bool·beq (member x (firstRows (a .right .now) (a .m))) (a .wanted)) (a .left .now) (c .before .before .before .before .before .before .before .loop .i) (c .before .before .before .before .before .before .before .loop .out) (c .before .before .copy-run .last .1 .1 .0) (c .before .before .before .before .before .before .before .loop .count) (ap (λ (b : Bool). Bool·beq b (a .wanted)) (sym (c .before .before .before .before .before .contains .ensures)) ∙ c .before .before .before .before .if1 .taken) (omega arith) (omega arith) (c .before .before .before .before .before .before .before .loop .inv .1) (c .before .before .copy-run .ensures))
+    let a = c .before .before .before .before .before .before .before .before .before .before .before .args in (
+      omega arith,
+      kept-copied (λ x. Bool·beq (member x (firstRows (a .right .now) (a .m))) (a .wanted)) (a .left .now) (c .before .before .before .before .before .before .before .loop .i)
+          (c .before .before .before .before .before .before .before .loop .out) (c .before .before .copy-run .last .1 .1 .0)
+          (c .before .before .before .before .before .before .before .loop .count)
+          (ap (λ (b : Bool). Bool·beq b (a .wanted)) (sym (c .before .before .before .before .before .contains .ensures)) ∙ c .before .before .before .before .if1 .taken) (omega arith)
+          (omega arith) (c .before .before .before .before .before .before .before .loop .inv .1) (c .before .before .copy-run .ensures),
+    )
 
 loop-less-2 : tie.Need-loop-less-2 Inv-loop μ-loop
 loop-less-2 c = omega arith
 
 loop-again-2 : tie.Need-loop-again-2 Inv-loop μ-loop
 loop-again-2 c =
-    let a = c .before .before .before .before .before .before .before .args in
-    (omega arith, kept-no (λ x. Bool·beq (member x (firstRows (a .right .now) (a .m))) (a .wanted)) (a .left .now) (c .before .before .before .loop .i) (c .before .before .before .loop .out) (c .before .before .before .loop .count) (ap (λ (b : Bool). Bool·beq b (a .wanted)) (sym (c .before .contains .ensures)) ∙ c .if1 .left) (c .before .before .before .loop .inv .1))
+    let a = c .before .before .before .before .before .before .before .args in (
+      omega arith,
+      kept-no (λ x. Bool·beq (member x (firstRows (a .right .now) (a .m))) (a .wanted)) (a .left .now) (c .before .before .before .loop .i) (c .before .before .before .loop .out)
+          (c .before .before .before .loop .count) (ap (λ (b : Bool). Bool·beq b (a .wanted)) (sym (c .before .contains .ensures)) ∙ c .if1 .left) (c .before .before .before .loop .inv .1),
+    )
 
 same-length : tie.Need-same-length Inv-loop μ-loop
 same-length c = omega (arith, c .before .loop .inv .1 .size, ap length (c .before .before .before .before .before .pre .4))

@@ -1,6 +1,5 @@
-use mathlib.Core.Path.{_≡_, sym, ap, ap₂, _∙_}
-use Prim.Native.Nat.{ℕ, _*_, _+_}
-use lib.ListN.{getD}
+use mathlib.Core.Path.{sym, ap, ap₂, _∙_}
+use Prim.Native.Nat.{ℕ, _*_}
 use Rattle.model.specs.Algebra.{holdsOf, compareFields}
 use Rattle.rows.specs.Rows.{stride, rowAt}
 use Rattle.algebra.proofs.Places.{row-field}
@@ -57,7 +56,8 @@ unfolding rowAt
 returns c =
     let a = c .before .before .before .before .before .before .before .args in
     let left = row-field stride (a .input .now) (a .i * stride) (a .column) (c .before .before .before .before .before .before .before .pre .1) in
-    rw (c .before .before .before .operand .given .1) (c .holds .ensures ∙ ap (holdsOf (a .code)) (c .before .compare-values .ensures ∙ ap (λ (x : ℕ). compareFields x (c .before .before .before .operand .given .0 .0)) (sym left)))
+    rw (c .before .before .before .operand .given .1)
+    (c .holds .ensures ∙ ap (holdsOf (a .code)) (c .before .compare-values .ensures ∙ ap (λ (x : ℕ). compareFields x (c .before .before .before .operand .given .0 .0)) (sym left)))
 
 returns-2 : tie.Need-returns-2
 unfolding rowAt
@@ -66,7 +66,8 @@ returns-2 c =
     let b = rw (c .before .before .before .before .operand2 .given .1) at (c .before .before .before .before .before .before .before .before .pre .3) in
     let left = row-field stride (a .input .now) (a .i * stride) (a .column) (c .before .before .before .before .before .before .before .before .pre .1) in
     let right = row-field stride (a .input .now) (a .i * stride) (c .before .before .before .before .operand2 .given .0 .0) b in
-    rw (c .before .before .before .before .operand2 .given .1) (c .holds2 .ensures ∙ ap (holdsOf (a .code)) (c .before .compare-values2 .ensures ∙ ap₂ (λ (x y : ℕ). compareFields x y) (sym left) (sym right)))
+    rw (c .before .before .before .before .operand2 .given .1)
+    (c .holds2 .ensures ∙ ap (holdsOf (a .code)) (c .before .compare-values2 .ensures ∙ ap₂ (λ (x y : ℕ). compareFields x y) (sym left) (sym right)))
 
 pub passes-spec : {M : Type 1} → statement M
 passes-spec =

@@ -1,4 +1,4 @@
-use mathlib.Core.Path.{_≡_, refl, sym, ap, _∙_}
+use mathlib.Core.Path.{ap, _∙_}
 use native.Mathlib.Omega.{arith}
 use lib.ListN.{length}
 use borrow.Author.Needs.{needs}
@@ -31,19 +31,27 @@ same-length : tie.Need-same-length
 same-length c = search needs
 
 returns : tie.Need-returns
-returns c = let a = c .before .before .before .before .before .before .before .before .args in put-new 64 256 (rowAt stride (a .src .now) (a .i)) (firstRows (a .out .now) (a .n)) (a .out .now) _ (a .n) (c .before .before .before .before .before .before .before .before .pre .0) (length-row stride (a .src .now) (a .i)) (wide-rows stride (a .out .now) 0 (a .n)) (rw (c .enum-told .given .1) at (c .before .before .before .before .insert .ensures))
+returns c = let a = c .before .before .before .before .before .before .before .before .args in put-new 64 256 (rowAt stride (a .src .now) (a .i)) (firstRows (a .out .now) (a .n))
+    (a .out .now) _ (a .n) (c .before .before .before .before .before .before .before .before .pre .0) (length-row stride (a .src .now) (a .i)) (wide-rows stride (a .out .now) 0 (a .n))
+    (rw (c .enum-told .given .1) at (c .before .before .before .before .insert .ensures))
 
 same-length-2 : tie.Need-same-length-2
 same-length-2 c = search needs
 
 returns-2 : tie.Need-returns-2
-returns-2 c = let a = c .before .before .before .before .before .before .before .before .args in put-present 64 256 (rowAt stride (a .src .now) (a .i)) (firstRows (a .out .now) (a .n)) (a .out .now) _ (a .n) (c .before .before .before .before .before .before .before .before .pre .0) (ascending-holds (firstRows (a .out .now) (a .n)) (c .before .before .before .before .before .before .before .before .pre .2)) (rw (c .enum-told2 .given .1) at (c .before .before .before .before .insert .ensures))
+returns-2 c = let a = c .before .before .before .before .before .before .before .before .args in put-present 64 256 (rowAt stride (a .src .now) (a .i)) (firstRows (a .out .now) (a .n))
+    (a .out .now) _ (a .n) (c .before .before .before .before .before .before .before .before .pre .0)
+    (ascending-holds (firstRows (a .out .now) (a .n)) (c .before .before .before .before .before .before .before .before .pre .2))
+    (rw (c .enum-told2 .given .1) at (c .before .before .before .before .insert .ensures))
 
 same-length-3 : tie.Need-same-length-3
 same-length-3 c = search needs
 
 returns-3 : tie.Need-returns-3
-returns-3 c = let a = c .before .before .before .before .before .before .before .before .args in let full = put-full 64 256 (rowAt stride (a .src .now) (a .i)) (firstRows (a .out .now) (a .n)) (a .out .now) _ (a .n) (c .before .before .before .before .before .before .before .before .pre .0) (rw (c .enum-told3 .given .1) at (c .before .before .before .before .insert .ensures)) in (full .0, ap length (full .1) ∙ c .before .before .before .before .before .before .before .before .pre .3)
+returns-3 c = let a = c .before .before .before .before .before .before .before .before .args in let full = put-full 64 256 (rowAt stride (a .src .now) (a .i))
+    (firstRows (a .out .now) (a .n)) (a .out .now) _ (a .n) (c .before .before .before .before .before .before .before .before .pre .0)
+    (rw (c .enum-told3 .given .1) at (c .before .before .before .before .insert .ensures))
+    in (full .0, ap length (full .1) ∙ c .before .before .before .before .before .before .before .before .pre .3)
 
 pub put-row-spec : {M : Type 1} → statement M
 put-row-spec =

@@ -36,8 +36,14 @@ loop-holds c =
     let a = c .before .before .before .before .before .before .before .args in
     let asc = ascending-holds (firstRows (a .right .now) (a .m)) (c .before .before .before .before .before .before .before .pre .3) in
     let e = c .before .before .copy-run .ensures ∙ ap (λ (d : List ℕ). paste d 0 (drop 0 (a .right .now)) (a .m * 4)) (c .before .before .before .before .before .before .before .pre .4) in
-    let s = put-start alone (firstRows (a .right .now) (a .m)) (a .left .now) (a .n) wide-alone (wide-rows 4 (a .right .now) 0 (a .m)) asc (c .before .before .copy-run .last .1 .1 .0) (a .m) (union-start (a .right .now) (a .m) (c .before .before .copy-run .last .1 .1 .0) (c .before .before .before .before .before .before .before .pre .1) (c .before .before .before .before .before .before .before .pre .2) e) in
-    (omega arith, put-size alone (firstRows (a .right .now) (a .m)) (a .left .now) (a .n) wide-alone (wide-rows 4 (a .right .now) 0 (a .m)) asc (a .n) (c .before .before .copy-run .last .1 .1 .0) (a .m) s, s)
+    let s = put-start alone (firstRows (a .right .now) (a .m)) (a .left .now) (a .n) wide-alone (wide-rows 4 (a .right .now) 0 (a .m)) asc (c .before .before .copy-run .last .1 .1 .0) (a .m)
+    (union-start (a .right .now) (a .m) (c .before .before .copy-run .last .1 .1 .0) (c .before .before .before .before .before .before .before .pre .1)
+    (c .before .before .before .before .before .before .before .pre .2) e) in (
+      omega arith,
+      put-size alone (firstRows (a .right .now) (a .m)) (a .left .now) (a .n) wide-alone (wide-rows 4 (a .right .now) 0 (a .m)) asc (a .n)
+          (c .before .before .copy-run .last .1 .1 .0) (a .m) s,
+      s,
+    )
 
 sub-i : tie.Need-sub-i Inv-loop μ-loop
 sub-i c = omega arith
@@ -46,7 +52,8 @@ put-row-requires : tie.Need-put-row-requires Inv-loop μ-loop
 put-row-requires c κs =
     let a = c .before .before .before .before .before .before .before .before .before .before .args in
     let asc = ascending-holds (firstRows (a .right .now) (a .m)) (c .before .before .before .before .before .before .before .before .before .before .pre .3) in
-    let r = put-ready alone (firstRows (a .right .now) (a .m)) (a .left .now) (a .n) wide-alone (wide-rows 4 (a .right .now) 0 (a .m)) asc (c .before .before .loop .i) (c .before .before .loop .out) (c .before .before .loop .count) (c .before .before .loop .inv .2) in
+    let r = put-ready alone (firstRows (a .right .now) (a .m)) (a .left .now) (a .n) wide-alone (wide-rows 4 (a .right .now) 0 (a .m)) asc (c .before .before .loop .i)
+    (c .before .before .loop .out) (c .before .before .loop .count) (c .before .before .loop .inv .2) in
     (r .0, omega arith, r .1, c .before .before .loop .inv .1)
 
 enum-known-more : tie.Need-enum-known-more Inv-loop μ-loop
@@ -58,9 +65,19 @@ loop-less c = omega arith
 loop-again : tie.Need-loop-again Inv-loop μ-loop
 loop-again c =
     let a = c .before .before .before .before .before .before .before .before .before .before .before .before .before .before .before .before .args in
-    let asc = ascending-holds (firstRows (a .right .now) (a .m)) (c .before .before .before .before .before .before .before .before .before .before .before .before .before .before .before .before .pre .3) in
-    let s = rw (c .before .more .given .1) at (put-more alone (firstRows (a .right .now) (a .m)) (a .left .now) (a .n) wide-alone (wide-rows 4 (a .right .now) 0 (a .m)) asc (c .before .before .before .before .before .before .before .before .loop .i) (c .before .before .before .before .before .before .before .before .loop .out) (c .before .before .before .before .before .put-row .last .0) (c .before .before .before .before .before .before .before .before .loop .count) (c .before .before .before .before .before .put-row .result) (omega arith) (omega arith) (c .before .before .before .before .before .before .before .before .loop .inv .2) (c .before .before .before .before .before .put-row .ensures)) in
-    (omega arith, put-size alone (firstRows (a .right .now) (a .m)) (a .left .now) (a .n) wide-alone (wide-rows 4 (a .right .now) 0 (a .m)) asc (c .before .before .before .before .before .before .before .before .loop .i - 1) (c .before .before .before .before .before .put-row .last .0) (c .before .more .given .0 .0) s, s)
+    let asc = ascending-holds (firstRows (a .right .now) (a .m))
+    (c .before .before .before .before .before .before .before .before .before .before .before .before .before .before .before .before .pre .3) in
+    let s = rw (c .before .more .given .1)
+    at (put-more alone (firstRows (a .right .now) (a .m)) (a .left .now) (a .n) wide-alone (wide-rows 4 (a .right .now) 0 (a .m)) asc
+    (c .before .before .before .before .before .before .before .before .loop .i) (c .before .before .before .before .before .before .before .before .loop .out)
+    (c .before .before .before .before .before .put-row .last .0) (c .before .before .before .before .before .before .before .before .loop .count)
+    (c .before .before .before .before .before .put-row .result) (omega arith) (omega arith) (c .before .before .before .before .before .before .before .before .loop .inv .2)
+    (c .before .before .before .before .before .put-row .ensures)) in (
+      omega arith,
+      put-size alone (firstRows (a .right .now) (a .m)) (a .left .now) (a .n) wide-alone (wide-rows 4 (a .right .now) 0 (a .m)) asc
+          (c .before .before .before .before .before .before .before .before .loop .i - 1) (c .before .before .before .before .before .put-row .last .0) (c .before .more .given .0 .0) s,
+      s,
+    )
 
 enum-told : tie.Need-enum-told Inv-loop μ-loop
 enum-told c = search needs
@@ -73,10 +90,21 @@ same-length c =
 returns : tie.Need-returns Inv-loop μ-loop
 returns c =
     let a = c .before .before .before .before .before .before .before .before .before .before .before .before .before .before .before .args in
-    let asc = ascending-holds (firstRows (a .right .now) (a .m)) (c .before .before .before .before .before .before .before .before .before .before .before .before .before .before .before .pre .3) in
-    let over = rw (c .enum-told .given .1) at (put-more alone (firstRows (a .right .now) (a .m)) (a .left .now) (a .n) wide-alone (wide-rows 4 (a .right .now) 0 (a .m)) asc (c .before .before .before .before .before .before .before .loop .i) (c .before .before .before .before .before .before .before .loop .out) (c .before .before .before .before .put-row .last .0) (c .before .before .before .before .before .before .before .loop .count) (c .before .before .before .before .put-row .result) (omega arith) (omega arith) (c .before .before .before .before .before .before .before .loop .inv .2) (c .before .before .before .before .put-row .ensures)) in
-    let all = put-over alone (firstRows (a .right .now) (a .m)) (a .left .now) (a .n) wide-alone (wide-rows 4 (a .right .now) 0 (a .m)) asc (c .before .before .before .before .before .before .before .loop .i - 1) (omega arith) (over .0) in
-    λ w pl pr. (model-exceeds (putFrom alone (firstRows (a .right .now) (a .m)) (a .left .now) (a .n) 0) (unionRows (relationIn w (a .left .now) (a .n)) (relationIn w (a .right .now) (a .m))) w (pl .narrow) (union-wide (a .left .now) (a .n) (a .right .now) (a .m) w pl pr) (union-is (a .left .now) (a .n) (a .right .now) (a .m) w pl pr) all, over .1)
+    let asc = ascending-holds (firstRows (a .right .now) (a .m))
+    (c .before .before .before .before .before .before .before .before .before .before .before .before .before .before .before .pre .3) in
+    let over = rw (c .enum-told .given .1)
+    at (put-more alone (firstRows (a .right .now) (a .m)) (a .left .now) (a .n) wide-alone (wide-rows 4 (a .right .now) 0 (a .m)) asc
+    (c .before .before .before .before .before .before .before .loop .i) (c .before .before .before .before .before .before .before .loop .out)
+    (c .before .before .before .before .put-row .last .0) (c .before .before .before .before .before .before .before .loop .count) (c .before .before .before .before .put-row .result)
+    (omega arith) (omega arith) (c .before .before .before .before .before .before .before .loop .inv .2) (c .before .before .before .before .put-row .ensures)) in
+    let all = put-over alone (firstRows (a .right .now) (a .m)) (a .left .now) (a .n) wide-alone (wide-rows 4 (a .right .now) 0 (a .m)) asc
+    (c .before .before .before .before .before .before .before .loop .i - 1) (omega arith) (over .0) in
+    λ w pl pr. (
+      model-exceeds (putFrom alone (firstRows (a .right .now) (a .m)) (a .left .now) (a .n) 0)
+          (unionRows (relationIn w (a .left .now) (a .n)) (relationIn w (a .right .now) (a .m))) w (pl .narrow) (union-wide (a .left .now) (a .n) (a .right .now) (a .m) w pl pr)
+          (union-is (a .left .now) (a .n) (a .right .now) (a .m) w pl pr) all,
+      over .1,
+    )
 
 same-length-2 : tie.Need-same-length-2 Inv-loop μ-loop
 same-length-2 c = omega (arith, ap length (c .before .before .before .before .before .before .before .before .before .pre .4))
@@ -86,7 +114,9 @@ returns-2 c =
     let a = c .before .before .before .before .before .before .before .before .before .args in
     let e : c .before .loop .i ≡ 0 = omega arith in
     let s : Stands (putFrom alone (firstRows (a .right .now) (a .m)) (a .left .now) (a .n) 0) (c .before .loop .out) (c .before .loop .count) = rw e at (c .before .loop .inv .2) in
-    λ w pl pr. model-fills (putFrom alone (firstRows (a .right .now) (a .m)) (a .left .now) (a .n) 0) (unionRows (relationIn w (a .left .now) (a .n)) (relationIn w (a .right .now) (a .m))) w (pl .narrow) (union-wide (a .left .now) (a .n) (a .right .now) (a .m) w pl pr) (union-is (a .left .now) (a .n) (a .right .now) (a .m) w pl pr) (c .before .loop .out) (c .before .loop .count) s
+    λ w pl pr. model-fills (putFrom alone (firstRows (a .right .now) (a .m)) (a .left .now) (a .n) 0) (unionRows (relationIn w (a .left .now) (a .n)) (relationIn w (a .right .now) (a .m))) w
+    (pl .narrow) (union-wide (a .left .now) (a .n) (a .right .now) (a .m) w pl pr) (union-is (a .left .now) (a .n) (a .right .now) (a .m) w pl pr) (c .before .loop .out)
+    (c .before .loop .count) s
 
 pub union-rows-spec : {M : Type 1} → statement M
 union-rows-spec =

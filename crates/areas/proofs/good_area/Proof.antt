@@ -26,7 +26,10 @@ good-node-requires : tie.Need-good-node-requires Inv-loop μ-loop
 good-node-requires c κs = search needs
 
 returns : tie.Need-returns Inv-loop μ-loop
-returns c = let a = c .before .before .before .before .before .before .before .args in sym (area-is (a .widths .now) (a .n) (countsFrom (a .head .now) (a .first)) (a .area .now) (c .before .before .before .before .before .before .before .pre .1) ∙ all-not (nodeGood (a .widths .now) (a .n) (countsFrom (a .head .now) (a .first)) (a .area .now)) 32 (c .before .before .before .loop .i) (omega arith) (sym (c .before .good-node .ensures) ∙ not-true (c .before .good-node .result) (c .if1 .taken)))
+returns c = let a = c .before .before .before .before .before .before .before .args in sym
+    (area-is (a .widths .now) (a .n) (countsFrom (a .head .now) (a .first)) (a .area .now) (c .before .before .before .before .before .before .before .pre .1)
+    ∙ all-not (nodeGood (a .widths .now) (a .n) (countsFrom (a .head .now) (a .first)) (a .area .now)) 32 (c .before .before .before .loop .i) (omega arith)
+    (sym (c .before .good-node .ensures) ∙ not-true (c .before .good-node .result) (c .if1 .taken)))
 
 add-i : tie.Need-add-i Inv-loop μ-loop
 add-i c = omega arith
@@ -35,10 +38,17 @@ loop-less : tie.Need-loop-less Inv-loop μ-loop
 loop-less c = omega arith
 
 loop-again : tie.Need-loop-again Inv-loop μ-loop
-loop-again c = let a = c .before .before .before .before .before .before .before .args in (omega arith, all-more (nodeGood (a .widths .now) (a .n) (countsFrom (a .head .now) (a .first)) (a .area .now)) 32 (c .before .before .before .loop .i) (c .before .before .before .loop .inv .1) (sym (c .before .good-node .ensures) ∙ not-false (c .before .good-node .result) (c .if1 .left)))
+loop-again c = let a = c .before .before .before .before .before .before .before .args
+    in (
+      omega arith,
+      all-more (nodeGood (a .widths .now) (a .n) (countsFrom (a .head .now) (a .first)) (a .area .now)) 32 (c .before .before .before .loop .i)
+          (c .before .before .before .loop .inv .1) (sym (c .before .good-node .ensures) ∙ not-false (c .before .good-node .result) (c .if1 .left)),
+    )
 
 returns-2 : tie.Need-returns-2 Inv-loop μ-loop
-returns-2 c = let a = c .before .before .before .before .before .args in sym (area-is (a .widths .now) (a .n) (countsFrom (a .head .now) (a .first)) (a .area .now) (c .before .before .before .before .before .pre .1) ∙ all-done (nodeGood (a .widths .now) (a .n) (countsFrom (a .head .now) (a .first)) (a .area .now)) 32 (c .before .loop .i) (omega arith) (c .before .loop .inv .1))
+returns-2 c = let a = c .before .before .before .before .before .args in sym
+    (area-is (a .widths .now) (a .n) (countsFrom (a .head .now) (a .first)) (a .area .now) (c .before .before .before .before .before .pre .1)
+    ∙ all-done (nodeGood (a .widths .now) (a .n) (countsFrom (a .head .now) (a .first)) (a .area .now)) 32 (c .before .loop .i) (omega arith) (c .before .loop .inv .1))
 
 pub good-area-spec : {M : Type 1} → statement M
 good-area-spec =

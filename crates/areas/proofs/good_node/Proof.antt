@@ -28,7 +28,13 @@ shared-slice-read-good-place : tie.Need-shared-slice-read-good-place
 shared-slice-read-good-place c = search needs
 
 good-place-requires : tie.Need-good-place-requires
-good-place-requires c κs = let a = c .before .before .before .before .before .before .args in (c .before .before .before .before .before .before .pre .0, c .before .before .before .before .before .before .pre .1, c .before .before .before .before .before .before .pre .3 (a .i))
+good-place-requires c κs = let a = c .before .before .before .before .before .before .args
+    in (
+      c .before .before .before .before .before .before .pre .0,
+      c .before .before .before .before .before .before .pre .1,
+      c .before .before .before .before .before .before .pre .3
+          (a .i),
+    )
 
 returns : tie.Need-returns
 returns c = let a = c .before .before .before .before .before .before .before .args in rw (lt-ltb (a .i) (a .n) (c .before .before .if1 .taken)) (c .good-place .ensures)

@@ -44,7 +44,10 @@ good-rows-requires c κs = search needs
 returns-2 : tie.Need-returns-2
 returns-2 c =
     let a = c .before .before .before .before .before .args in
-    sym (place-form (a .width) (a .count) (a .area .now) (placeAt (a .area .now) (a .i)) (a .i) (c .before .good-rows .result) (allZero (slice (a .count * 4) 256 (placeAt (a .area .now) (a .i)))) (c .before .before .before .before .before .pre .2) (omega arith) (c .before .before .before .before .before .pre .0) (c .before .before .before .before .before .pre .1) (part-is (a .area .now) (a .i)) (c .before .good-rows .ensures) refl ∙ rw (not-true (c .before .good-rows .result) (c .if2 .taken)))
+    sym (place-form (a .width) (a .count) (a .area .now) (placeAt (a .area .now) (a .i)) (a .i) (c .before .good-rows .result)
+    (allZero (slice (a .count * 4) 256 (placeAt (a .area .now) (a .i)))) (c .before .before .before .before .before .pre .2) (omega arith)
+    (c .before .before .before .before .before .pre .0) (c .before .before .before .before .before .pre .1) (part-is (a .area .now) (a .i)) (c .before .good-rows .ensures) refl
+    ∙ rw (not-true (c .before .good-rows .result) (c .if2 .taken)))
 
 mul-all-zero : tie.Need-mul-all-zero
 mul-all-zero c = search needs
@@ -55,7 +58,10 @@ all-zero-requires c κs = search needs
 returns-3 : tie.Need-returns-3
 returns-3 c =
     let a = c .before .before .before .before .before .before .args in
-    sym (place-form (a .width) (a .count) (a .area .now) (placeAt (a .area .now) (a .i)) (a .i) (c .before .before .good-rows .result) (c .all-zero .result) (c .before .before .before .before .before .before .pre .2) (omega arith) (c .before .before .before .before .before .before .pre .0) (c .before .before .before .before .before .before .pre .1) (part-is (a .area .now) (a .i)) (c .before .before .good-rows .ensures) (c .all-zero .ensures) ∙ rw (not-false (c .before .before .good-rows .result) (c .before .if2 .left)))
+    sym (place-form (a .width) (a .count) (a .area .now) (placeAt (a .area .now) (a .i)) (a .i) (c .before .before .good-rows .result) (c .all-zero .result)
+    (c .before .before .before .before .before .before .pre .2) (omega arith) (c .before .before .before .before .before .before .pre .0)
+    (c .before .before .before .before .before .before .pre .1) (part-is (a .area .now) (a .i)) (c .before .before .good-rows .ensures) (c .all-zero .ensures)
+    ∙ rw (not-false (c .before .before .good-rows .result) (c .before .if2 .left)))
 
 pub good-place-spec : {M : Type 1} → statement M
 good-place-spec =

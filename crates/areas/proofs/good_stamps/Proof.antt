@@ -30,7 +30,9 @@ good-stamp-requires c κs = search needs
 
 returns : tie.Need-returns Inv-loop μ-loop
 unfolding goodStamps
-returns c = let a = c .before .before .before .before .before .before .args in sym (all-not (λ i. leb (stampAt (a .head .now) i) (cond (ltb i (a .n)) (batchNumber (a .head .now)) 0)) 32 (c .before .before .before .loop .node) (omega arith) (sym (c .before .good-stamp .ensures) ∙ not-true (c .before .good-stamp .result) (c .if1 .taken)))
+returns c = let a = c .before .before .before .before .before .before .args in sym
+    (all-not (λ i. leb (stampAt (a .head .now) i) (cond (ltb i (a .n)) (batchNumber (a .head .now)) 0)) 32 (c .before .before .before .loop .node) (omega arith)
+    (sym (c .before .good-stamp .ensures) ∙ not-true (c .before .good-stamp .result) (c .if1 .taken)))
 
 add-node : tie.Need-add-node Inv-loop μ-loop
 add-node c = omega arith
@@ -39,11 +41,17 @@ loop-less : tie.Need-loop-less Inv-loop μ-loop
 loop-less c = omega arith
 
 loop-again : tie.Need-loop-again Inv-loop μ-loop
-loop-again c = let a = c .before .before .before .before .before .before .args in (omega arith, all-more (λ i. leb (stampAt (a .head .now) i) (cond (ltb i (a .n)) (batchNumber (a .head .now)) 0)) 32 (c .before .before .before .loop .node) (c .before .before .before .loop .inv .1) (sym (c .before .good-stamp .ensures) ∙ not-false (c .before .good-stamp .result) (c .if1 .left)))
+loop-again c = let a = c .before .before .before .before .before .before .args
+    in (
+      omega arith,
+      all-more (λ i. leb (stampAt (a .head .now) i) (cond (ltb i (a .n)) (batchNumber (a .head .now)) 0)) 32 (c .before .before .before .loop .node)
+          (c .before .before .before .loop .inv .1) (sym (c .before .good-stamp .ensures) ∙ not-false (c .before .good-stamp .result) (c .if1 .left)),
+    )
 
 returns-2 : tie.Need-returns-2 Inv-loop μ-loop
 unfolding goodStamps
-returns-2 c = let a = c .before .before .before .before .args in sym (all-done (λ i. leb (stampAt (a .head .now) i) (cond (ltb i (a .n)) (batchNumber (a .head .now)) 0)) 32 (c .before .loop .node) (omega arith) (c .before .loop .inv .1))
+returns-2 c = let a = c .before .before .before .before .args in sym
+    (all-done (λ i. leb (stampAt (a .head .now) i) (cond (ltb i (a .n)) (batchNumber (a .head .now)) 0)) 32 (c .before .loop .node) (omega arith) (c .before .loop .inv .1))
 
 pub good-stamps-spec : {M : Type 1} → statement M
 good-stamps-spec =

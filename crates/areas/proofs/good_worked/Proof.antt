@@ -30,14 +30,18 @@ unfolding goodWorked
 returns c = let a = c .before .before .before .args in rw (lt-leb (workedCount (a .head .now)) (a .n) (c .if1 .taken)) refl
 
 loop-holds : tie.Need-loop-holds Inv-loop μ-loop
-loop-holds c = let a = c .before .before .before .args in (omega arith, all-none (λ k. cond (ltb k (workedCount (a .head .now))) (ltb (workedAt (a .head .now) k) (a .n)) (eqb (workedAt (a .head .now) k) 0)) 32)
+loop-holds c = let a = c .before .before .before .args
+    in (omega arith, all-none (λ k. cond (ltb k (workedCount (a .head .now))) (ltb (workedAt (a .head .now) k) (a .n)) (eqb (workedAt (a .head .now) k) 0)) 32)
 
 good-entry-requires : tie.Need-good-entry-requires Inv-loop μ-loop
 good-entry-requires c κs = search needs
 
 returns-2 : tie.Need-returns-2 Inv-loop μ-loop
 unfolding goodWorked
-returns-2 c = let a = c .before .before .before .before .before .before .before .args in rw (le-leb (workedCount (a .head .now)) (a .n) (omega (arith, c .before .before .before .before .if1 .left))) (sym (all-not (λ k. cond (ltb k (workedCount (a .head .now))) (ltb (workedAt (a .head .now) k) (a .n)) (eqb (workedAt (a .head .now) k) 0)) 32 (c .before .before .before .loop .k) (omega arith) (sym (c .before .good-entry .ensures) ∙ not-true (c .before .good-entry .result) (c .if2 .taken))))
+returns-2 c = let a = c .before .before .before .before .before .before .before .args
+    in rw (le-leb (workedCount (a .head .now)) (a .n) (omega (arith, c .before .before .before .before .if1 .left)))
+    (sym (all-not (λ k. cond (ltb k (workedCount (a .head .now))) (ltb (workedAt (a .head .now) k) (a .n)) (eqb (workedAt (a .head .now) k) 0)) 32 (c .before .before .before .loop .k)
+    (omega arith) (sym (c .before .good-entry .ensures) ∙ not-true (c .before .good-entry .result) (c .if2 .taken))))
 
 add-k : tie.Need-add-k Inv-loop μ-loop
 add-k c = omega arith
@@ -46,11 +50,18 @@ loop-less : tie.Need-loop-less Inv-loop μ-loop
 loop-less c = omega arith
 
 loop-again : tie.Need-loop-again Inv-loop μ-loop
-loop-again c = let a = c .before .before .before .before .before .before .before .args in (omega arith, all-more (λ k. cond (ltb k (workedCount (a .head .now))) (ltb (workedAt (a .head .now) k) (a .n)) (eqb (workedAt (a .head .now) k) 0)) 32 (c .before .before .before .loop .k) (c .before .before .before .loop .inv .1) (sym (c .before .good-entry .ensures) ∙ not-false (c .before .good-entry .result) (c .if2 .left)))
+loop-again c = let a = c .before .before .before .before .before .before .before .args
+    in (
+      omega arith,
+      all-more (λ k. cond (ltb k (workedCount (a .head .now))) (ltb (workedAt (a .head .now) k) (a .n)) (eqb (workedAt (a .head .now) k) 0)) 32
+          (c .before .before .before .loop .k) (c .before .before .before .loop .inv .1) (sym (c .before .good-entry .ensures) ∙ not-false (c .before .good-entry .result) (c .if2 .left)),
+    )
 
 returns-3 : tie.Need-returns-3 Inv-loop μ-loop
 unfolding goodWorked
-returns-3 c = let a = c .before .before .before .before .before .args in rw (le-leb (workedCount (a .head .now)) (a .n) (omega (arith, c .before .before .if1 .left))) (sym (all-done (λ k. cond (ltb k (workedCount (a .head .now))) (ltb (workedAt (a .head .now) k) (a .n)) (eqb (workedAt (a .head .now) k) 0)) 32 (c .before .loop .k) (omega arith) (c .before .loop .inv .1)))
+returns-3 c = let a = c .before .before .before .before .before .args in rw (le-leb (workedCount (a .head .now)) (a .n) (omega (arith, c .before .before .if1 .left)))
+    (sym (all-done (λ k. cond (ltb k (workedCount (a .head .now))) (ltb (workedAt (a .head .now) k) (a .n)) (eqb (workedAt (a .head .now) k) 0)) 32 (c .before .loop .k) (omega arith)
+    (c .before .loop .inv .1)))
 
 pub good-worked-spec : {M : Type 1} → statement M
 good-worked-spec =

@@ -23,7 +23,8 @@ pack-requires c κs =
     let call = c .before in
     let known = call .before .before .before .before .before in
     let a = known .before .args in
-    let small = check-fits (a .net .now) (λ i. omega (arith, known .shared-slice-known .given i)) (lent (a .rows .now) (a .gained .now) (a .lost .now) (a .head .now)) _ (call .check .ensures) in
+    let small = check-fits (a .net .now) (λ i. omega (arith, known .shared-slice-known .given i)) (lent (a .rows .now) (a .gained .now) (a .lost .now) (a .head .now)) _
+    (call .check .ensures) in
     (small, bit-small (call .check .result .yes))
 
 returns : tie.Need-returns

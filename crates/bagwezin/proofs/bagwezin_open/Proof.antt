@@ -19,8 +19,10 @@ pack-requires : tie.Need-pack-requires
 pack-requires c κs =
     let call = c .before .before .before .before .before .before .before .before in
     let known = call .before .before .before .before .before .before .before .before .before in
-    let a = known .before .args in
-    (open-fits (a .net .now) (λ i. omega (arith, known .shared-slice-known .given i)) (lent (a .rows .now) (a .gained .now) (a .lost .now) (a .head .now)) _ (call .«open» .ensures), omega arith)
+    let a = known .before .args in (
+      open-fits (a .net .now) (λ i. omega (arith, known .shared-slice-known .given i)) (lent (a .rows .now) (a .gained .now) (a .lost .now) (a .head .now)) _ (call .«open» .ensures),
+      omega arith,
+    )
 
 same-length : tie.Need-same-length
 same-length c = search needs

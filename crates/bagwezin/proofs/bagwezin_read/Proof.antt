@@ -69,13 +69,15 @@ write-list-requires-3 c κs =
 
 slice-aggregate-write-list-4 : tie.Need-slice-aggregate-write-list-4
 slice-aggregate-write-list-4 c =
-    let call = c .before .before .before .before .before .before .before .before .before .before .before .before .before .before .before .before .before .before .before .before .before .before in
+    let call = c .before .before .before .before .before .before .before .before .before .before .before .before .before .before .before .before .before .before .before .before .before
+    .before in
     let size = ap (λ (y : ReadAnswer). length (y .levels)) (call .read .ensures) in
     omega (arith, size, read-lengths (call .before .before .before .before .args .net .now) .2)
 
 write-list-requires-4 : tie.Need-write-list-requires-4
 write-list-requires-4 c κs =
-    let call = c .before .before .before .before .before .before .before .before .before .before .before .before .before .before .before .before .before .before .before .before .before .before in
+    let call = c .before .before .before .before .before .before .before .before .before .before .before .before .before .before .before .before .before .before .before .before .before
+    .before in
     let a = call .before .before .before .before .args in
     let size = ap (λ (y : ReadAnswer). length (y .levels)) (call .read .ensures) in
     (omega (arith, call .before .if1 .left, size, read-lengths (a .net .now) .2), levels-fit (a .net .now) (answerOf (call .read .result)) (call .read .ensures))

@@ -48,7 +48,8 @@ returns c =
     let a = s .args in
     let p = c .before .before .before .before .before .before .propagate in
     let t = c .before .enum-told2 .given in
-    over-refused (a .net) (a .bytes .now) (a .rows .now) (a .gained .now) (a .lost .now) (a .head .now) (s .pre .0) (s .pre .1) (verdictOf (c .verdict-of .result)) (t .0 .0) (c .verdict-of .ensures ∙ ap verdictBy (t .1)) (c .verdict-of .ensures ∙ p .ensures .verdict)
+    over-refused (a .net) (a .bytes .now) (a .rows .now) (a .gained .now) (a .lost .now) (a .head .now) (s .pre .0) (s .pre .1) (verdictOf (c .verdict-of .result)) (t .0 .0)
+    (c .verdict-of .ensures ∙ ap verdictBy (t .1)) (c .verdict-of .ensures ∙ p .ensures .verdict)
 
 slice-aggregate-write-state : tie.Need-slice-aggregate-write-state
 slice-aggregate-write-state c = search needs
@@ -61,11 +62,16 @@ slice-aggregate-write-state-3 c = search needs
 
 write-state-requires : tie.Need-write-state-requires
 write-state-requires c κs =
-    let s = c .before .before .before .before .before .before .before .before .before .before .before .before .before .before .before .before .before .before .before .before .before .before .before in
+    let s = c .before .before .before .before .before .before .before .before .before .before .before .before .before .before .before .before .before .before .before .before .before .before
+    .before in
     let a = s .args in
     let p = c .before .before .before .before .before .before .before .before .before .before .before .before .propagate in
-    let to = p .ensures .worked (ap verdictBy (c .before .before .before .before .before .before .before .enum-told .given .1)) in
-    (worked-out (a .net) (a .bytes .now) (a .rows .now) (a .gained .now) (a .lost .now) (a .head .now) (s .pre .0) (s .pre .1) (p .last .1 .1 .1 .1 .0) (p .last .1 .1 .1 .1 .1 .0) (p .last .1 .1 .1 .1 .1 .1 .0) to, s .pre .0 .checkable .fit, s .pre .1 .number)
+    let to = p .ensures .worked (ap verdictBy (c .before .before .before .before .before .before .before .enum-told .given .1)) in (
+      worked-out (a .net) (a .bytes .now) (a .rows .now) (a .gained .now) (a .lost .now) (a .head .now) (s .pre .0) (s .pre .1) (p .last .1 .1 .1 .1 .0) (p .last .1 .1 .1 .1 .1 .0)
+          (p .last .1 .1 .1 .1 .1 .1 .0) to,
+      s .pre .0 .checkable .fit,
+      s .pre .1 .number,
+    )
 
 verdict-of-requires-2 : tie.Need-verdict-of-requires-2
 verdict-of-requires-2 c κs = search needs
@@ -84,15 +90,19 @@ same-length-6 c = search needs
 
 returns-2 : tie.Need-returns-2
 returns-2 c =
-    let s = c .before .before .before .before .before .before .before .before .before .before .before .before .before .before .before .before .before .before .before .before .before .before .before .before .before .before .before .before .before .before .before .before .before in
+    let s = c .before .before .before .before .before .before .before .before .before .before .before .before .before .before .before .before .before .before .before .before .before .before
+    .before .before .before .before .before .before .before .before .before .before .before in
     let a = s .args in
-    let p = c .before .before .before .before .before .before .before .before .before .before .before .before .before .before .before .before .before .before .before .before .before .before .propagate in
+    let p = c .before .before .before .before .before .before .before .before .before .before .before .before .before .before .before .before .before .before .before .before .before .before
+    .propagate in
     let w = c .before .before .before .before .before .before .before .before .before .write-state in
     let t = c .before .before .before .before .before .before .before .before .before .before .before .before .before .before .before .before .before .enum-told .given in
     let to = p .ensures .worked (ap verdictBy (t .1)) in
-    let out = worked-out (a .net) (a .bytes .now) (a .rows .now) (a .gained .now) (a .lost .now) (a .head .now) (s .pre .0) (s .pre .1) (p .last .1 .1 .1 .1 .0) (p .last .1 .1 .1 .1 .1 .0) (p .last .1 .1 .1 .1 .1 .1 .0) to in
+    let out = worked-out (a .net) (a .bytes .now) (a .rows .now) (a .gained .now) (a .lost .now) (a .head .now) (s .pre .0) (s .pre .1) (p .last .1 .1 .1 .1 .0) (p .last .1 .1 .1 .1 .1 .0)
+    (p .last .1 .1 .1 .1 .1 .1 .0) to in
     let after = lent (w .last .1 .1 .1 .1 .0) (w .last .1 .1 .1 .1 .1 .0) (w .last .1 .1 .1 .1 .1 .1 .0) (w .last .1 .1 .1 .1 .1 .1 .1 .0) in
-    accepted-kept (a .net) (a .bytes .now) (a .rows .now) (a .gained .now) (a .lost .now) (a .head .now) (s .pre .0) (s .pre .1) (p .last .1 .1 .1 .1 .0) (p .last .1 .1 .1 .1 .1 .0) (p .last .1 .1 .1 .1 .1 .1 .0) to (verdictOf (c .verdict-of2 .result)) after (c .verdict-of2 .ensures ∙ ap verdictBy (t .1))
+    accepted-kept (a .net) (a .bytes .now) (a .rows .now) (a .gained .now) (a .lost .now) (a .head .now) (s .pre .0) (s .pre .1) (p .last .1 .1 .1 .1 .0) (p .last .1 .1 .1 .1 .1 .0)
+    (p .last .1 .1 .1 .1 .1 .1 .0) to (verdictOf (c .verdict-of2 .result)) after (c .verdict-of2 .ensures ∙ ap verdictBy (t .1))
     (w .ensures out (tablesAfter (a .net) (a .rows .now) (a .head .now) (a .bytes .now)))
 
 pub advance-spec : {M : Type 1} → statement M

@@ -14,19 +14,30 @@ use Rattle.batch.proofs.advance.Reads as advance-reads
 use Rattle.events.proofs.read_batch.Reads as read-batch-reads
 
 slice-read-if1 : tie.Need-slice-read-if1
-slice-read-if1 c = let a = (c .before .before .before .before .before .before .args) in let l = long-parts (a .rows .now) (a .gained .now) (a .lost .now) (a .head .now) (c .before .before .before .before .before .before .pre .long) in omega (arith, l .3)
+slice-read-if1 c = let a = (c .before .before .before .before .before .before .args) in let l = long-parts (a .rows .now) (a .gained .now) (a .lost .now) (a .head .now)
+    (c .before .before .before .before .before .before .pre .long) in omega (arith, l .3)
 
 returns : tie.Need-returns
-returns c = let a = (c .before .before .before .before .before .before .before .args) in last-refused (a .net) (a .bytes .now) (a .rows .now) (a .gained .now) (a .lost .now) (a .head .now) (c .before .before .before .before .before .before .before .pre) (c .if1 .taken)
+returns c = let a = (c .before .before .before .before .before .before .before .args) in last-refused (a .net) (a .bytes .now) (a .rows .now) (a .gained .now) (a .lost .now) (a .head .now)
+    (c .before .before .before .before .before .before .before .pre) (c .if1 .taken)
 
 read-batch-requires : tie.Need-read-batch-requires
 read-batch-requires c κs = c .before .before .before .before .before .before .before .pre .checkable .built
 
 returns-2 : tie.Need-returns-2
-returns-2 c = let a = (c .before .before .before .before .before .before .before .before .before .before .args) in read-refused (a .net) (a .bytes .now) (a .rows .now) (a .gained .now) (a .lost .now) (a .head .now) (c .before .before .before .before .before .before .before .before .before .before .pre) (c .before .before .before .if1 .left) (verdictOf (c .before .before .read-batch .result)) (c .before .before .read-batch .ensures) (ne-eqb (c .before .before .read-batch .result .number) 0 (c .if2 .taken))
+returns-2 c = let a = (c .before .before .before .before .before .before .before .before .before .before .args) in read-refused (a .net) (a .bytes .now) (a .rows .now) (a .gained .now)
+    (a .lost .now) (a .head .now) (c .before .before .before .before .before .before .before .before .before .before .pre) (c .before .before .before .if1 .left)
+    (verdictOf (c .before .before .read-batch .result)) (c .before .before .read-batch .ensures) (ne-eqb (c .before .before .read-batch .result .number) 0 (c .if2 .taken))
 
 advance-requires : tie.Need-advance-requires
-advance-requires c κs = (c .before .before .before .before .before .before .before .before .before .before .before .before .before .before .pre, record { number = c .before .before .before .before .before .before .before .if1 .left; accepts = ap isAccepted (sym (c .before .before .before .before .before .before .read-batch .ensures)) ∙ eq-eqb (c .before .before .before .before .before .before .read-batch .result .number) 0 (c .before .before .before .before .if2 .left) })
+advance-requires c κs = (
+  c .before .before .before .before .before .before .before .before .before .before .before .before .before .before .pre,
+  record {
+    number = c .before .before .before .before .before .before .before .if1 .left;
+    accepts = ap isAccepted (sym (c .before .before .before .before .before .before .read-batch .ensures))
+        ∙ eq-eqb (c .before .before .before .before .before .before .read-batch .result .number) 0 (c .before .before .before .before .if2 .left);
+  },
+)
 
 same-length : tie.Need-same-length
 same-length c = search needs

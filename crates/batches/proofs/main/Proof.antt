@@ -21,7 +21,9 @@ use Rattle.script.proofs.spread.Reads as spread-reads
 use Rattle.script.proofs.widen.Reads as widen-reads
 
 abbrev Inv-loop : tie.InvT-loop
-Inv-loop input n text₀ out₀ bytes₀ words₀ rows₀ gained₀ lost₀ head₀ from₀ to₀ at₀ t27 t28 t29 t30 t31 text out bytes words rows gained lost head from to at = (length input ≡ 65536) × (n ≤ 65536) × (from ≤ to) × (to ≤ n) × (length text ≡ 65536) × (length out ≡ 88) × (length bytes ≡ 88) × (length words ≡ 162) × (length rows ≡ 8192) × (length gained ≡ 8192) × (length lost ≡ 8192) × (length head ≡ 162)
+Inv-loop input n text₀ out₀ bytes₀ words₀ rows₀ gained₀ lost₀ head₀ from₀ to₀ at₀ t27 t28 t29 t30 t31 text out bytes words rows gained lost head from to at = (length input ≡ 65536)
+    × (n ≤ 65536) × (from ≤ to) × (to ≤ n) × (length text ≡ 65536) × (length out ≡ 88) × (length bytes ≡ 88) × (length words ≡ 162) × (length rows ≡ 8192) × (length gained ≡ 8192)
+    × (length lost ≡ 8192) × (length head ≡ 162)
 
 abbrev μ-loop : tie.MeasureT-loop
 μ-loop input n text₀ out₀ bytes₀ words₀ rows₀ gained₀ lost₀ head₀ from₀ to₀ at₀ t27 t28 t29 t30 t31 text out bytes words rows gained lost head from to at = n - at
@@ -108,7 +110,9 @@ array-share-prefix-text : tie.Need-array-share-prefix-text Inv-loop μ-loop
 array-share-prefix-text c = search needs
 
 slice-aggregate-write-all : tie.Need-slice-aggregate-write-all Inv-loop μ-loop
-slice-aggregate-write-all c = sym (length-take-le (c .before .before .put-line .result) (c .before .before .put-line .last .0) (omega (arith, c .before .before .put-line .ensures .2, c .before .before .put-line .kept .0)))
+slice-aggregate-write-all c = sym
+    (length-take-le (c .before .before .put-line .result) (c .before .before .put-line .last .0)
+    (omega (arith, c .before .before .put-line .ensures .2, c .before .before .put-line .kept .0)))
 
 write-all-requires-2 : tie.Need-write-all-requires-2 Inv-loop μ-loop
 write-all-requires-2 c κs = search needs
@@ -117,7 +121,38 @@ loop-less-2 : tie.Need-loop-less-2 Inv-loop μ-loop
 loop-less-2 c = omega arith
 
 loop-again-2 : tie.Need-loop-again-2 Inv-loop μ-loop
-loop-again-2 c = let i = c .before .before .before .before .before .before .before .before .before .before .before .before .before .before .before .before .before .before .before .before .before .before .before .loop .inv in let w = c .before .before .before .before .before .before .before .before .before .before .before .before .before .before .before .before .before .before .before .before .operation-at .ensures in let l = length-take-le (c .before .before .before .before .before .before .before .before .before .before .before .before .before .before .before .before .before .before .before .before .before .before .before .before .before .before .read-full .result) (c .before .before .before .before .before .before .before .before .before .before .before .before .before .before .before .before .before .before .before .before .before .before .before .before .before .before .read-full .last .1 .0) (omega (arith, c .before .before .before .before .before .before .before .before .before .before .before .before .before .before .before .before .before .before .before .before .before .before .before .loop .inv .0, c .before .before .before .before .before .before .before .before .before .before .before .before .before .before .before .before .before .before .before .before .before .before .before .loop .inv .1)) in (i .0, i .1, w .text, omega (arith, w .whole, l), c .before .before .before .put-line .kept .0 ∙ i .4, i .5, i .6, i .7, c .before .before .before .before .before .before .before .before .before .before .before .«open» .kept .1 .0 ∙ i .8, c .before .before .before .before .before .before .before .before .before .before .before .«open» .kept .1 .1 .0 ∙ i .9, c .before .before .before .before .before .before .before .before .before .before .before .«open» .kept .1 .1 .1 .0 ∙ i .10, c .before .before .before .before .before .before .before .before .before .before .before .«open» .kept .1 .1 .1 .1 .0 ∙ i .11)
+loop-again-2 c = let i =
+    c .before .before .before .before .before .before .before .before .before .before .before .before .before .before .before .before .before .before .before .before .before .before .before
+    .loop .inv in let w =
+    c .before .before .before .before .before .before .before .before .before .before .before .before .before .before .before .before .before .before .before .before .operation-at .ensures
+    in let l = length-take-le
+    (c .before .before .before .before .before .before .before .before .before .before .before .before .before .before .before .before .before .before .before .before .before .before .before
+    .before .before .before .read-full .result)
+    (c .before .before .before .before .before .before .before .before .before .before .before .before .before .before .before .before .before .before .before .before .before .before .before
+    .before .before .before .read-full .last .1 .0)
+    (omega (
+      arith,
+      c .before .before .before .before .before .before .before .before .before .before .before .before .before .before .before .before .before .before .before .before .before
+          .before .before .loop .inv .0,
+      c .before .before .before .before .before .before .before .before .before .before .before .before .before .before .before .before .before .before .before .before .before .before .before
+          .loop .inv .1,
+    )) in (
+      i .0,
+      i .1,
+      w .text,
+      omega (arith, w .whole, l),
+      c .before .before .before .put-line .kept .0 ∙ i .4,
+      i .5,
+      i .6,
+      i .7,
+      c .before .before .before .before .before .before .before .before .before .before .before .«open» .kept .1 .0
+          ∙ i .8,
+      c .before .before .before .before .before .before .before .before .before .before .before .«open» .kept .1 .1 .0
+          ∙ i .9,
+      c .before .before .before .before .before .before .before .before .before .before .before .«open» .kept .1 .1 .1 .0
+          ∙ i .10,
+      c .before .before .before .before .before .before .before .before .before .before .before .«open» .kept .1 .1 .1 .1 .0 ∙ i .11,
+    )
 
 array-share-prefix-input-2 : tie.Need-array-share-prefix-input-2 Inv-loop μ-loop
 array-share-prefix-input-2 c = search needs
@@ -165,7 +200,9 @@ check-requires : tie.Need-check-requires Inv-loop μ-loop
 check-requires c κs = search needs
 
 slice-aggregate-put-line-4 : tie.Need-slice-aggregate-put-line-4 Inv-loop μ-loop
-slice-aggregate-put-line-4 c = sym (c .before .before .before .before .before .before .before .before .before .before .before .before .before .before .before .before .before .before .before .before .before .before .before .before .loop .inv .4)
+slice-aggregate-put-line-4 c = sym
+    (c .before .before .before .before .before .before .before .before .before .before .before .before .before .before .before .before .before .before .before .before .before .before .before
+    .before .loop .inv .4)
 
 slice-aggregate-put-line-5 : tie.Need-slice-aggregate-put-line-5 Inv-loop μ-loop
 slice-aggregate-put-line-5 c = search needs
@@ -177,13 +214,19 @@ slice-aggregate-put-line-6 : tie.Need-slice-aggregate-put-line-6 Inv-loop μ-loo
 slice-aggregate-put-line-6 c = search needs
 
 put-line-requires-2 : tie.Need-put-line-requires-2 Inv-loop μ-loop
-put-line-requires-2 c κs = omega (arith, c .before .before .before .before .before .before .before .before .before .before .before .before .before .before .before .before .before .before .before .before .before .before .before .before .before .before .before .loop .inv .4)
+put-line-requires-2 c κs = omega (
+  arith,
+  c .before .before .before .before .before .before .before .before .before .before .before .before .before .before .before .before .before .before .before .before .before .before
+      .before .before .before .before .before .loop .inv .4,
+)
 
 array-share-prefix-text-2 : tie.Need-array-share-prefix-text-2 Inv-loop μ-loop
 array-share-prefix-text-2 c = search needs
 
 slice-aggregate-write-all-2 : tie.Need-slice-aggregate-write-all-2 Inv-loop μ-loop
-slice-aggregate-write-all-2 c = sym (length-take-le (c .before .before .put-line2 .result) (c .before .before .put-line2 .last .0) (omega (arith, c .before .before .put-line2 .ensures .2, c .before .before .put-line2 .kept .0)))
+slice-aggregate-write-all-2 c = sym
+    (length-take-le (c .before .before .put-line2 .result) (c .before .before .put-line2 .last .0)
+    (omega (arith, c .before .before .put-line2 .ensures .2, c .before .before .put-line2 .kept .0)))
 
 write-all-requires-3 : tie.Need-write-all-requires-3 Inv-loop μ-loop
 write-all-requires-3 c κs = search needs
@@ -192,10 +235,18 @@ slice-aggregate-widen : tie.Need-slice-aggregate-widen Inv-loop μ-loop
 slice-aggregate-widen c = search needs
 
 slice-aggregate-widen-2 : tie.Need-slice-aggregate-widen-2 Inv-loop μ-loop
-slice-aggregate-widen-2 c = sym (c .before .before .before .before .before .before .before .before .before .before .before .before .before .before .before .before .before .before .before .before .before .before .before .before .before .before .before .before .before .before .before .before .before .loop .inv .7)
+slice-aggregate-widen-2 c = sym
+    (c .before .before .before .before .before .before .before .before .before .before .before .before .before .before .before .before .before .before .before .before .before .before .before
+    .before .before .before .before .before .before .before .before .before .before .loop .inv .7)
 
 widen-requires : tie.Need-widen-requires Inv-loop μ-loop
-widen-requires c κs = omega (arith, c .before .before .before .before .before .before .before .before .before .before .before .before .before .before .before .before .before .before .before .before .before .before .before .before .before .before .before .before .before .before .before .before .before .loop .inv .7, c .before .before .before .before .before .before .before .before .before .before .before .before .before .before .before .before .before .before .before .before .before .before .before .before .before .before .before .before .before .before .before .before .before .loop .inv .11)
+widen-requires c κs = omega (
+  arith,
+  c .before .before .before .before .before .before .before .before .before .before .before .before .before .before .before .before .before .before .before .before .before .before
+      .before .before .before .before .before .before .before .before .before .before .before .loop .inv .7,
+  c .before .before .before .before .before .before .before .before .before .before .before .before .before .before .before .before .before .before .before .before .before .before .before
+      .before .before .before .before .before .before .before .before .before .before .loop .inv .11,
+)
 
 slice-aggregate-put-line-7 : tie.Need-slice-aggregate-put-line-7 Inv-loop μ-loop
 slice-aggregate-put-line-7 c = search needs
@@ -213,16 +264,64 @@ array-share-prefix-text-3 : tie.Need-array-share-prefix-text-3 Inv-loop μ-loop
 array-share-prefix-text-3 c = search needs
 
 slice-aggregate-write-all-3 : tie.Need-slice-aggregate-write-all-3 Inv-loop μ-loop
-slice-aggregate-write-all-3 c = sym (length-take-le (c .before .before .put-line3 .result) (c .before .before .put-line3 .last .0) (omega (arith, c .before .before .put-line3 .ensures .2, c .before .before .put-line3 .kept .0)))
+slice-aggregate-write-all-3 c = sym
+    (length-take-le (c .before .before .put-line3 .result) (c .before .before .put-line3 .last .0)
+    (omega (arith, c .before .before .put-line3 .ensures .2, c .before .before .put-line3 .kept .0)))
 
 write-all-requires-4 : tie.Need-write-all-requires-4 Inv-loop μ-loop
 write-all-requires-4 c κs = search needs
 
 loop-less-3 : tie.Need-loop-less-3 Inv-loop μ-loop
-loop-less-3 c = let l = length-take-le (c .before .before .before .before .before .before .before .before .before .before .before .before .before .before .before .before .before .before .before .before .before .before .before .before .before .before .before .before .before .before .before .before .before .before .before .before .before .before .before .before .before .before .before .before .before .read-full .result) (c .before .before .before .before .before .before .before .before .before .before .before .before .before .before .before .before .before .before .before .before .before .before .before .before .before .before .before .before .before .before .before .before .before .before .before .before .before .before .before .before .before .before .before .before .before .read-full .last .1 .0) (omega (arith, c .before .before .before .before .before .before .before .before .before .before .before .before .before .before .before .before .before .before .before .before .before .before .before .before .before .before .before .before .before .before .before .before .before .before .before .before .before .before .before .before .before .before .loop .inv .0, c .before .before .before .before .before .before .before .before .before .before .before .before .before .before .before .before .before .before .before .before .before .before .before .before .before .before .before .before .before .before .before .before .before .before .before .before .before .before .before .before .before .before .loop .inv .1)) in omega (arith, c .before .before .before .before .before .before .before .before .before .before .before .before .before .before .before .before .before .before .before .before .before .before .before .before .before .before .before .before .before .before .before .before .before .before .before .before .before .before .before .operation-at .ensures .after, c .before .before .before .before .before .before .before .before .before .before .before .before .before .before .before .before .before .before .before .before .before .before .before .before .before .before .before .before .before .before .before .before .before .before .before .before .before .before .before .operation-at .ensures .whole, l, c .before .before .before .before .before .before .before .before .before .before .before .before .before .before .before .before .before .before .before .before .before .before .before .before .before .before .before .before .before .before .before .before .before .before .before .before .before .before .before .before .before .loop-test .taken)
+loop-less-3 c = let l = length-take-le
+    (c .before .before .before .before .before .before .before .before .before .before .before .before .before .before .before .before .before .before .before .before .before .before .before
+    .before .before .before .before .before .before .before .before .before .before .before .before .before .before .before .before .before .before .before .before .before .before .read-full
+    .result) (c .before .before .before .before .before .before .before .before .before .before .before .before .before .before .before .before .before .before .before .before .before
+    .before .before .before .before .before .before .before .before .before .before .before .before .before .before .before .before .before .before .before .before .before .before .before
+    .before .read-full .last .1 .0)
+    (omega (
+      arith,
+      c .before .before .before .before .before .before .before .before .before .before .before .before .before .before .before .before .before .before .before .before .before
+          .before .before .before .before .before .before .before .before .before .before .before .before .before .before .before .before .before .before .before .before .before .loop .inv .0,
+      c .before .before .before .before .before .before .before .before .before .before .before .before .before .before .before .before .before .before .before .before .before .before .before
+          .before .before .before .before .before .before .before .before .before .before .before .before .before .before .before .before .before .before .before .loop .inv .1,
+    )) in omega (
+      arith,
+      c .before .before .before .before .before .before .before .before .before .before .before .before .before .before .before .before .before .before .before .before .before .before
+          .before .before .before .before .before .before .before .before .before .before .before .before .before .before .before .before .before .operation-at .ensures .after,
+      c .before .before .before .before .before .before .before .before .before .before .before .before .before .before .before .before .before .before .before .before .before .before .before
+          .before .before .before .before .before .before .before .before .before .before .before .before .before .before .before .before .operation-at .ensures .whole,
+      l,
+      c .before .before .before .before .before .before .before .before .before .before .before .before .before .before .before .before .before .before .before .before .before .before .before
+          .before .before .before .before .before .before .before .before .before .before .before .before .before .before .before .before .before .before .loop-test .taken,
+    )
 
 loop-again-3 : tie.Need-loop-again-3 Inv-loop μ-loop
-loop-again-3 c = let i = c .before .before .before .before .before .before .before .before .before .before .before .before .before .before .before .before .before .before .before .before .before .before .before .before .before .before .before .before .before .before .before .before .before .before .before .before .before .before .before .before .before .before .loop .inv in (i .0, i .1, i .2, i .3, c .before .before .before .put-line3 .kept .0 ∙ c .before .before .before .before .before .before .before .before .before .before .before .before .before .before .put-line2 .kept .0 ∙ i .4, i .5, i .6, c .before .before .before .before .before .before .before .before .widen .kept .1 .0 ∙ i .7, c .before .before .before .before .before .before .before .before .before .before .before .before .before .before .before .before .before .before .before .before .before .before .before .before .before .before .before .before .before .before .apply-part .kept .1 .1 .1 .1 .1 .0 ∙ i .8, c .before .before .before .before .before .before .before .before .before .before .before .before .before .before .before .before .before .before .before .before .before .before .before .before .before .before .before .before .before .before .apply-part .kept .1 .1 .1 .1 .1 .1 .0 ∙ i .9, c .before .before .before .before .before .before .before .before .before .before .before .before .before .before .before .before .before .before .before .before .before .before .before .before .before .before .before .before .before .before .apply-part .kept .1 .1 .1 .1 .1 .1 .1 .0 ∙ i .10, c .before .before .before .before .before .before .before .before .before .before .before .before .before .before .before .before .before .before .before .before .before .before .before .before .before .before .before .before .before .before .apply-part .kept .1 .1 .1 .1 .1 .1 .1 .1 .0 ∙ i .11)
+loop-again-3 c = let i =
+    c .before .before .before .before .before .before .before .before .before .before .before .before .before .before .before .before .before .before .before .before .before .before .before
+    .before .before .before .before .before .before .before .before .before .before .before .before .before .before .before .before .before .before .before .loop .inv
+    in (
+      i .0,
+      i .1,
+      i .2,
+      i .3,
+      c .before .before .before .put-line3 .kept .0
+          ∙ c .before .before .before .before .before .before .before .before .before .before .before .before .before .before .put-line2 .kept .0 ∙ i .4,
+      i .5,
+      i .6,
+      c .before .before .before .before .before .before .before .before .widen .kept .1 .0
+          ∙ i .7,
+      c .before .before .before .before .before .before .before .before .before .before .before .before .before .before .before .before .before .before .before .before .before .before
+          .before .before .before .before .before .before .before .before .apply-part .kept .1 .1 .1 .1 .1 .0
+          ∙ i .8,
+      c .before .before .before .before .before .before .before .before .before .before .before .before .before .before .before .before .before .before .before .before .before .before
+          .before .before .before .before .before .before .before .before .apply-part .kept .1 .1 .1 .1 .1 .1 .0
+          ∙ i .9,
+      c .before .before .before .before .before .before .before .before .before .before .before .before .before .before .before .before .before .before .before .before .before .before
+          .before .before .before .before .before .before .before .before .apply-part .kept .1 .1 .1 .1 .1 .1 .1 .0
+          ∙ i .10,
+      c .before .before .before .before .before .before .before .before .before .before .before .before .before .before .before .before .before .before .before .before .before .before
+          .before .before .before .before .before .before .before .before .apply-part .kept .1 .1 .1 .1 .1 .1 .1 .1 .0 ∙ i .11,
+    )
 
 sub-report : tie.Need-sub-report Inv-loop μ-loop
 sub-report c = omega arith
@@ -267,7 +366,9 @@ array-share-prefix-text-4 : tie.Need-array-share-prefix-text-4 Inv-loop μ-loop
 array-share-prefix-text-4 c = search needs
 
 slice-aggregate-write-all-4 : tie.Need-slice-aggregate-write-all-4 Inv-loop μ-loop
-slice-aggregate-write-all-4 c = sym (length-take-le (c .before .before .put-line4 .result) (c .before .before .put-line4 .last .0) (omega (arith, c .before .before .put-line4 .ensures .2, c .before .before .put-line4 .kept .0)))
+slice-aggregate-write-all-4 c = sym
+    (length-take-le (c .before .before .put-line4 .result) (c .before .before .put-line4 .last .0)
+    (omega (arith, c .before .before .put-line4 .ensures .2, c .before .before .put-line4 .kept .0)))
 
 write-all-requires-5 : tie.Need-write-all-requires-5 Inv-loop μ-loop
 write-all-requires-5 c κs = search needs
@@ -276,10 +377,18 @@ slice-aggregate-spread : tie.Need-slice-aggregate-spread Inv-loop μ-loop
 slice-aggregate-spread c = search needs
 
 slice-aggregate-spread-2 : tie.Need-slice-aggregate-spread-2 Inv-loop μ-loop
-slice-aggregate-spread-2 c = sym (c .before .before .before .before .before .before .before .before .before .before .before .before .before .before .before .before .before .before .before .before .before .before .before .before .loop .inv .6)
+slice-aggregate-spread-2 c = sym
+    (c .before .before .before .before .before .before .before .before .before .before .before .before .before .before .before .before .before .before .before .before .before .before .before
+    .before .loop .inv .6)
 
 spread-requires : tie.Need-spread-requires Inv-loop μ-loop
-spread-requires c κs = omega (arith, c .before .before .before .before .before .before .before .before .before .before .before .before .before .before .before .before .before .before .before .before .before .before .before .before .loop .inv .5, c .before .before .before .before .before .before .before .before .before .before .before .before .before .before .before .before .before .before .before .before .before .before .before .before .loop .inv .6)
+spread-requires c κs = omega (
+  arith,
+  c .before .before .before .before .before .before .before .before .before .before .before .before .before .before .before .before .before .before .before .before .before .before
+      .before .before .loop .inv .5,
+  c .before .before .before .before .before .before .before .before .before .before .before .before .before .before .before .before .before .before .before .before .before .before .before
+      .before .loop .inv .6,
+)
 
 slice-aggregate-put-line-13 : tie.Need-slice-aggregate-put-line-13 Inv-loop μ-loop
 slice-aggregate-put-line-13 c = search needs
@@ -297,16 +406,57 @@ array-share-prefix-text-5 : tie.Need-array-share-prefix-text-5 Inv-loop μ-loop
 array-share-prefix-text-5 c = search needs
 
 slice-aggregate-write-all-5 : tie.Need-slice-aggregate-write-all-5 Inv-loop μ-loop
-slice-aggregate-write-all-5 c = sym (length-take-le (c .before .before .put-line5 .result) (c .before .before .put-line5 .last .0) (omega (arith, c .before .before .put-line5 .ensures .2, c .before .before .put-line5 .kept .0)))
+slice-aggregate-write-all-5 c = sym
+    (length-take-le (c .before .before .put-line5 .result) (c .before .before .put-line5 .last .0)
+    (omega (arith, c .before .before .put-line5 .ensures .2, c .before .before .put-line5 .kept .0)))
 
 write-all-requires-6 : tie.Need-write-all-requires-6 Inv-loop μ-loop
 write-all-requires-6 c κs = search needs
 
 loop-less-4 : tie.Need-loop-less-4 Inv-loop μ-loop
-loop-less-4 c = let l = length-take-le (c .before .before .before .before .before .before .before .before .before .before .before .before .before .before .before .before .before .before .before .before .before .before .before .before .before .before .before .before .before .before .before .before .before .before .before .before .read-full .result) (c .before .before .before .before .before .before .before .before .before .before .before .before .before .before .before .before .before .before .before .before .before .before .before .before .before .before .before .before .before .before .before .before .before .before .before .before .read-full .last .1 .0) (omega (arith, c .before .before .before .before .before .before .before .before .before .before .before .before .before .before .before .before .before .before .before .before .before .before .before .before .before .before .before .before .before .before .before .before .before .loop .inv .0, c .before .before .before .before .before .before .before .before .before .before .before .before .before .before .before .before .before .before .before .before .before .before .before .before .before .before .before .before .before .before .before .before .before .loop .inv .1)) in omega (arith, c .before .before .before .before .before .before .before .before .before .before .before .before .before .before .before .before .before .before .before .before .before .before .before .before .before .before .before .before .before .before .operation-at .ensures .after, c .before .before .before .before .before .before .before .before .before .before .before .before .before .before .before .before .before .before .before .before .before .before .before .before .before .before .before .before .before .before .operation-at .ensures .whole, l, c .before .before .before .before .before .before .before .before .before .before .before .before .before .before .before .before .before .before .before .before .before .before .before .before .before .before .before .before .before .before .before .before .loop-test .taken)
+loop-less-4 c = let l = length-take-le
+    (c .before .before .before .before .before .before .before .before .before .before .before .before .before .before .before .before .before .before .before .before .before .before .before
+    .before .before .before .before .before .before .before .before .before .before .before .before .before .read-full .result)
+    (c .before .before .before .before .before .before .before .before .before .before .before .before .before .before .before .before .before .before .before .before .before .before .before
+    .before .before .before .before .before .before .before .before .before .before .before .before .before .read-full .last .1 .0)
+    (omega (
+      arith,
+      c .before .before .before .before .before .before .before .before .before .before .before .before .before .before .before .before .before .before .before .before .before
+          .before .before .before .before .before .before .before .before .before .before .before .before .loop .inv .0,
+      c .before .before .before .before .before .before .before .before .before .before .before .before .before .before .before .before .before .before .before .before .before .before .before
+          .before .before .before .before .before .before .before .before .before .before .loop .inv .1,
+    )) in omega (
+      arith,
+      c .before .before .before .before .before .before .before .before .before .before .before .before .before .before .before .before .before .before .before .before .before .before
+          .before .before .before .before .before .before .before .before .operation-at .ensures .after,
+      c .before .before .before .before .before .before .before .before .before .before .before .before .before .before .before .before .before .before .before .before .before .before .before
+          .before .before .before .before .before .before .before .operation-at .ensures .whole,
+      l,
+      c .before .before .before .before .before .before .before .before .before .before .before .before .before .before .before .before .before .before .before .before .before .before .before
+          .before .before .before .before .before .before .before .before .before .loop-test .taken,
+    )
 
 loop-again-4 : tie.Need-loop-again-4 Inv-loop μ-loop
-loop-again-4 c = let i = c .before .before .before .before .before .before .before .before .before .before .before .before .before .before .before .before .before .before .before .before .before .before .before .before .before .before .before .before .before .before .before .before .before .loop .inv in (i .0, i .1, i .2, i .3, c .before .before .before .put-line5 .kept .0 ∙ c .before .before .before .before .before .before .before .before .before .before .before .before .before .before .put-line4 .kept .0 ∙ i .4, c .before .before .before .before .before .before .before .before .before .before .before .before .before .before .before .before .before .before .before .report .kept .1 .1 .1 .1 .1 .1 .0 ∙ i .5, c .before .before .before .before .before .before .before .before .spread .kept .1 .0 ∙ i .6, i .7, i .8, i .9, i .10, i .11)
+loop-again-4 c = let i =
+    c .before .before .before .before .before .before .before .before .before .before .before .before .before .before .before .before .before .before .before .before .before .before .before
+    .before .before .before .before .before .before .before .before .before .before .loop .inv
+    in (
+      i .0,
+      i .1,
+      i .2,
+      i .3,
+      c .before .before .before .put-line5 .kept .0
+          ∙ c .before .before .before .before .before .before .before .before .before .before .before .before .before .before .put-line4 .kept .0
+          ∙ i .4,
+      c .before .before .before .before .before .before .before .before .before .before .before .before .before .before .before .before .before .before .before .report .kept .1 .1 .1
+          .1 .1 .1 .0 ∙ i .5,
+      c .before .before .before .before .before .before .before .before .spread .kept .1 .0 ∙ i .6,
+      i .7,
+      i .8,
+      i .9,
+      i .10,
+      i .11,
+    )
 
 returns : tie.Need-returns Inv-loop μ-loop
 returns c = search needs

@@ -20,10 +20,13 @@ use Rattle.monitor.proofs.open.Reads as open-reads
 use Rattle.monitor.proofs.report.Reads as report-reads
 
 abbrev Inv-loop : tie.InvT-loop
-Inv-loop input n text₀ out₀ small₀ numbers₀ rows₀ gained₀ lost₀ head₀ tiny₀ from₀ to₀ at₀ t38 t39 t40 t41 t42 t43 t44 t45 t46 text out small numbers rows gained lost head tiny from to at = (length input ≡ 65536) × (n ≤ 65536) × (from ≤ to) × (to ≤ n) × (length text ≡ 65536) × (length out ≡ 2816) × (length small ≡ 29) × (length numbers ≡ 2816) × (length rows ≡ 8192) × (length gained ≡ 8192) × (length lost ≡ 8192) × (length head ≡ 162) × (length tiny ≡ 161)
+Inv-loop input n text₀ out₀ small₀ numbers₀ rows₀ gained₀ lost₀ head₀ tiny₀ from₀ to₀ at₀ t38 t39 t40 t41 t42 t43 t44 t45 t46 text out small numbers rows gained lost head tiny from to at =
+    (length input ≡ 65536) × (n ≤ 65536) × (from ≤ to) × (to ≤ n) × (length text ≡ 65536) × (length out ≡ 2816) × (length small ≡ 29) × (length numbers ≡ 2816) × (length rows ≡ 8192)
+    × (length gained ≡ 8192) × (length lost ≡ 8192) × (length head ≡ 162) × (length tiny ≡ 161)
 
 abbrev μ-loop : tie.MeasureT-loop
-μ-loop input n text₀ out₀ small₀ numbers₀ rows₀ gained₀ lost₀ head₀ tiny₀ from₀ to₀ at₀ t38 t39 t40 t41 t42 t43 t44 t45 t46 text out small numbers rows gained lost head tiny from to at = n - at
+μ-loop input n text₀ out₀ small₀ numbers₀ rows₀ gained₀ lost₀ head₀ tiny₀ from₀ to₀ at₀ t38 t39 t40 t41 t42 t43 t44 t45 t46 text out small numbers rows gained lost head tiny from to at = n -
+    at
 
 large-buffer-requires : tie.Need-large-buffer-requires Inv-loop μ-loop
 large-buffer-requires c κs = search needs
@@ -161,7 +164,9 @@ array-share-prefix-text : tie.Need-array-share-prefix-text Inv-loop μ-loop
 array-share-prefix-text c = search needs
 
 slice-aggregate-write-all : tie.Need-slice-aggregate-write-all Inv-loop μ-loop
-slice-aggregate-write-all c = sym (length-take-le (c .before .before .put-line .result) (c .before .before .put-line .last .0) (omega (arith, c .before .before .put-line .ensures .2, c .before .before .put-line .kept .0)))
+slice-aggregate-write-all c = sym
+    (length-take-le (c .before .before .put-line .result) (c .before .before .put-line .last .0)
+    (omega (arith, c .before .before .put-line .ensures .2, c .before .before .put-line .kept .0)))
 
 write-all-requires-2 : tie.Need-write-all-requires-2 Inv-loop μ-loop
 write-all-requires-2 c κs = search needs
@@ -215,7 +220,9 @@ array-share-prefix-text-2 : tie.Need-array-share-prefix-text-2 Inv-loop μ-loop
 array-share-prefix-text-2 c = search needs
 
 slice-aggregate-write-all-2 : tie.Need-slice-aggregate-write-all-2 Inv-loop μ-loop
-slice-aggregate-write-all-2 c = sym (length-take-le (c .before .before .put-line2 .result) (c .before .before .put-line2 .last .0) (omega (arith, c .before .before .put-line2 .ensures .2, c .before .before .put-line2 .kept .0)))
+slice-aggregate-write-all-2 c = sym
+    (length-take-le (c .before .before .put-line2 .result) (c .before .before .put-line2 .last .0)
+    (omega (arith, c .before .before .put-line2 .ensures .2, c .before .before .put-line2 .kept .0)))
 
 write-all-requires-3 : tie.Need-write-all-requires-3 Inv-loop μ-loop
 write-all-requires-3 c κs = search needs
@@ -269,7 +276,9 @@ array-share-prefix-text-3 : tie.Need-array-share-prefix-text-3 Inv-loop μ-loop
 array-share-prefix-text-3 c = search needs
 
 slice-aggregate-write-all-3 : tie.Need-slice-aggregate-write-all-3 Inv-loop μ-loop
-slice-aggregate-write-all-3 c = sym (length-take-le (c .before .before .put-line3 .result) (c .before .before .put-line3 .last .0) (omega (arith, c .before .before .put-line3 .ensures .2, c .before .before .put-line3 .kept .0)))
+slice-aggregate-write-all-3 c = sym
+    (length-take-le (c .before .before .put-line3 .result) (c .before .before .put-line3 .last .0)
+    (omega (arith, c .before .before .put-line3 .ensures .2, c .before .before .put-line3 .kept .0)))
 
 write-all-requires-4 : tie.Need-write-all-requires-4 Inv-loop μ-loop
 write-all-requires-4 c κs = search needs
@@ -287,7 +296,11 @@ slice-aggregate-spread-2 : tie.Need-slice-aggregate-spread-2 Inv-loop μ-loop
 slice-aggregate-spread-2 c = sym (c .before .before .before .before .before .before .before .before .before .before .before .before .loop .inv .7)
 
 spread-requires : tie.Need-spread-requires Inv-loop μ-loop
-spread-requires c κs = omega (arith, c .before .before .before .before .before .before .before .before .before .before .before .before .loop .inv .7, c .before .before .before .before .before .before .before .before .before .before .before .before .loop .inv .5)
+spread-requires c κs = omega (
+  arith,
+  c .before .before .before .before .before .before .before .before .before .before .before .before .loop .inv .7,
+  c .before .before .before .before .before .before .before .before .before .before .before .before .loop .inv .5,
+)
 
 slice-aggregate-put-line-10 : tie.Need-slice-aggregate-put-line-10 Inv-loop μ-loop
 slice-aggregate-put-line-10 c = search needs
@@ -305,7 +318,9 @@ array-share-prefix-text-4 : tie.Need-array-share-prefix-text-4 Inv-loop μ-loop
 array-share-prefix-text-4 c = search needs
 
 slice-aggregate-write-all-4 : tie.Need-slice-aggregate-write-all-4 Inv-loop μ-loop
-slice-aggregate-write-all-4 c = sym (length-take-le (c .before .before .put-line4 .result) (c .before .before .put-line4 .last .0) (omega (arith, c .before .before .put-line4 .ensures .2, c .before .before .put-line4 .kept .0)))
+slice-aggregate-write-all-4 c = sym
+    (length-take-le (c .before .before .put-line4 .result) (c .before .before .put-line4 .last .0)
+    (omega (arith, c .before .before .put-line4 .ensures .2, c .before .before .put-line4 .kept .0)))
 
 write-all-requires-5 : tie.Need-write-all-requires-5 Inv-loop μ-loop
 write-all-requires-5 c κs = search needs
@@ -356,7 +371,9 @@ array-share-prefix-text-5 : tie.Need-array-share-prefix-text-5 Inv-loop μ-loop
 array-share-prefix-text-5 c = search needs
 
 slice-aggregate-write-all-5 : tie.Need-slice-aggregate-write-all-5 Inv-loop μ-loop
-slice-aggregate-write-all-5 c = sym (length-take-le (c .before .before .put-line5 .result) (c .before .before .put-line5 .last .0) (omega (arith, c .before .before .put-line5 .ensures .2, c .before .before .put-line5 .kept .0)))
+slice-aggregate-write-all-5 c = sym
+    (length-take-le (c .before .before .put-line5 .result) (c .before .before .put-line5 .last .0)
+    (omega (arith, c .before .before .put-line5 .ensures .2, c .before .before .put-line5 .kept .0)))
 
 write-all-requires-6 : tie.Need-write-all-requires-6 Inv-loop μ-loop
 write-all-requires-6 c κs = search needs
@@ -410,7 +427,9 @@ array-share-prefix-text-6 : tie.Need-array-share-prefix-text-6 Inv-loop μ-loop
 array-share-prefix-text-6 c = search needs
 
 slice-aggregate-write-all-6 : tie.Need-slice-aggregate-write-all-6 Inv-loop μ-loop
-slice-aggregate-write-all-6 c = sym (length-take-le (c .before .before .put-line6 .result) (c .before .before .put-line6 .last .0) (omega (arith, c .before .before .put-line6 .ensures .2, c .before .before .put-line6 .kept .0)))
+slice-aggregate-write-all-6 c = sym
+    (length-take-le (c .before .before .put-line6 .result) (c .before .before .put-line6 .last .0)
+    (omega (arith, c .before .before .put-line6 .ensures .2, c .before .before .put-line6 .kept .0)))
 
 write-all-requires-7 : tie.Need-write-all-requires-7 Inv-loop μ-loop
 write-all-requires-7 c κs = search needs
@@ -464,7 +483,9 @@ array-share-prefix-text-7 : tie.Need-array-share-prefix-text-7 Inv-loop μ-loop
 array-share-prefix-text-7 c = search needs
 
 slice-aggregate-write-all-7 : tie.Need-slice-aggregate-write-all-7 Inv-loop μ-loop
-slice-aggregate-write-all-7 c = sym (length-take-le (c .before .before .put-line7 .result) (c .before .before .put-line7 .last .0) (omega (arith, c .before .before .put-line7 .ensures .2, c .before .before .put-line7 .kept .0)))
+slice-aggregate-write-all-7 c = sym
+    (length-take-le (c .before .before .put-line7 .result) (c .before .before .put-line7 .last .0)
+    (omega (arith, c .before .before .put-line7 .ensures .2, c .before .before .put-line7 .kept .0)))
 
 write-all-requires-8 : tie.Need-write-all-requires-8 Inv-loop μ-loop
 write-all-requires-8 c κs = search needs
@@ -473,7 +494,25 @@ loop-less-13 : tie.Need-loop-less-13 Inv-loop μ-loop
 loop-less-13 c = omega arith
 
 loop-again-13 : tie.Need-loop-again-13 Inv-loop μ-loop
-loop-again-13 c = let i = c .before .before .before .before .before .before .before .before .before .before .before .before .before .before .before .before .before .before .before .before .before .before .before .before .before .before .before .before .before .loop .inv in (i .0, i .1, i .2, i .3, c .before .before .before .put-line7 .kept .0 ∙ i .4, c .before .before .before .before .before .before .before .before .report2 .kept .1 .1 .1 .1 .1 .1 .0 ∙ i .5, i .6, i .7, i .8, i .9, i .10, i .11, i .12)
+loop-again-13 c = let i =
+    c .before .before .before .before .before .before .before .before .before .before .before .before .before .before .before .before .before .before .before .before .before .before .before
+    .before .before .before .before .before .before .loop .inv
+    in (
+      i .0,
+      i .1,
+      i .2,
+      i .3,
+      c .before .before .before .put-line7 .kept .0 ∙ i .4,
+      c .before .before .before .before .before .before .before .before .report2 .kept .1 .1 .1 .1 .1 .1 .0
+          ∙ i .5,
+      i .6,
+      i .7,
+      i .8,
+      i .9,
+      i .10,
+      i .11,
+      i .12,
+    )
 
 sub-open-3 : tie.Need-sub-open-3 Inv-loop μ-loop
 sub-open-3 c = omega arith
@@ -515,7 +554,9 @@ array-share-prefix-text-8 : tie.Need-array-share-prefix-text-8 Inv-loop μ-loop
 array-share-prefix-text-8 c = search needs
 
 slice-aggregate-write-all-8 : tie.Need-slice-aggregate-write-all-8 Inv-loop μ-loop
-slice-aggregate-write-all-8 c = sym (length-take-le (c .before .before .put-line8 .result) (c .before .before .put-line8 .last .0) (omega (arith, c .before .before .put-line8 .ensures .2, c .before .before .put-line8 .kept .0)))
+slice-aggregate-write-all-8 c = sym
+    (length-take-le (c .before .before .put-line8 .result) (c .before .before .put-line8 .last .0)
+    (omega (arith, c .before .before .put-line8 .ensures .2, c .before .before .put-line8 .kept .0)))
 
 write-all-requires-9 : tie.Need-write-all-requires-9 Inv-loop μ-loop
 write-all-requires-9 c κs = search needs
@@ -569,7 +610,9 @@ array-share-prefix-text-9 : tie.Need-array-share-prefix-text-9 Inv-loop μ-loop
 array-share-prefix-text-9 c = search needs
 
 slice-aggregate-write-all-9 : tie.Need-slice-aggregate-write-all-9 Inv-loop μ-loop
-slice-aggregate-write-all-9 c = sym (length-take-le (c .before .before .put-line9 .result) (c .before .before .put-line9 .last .0) (omega (arith, c .before .before .put-line9 .ensures .2, c .before .before .put-line9 .kept .0)))
+slice-aggregate-write-all-9 c = sym
+    (length-take-le (c .before .before .put-line9 .result) (c .before .before .put-line9 .last .0)
+    (omega (arith, c .before .before .put-line9 .ensures .2, c .before .before .put-line9 .kept .0)))
 
 write-all-requires-10 : tie.Need-write-all-requires-10 Inv-loop μ-loop
 write-all-requires-10 c κs = search needs
@@ -578,7 +621,25 @@ loop-less-15 : tie.Need-loop-less-15 Inv-loop μ-loop
 loop-less-15 c = omega arith
 
 loop-again-15 : tie.Need-loop-again-15 Inv-loop μ-loop
-loop-again-15 c = let i = c .before .before .before .before .before .before .before .before .before .before .before .before .before .before .before .before .before .before .before .before .before .before .before .before .before .before .before .before .before .before .loop .inv in (i .0, i .1, i .2, i .3, c .before .before .before .put-line9 .kept .0 ∙ i .4, i .5, c .before .before .before .before .before .before .before .before .report3 .kept .1 .1 .1 .1 .1 .1 .0 ∙ i .6, i .7, i .8, i .9, i .10, i .11, i .12)
+loop-again-15 c = let i =
+    c .before .before .before .before .before .before .before .before .before .before .before .before .before .before .before .before .before .before .before .before .before .before .before
+    .before .before .before .before .before .before .before .loop .inv
+    in (
+      i .0,
+      i .1,
+      i .2,
+      i .3,
+      c .before .before .before .put-line9 .kept .0
+          ∙ i .4,
+      i .5,
+      c .before .before .before .before .before .before .before .before .report3 .kept .1 .1 .1 .1 .1 .1 .0 ∙ i .6,
+      i .7,
+      i .8,
+      i .9,
+      i .10,
+      i .11,
+      i .12,
+    )
 
 returns : tie.Need-returns Inv-loop μ-loop
 returns c = search needs

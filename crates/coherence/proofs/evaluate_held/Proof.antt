@@ -23,8 +23,11 @@ use Rattle.evaluation.proofs.left_of.Reads as left-of-reads
 use Rattle.evaluation.proofs.right_of.Reads as right-of-reads
 use Rattle.coherence.proofs.held.Reads as held-reads
 
-as-held : (slot : Slot) (ws head rows : List ℕ) (n l r : ℕ) (lh rh : Held) → Places ws n rows head → Derived slot ws n → l ≡ leftOf (slotNode slot) → r ≡ rightOf (slotNode slot) → lh ≡ record { width = getD ws l 0; count = rowCount head l } → rh ≡ record { width = getD ws r 0; count = rowCount head r } →
-    Place (lh .width) (placeAt rows l) (lh .count) × Place (rh .width) (placeAt rows r) (rh .count) × (fitsOn (lh .width) (rh .width) (slotNode slot) ≡ true) × (relationIn (lh .width) (placeAt rows l) (lh .count) ≡ heldAt ws head rows (leftOf (slotNode slot))) × (relationIn (rh .width) (placeAt rows r) (rh .count) ≡ heldAt ws head rows (rightOf (slotNode slot)))
+as-held : (slot : Slot) (ws head rows : List ℕ) (n l r : ℕ) (lh rh : Held) → Places ws n rows head → Derived slot ws n → l ≡ leftOf (slotNode slot) → r ≡ rightOf (slotNode slot) →
+    lh ≡ record { width = getD ws l 0; count = rowCount head l } → rh ≡ record { width = getD ws r 0; count = rowCount head r } →
+    Place (lh .width) (placeAt rows l) (lh .count) × Place (rh .width) (placeAt rows r) (rh .count) × (fitsOn (lh .width) (rh .width) (slotNode slot) ≡ true)
+    × (relationIn (lh .width) (placeAt rows l) (lh .count) ≡ heldAt ws head rows (leftOf (slotNode slot)))
+    × (relationIn (rh .width) (placeAt rows r) (rh .count) ≡ heldAt ws head rows (rightOf (slotNode slot)))
 as-held slot ws head rows n l r lh rh p d el er ewl ewr =
     rw (ewl, ewr, el, er) (
       place-at ws n rows head p (leftOf (slotNode slot)) (d .left),
@@ -41,10 +44,24 @@ right-of-requires : tie.Need-right-of-requires
 right-of-requires c κs = search needs
 
 held-requires : tie.Need-held-requires
-held-requires c κs = let b = c .before .before .before .before .before .before .pre .1 .left in omega (arith, c .before .before .before .before .before .before .pre .0 .few, c .before .before .before .before .before .before .pre .0 .widths-long, c .before .before .before .before .before .before .pre .0 .head-long, b, c .before .left-of .ensures)
+held-requires c κs = let b = c .before .before .before .before .before .before .pre .1 .left in omega (
+  arith,
+  c .before .before .before .before .before .before .pre .0 .few,
+  c .before .before .before .before .before .before .pre .0 .widths-long,
+  c .before .before .before .before .before .before .pre .0 .head-long,
+  b,
+  c .before .left-of .ensures,
+)
 
 held-requires-2 : tie.Need-held-requires-2
-held-requires-2 c κs = let b = c .before .before .before .before .before .before .before .pre .1 .right in omega (arith, c .before .before .before .before .before .before .before .pre .0 .few, c .before .before .before .before .before .before .before .pre .0 .widths-long, c .before .before .before .before .before .before .before .pre .0 .head-long, b, c .before .right-of .ensures)
+held-requires-2 c κs = let b = c .before .before .before .before .before .before .before .pre .1 .right in omega (
+  arith,
+  c .before .before .before .before .before .before .before .pre .0 .few,
+  c .before .before .before .before .before .before .before .pre .0 .widths-long,
+  c .before .before .before .before .before .before .before .pre .0 .head-long,
+  b,
+  c .before .right-of .ensures,
+)
 
 mul-evaluate : tie.Need-mul-evaluate
 mul-evaluate c = search needs
@@ -91,8 +108,17 @@ part-evaluate-end-2 c = search needs
 evaluate-requires : tie.Need-evaluate-requires
 evaluate-requires c κs =
     let a = c .before .before .before .before .before .before .before .before .before .before .before .args in
-    let s = as-held (a .slot) (a .widths .now) (a .head .now) (a .rows .now) (a .n) (c .before .before .before .before .before .before .left-of .result) (c .before .before .before .before .before .right-of .result) (c .before .before .before .before .held .result) (c .before .before .before .held2 .result) (c .before .before .before .before .before .before .before .before .before .before .before .pre .0) (c .before .before .before .before .before .before .before .before .before .before .before .pre .1) (c .before .before .before .before .before .before .left-of .ensures) (c .before .before .before .before .before .right-of .ensures) (c .before .before .before .before .held .ensures) (c .before .before .before .held2 .ensures) in
-    (c .before .before .before .before .before .before .before .before .before .before .before .pre .1 .shaped, s .0, s .1, s .2, c .before .before .before .before .before .before .before .before .before .before .before .pre .2)
+    let s = as-held (a .slot) (a .widths .now) (a .head .now) (a .rows .now) (a .n) (c .before .before .before .before .before .before .left-of .result)
+    (c .before .before .before .before .before .right-of .result) (c .before .before .before .before .held .result) (c .before .before .before .held2 .result)
+    (c .before .before .before .before .before .before .before .before .before .before .before .pre .0)
+    (c .before .before .before .before .before .before .before .before .before .before .before .pre .1) (c .before .before .before .before .before .before .left-of .ensures)
+    (c .before .before .before .before .before .right-of .ensures) (c .before .before .before .before .held .ensures) (c .before .before .before .held2 .ensures) in (
+      c .before .before .before .before .before .before .before .before .before .before .before .pre .1 .shaped,
+      s .0,
+      s .1,
+      s .2,
+      c .before .before .before .before .before .before .before .before .before .before .before .pre .2,
+    )
 
 same-length : tie.Need-same-length
 same-length c = search needs
@@ -100,7 +126,13 @@ same-length c = search needs
 returns : tie.Need-returns
 returns c =
     let a = c .before .before .before .before .before .before .before .before .before .before .before .before .before .before .args in
-    let s = as-held (a .slot) (a .widths .now) (a .head .now) (a .rows .now) (a .n) (c .before .before .before .before .before .before .before .before .before .left-of .result) (c .before .before .before .before .before .before .before .before .right-of .result) (c .before .before .before .before .before .before .before .held .result) (c .before .before .before .before .before .before .held2 .result) (c .before .before .before .before .before .before .before .before .before .before .before .before .before .before .pre .0) (c .before .before .before .before .before .before .before .before .before .before .before .before .before .before .pre .1) (c .before .before .before .before .before .before .before .before .before .left-of .ensures) (c .before .before .before .before .before .before .before .before .right-of .ensures) (c .before .before .before .before .before .before .before .held .ensures) (c .before .before .before .before .before .before .held2 .ensures) in
+    let s = as-held (a .slot) (a .widths .now) (a .head .now) (a .rows .now) (a .n) (c .before .before .before .before .before .before .before .before .before .left-of .result)
+    (c .before .before .before .before .before .before .before .before .right-of .result) (c .before .before .before .before .before .before .before .held .result)
+    (c .before .before .before .before .before .before .held2 .result)
+    (c .before .before .before .before .before .before .before .before .before .before .before .before .before .before .pre .0)
+    (c .before .before .before .before .before .before .before .before .before .before .before .before .before .before .pre .1)
+    (c .before .before .before .before .before .before .before .before .before .left-of .ensures) (c .before .before .before .before .before .before .before .before .right-of .ensures)
+    (c .before .before .before .before .before .before .before .held .ensures) (c .before .before .before .before .before .before .held2 .ensures) in
     rw (← s .3, ← s .4) (c .before .before .evaluate .ensures)
 
 pub evaluate-held-spec : {M : Type 1} → statement M

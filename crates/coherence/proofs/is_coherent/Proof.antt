@@ -21,7 +21,8 @@ abbrev μ-loop : tie.MeasureT-loop
 μ-loop rows head net count i₀ i = count - i
 
 loop-holds : tie.Need-loop-holds Inv-loop μ-loop
-loop-holds c = let a = c .before .before .args in (omega arith, refl, all-none (λ j. slotAgrees (getD (a .t1 .slots) j noSlot) (a .t1 .widths) (a .head .now) (a .rows .now) j) (a .t1 .count))
+loop-holds c = let a = c .before .before .args
+    in (omega arith, refl, all-none (λ j. slotAgrees (getD (a .t1 .slots) j noSlot) (a .t1 .widths) (a .head .now) (a .rows .now) j) (a .t1 .count))
 
 mul-slot : tie.Need-mul-slot Inv-loop μ-loop
 mul-slot c = omega arith
@@ -37,13 +38,23 @@ element-copy-out-level c = omega arith
 
 node-agrees-requires : tie.Need-node-agrees-requires Inv-loop μ-loop
 node-agrees-requires c κs =
-    let a = c .before .before .before .before .before .before .before .before .before .args in
-    (fewer (a .t1 .widths) (a .t1 .count) (c .before .before .before .before .before .before .loop .i + 1) (a .rows .now) (a .head .now) (omega arith) (c .before .before .before .before .before .before .before .before .before .pre .places), level-table (a .t1) (c .before .before .before .before .before .before .before .before .before .pre .built) (c .before .before .before .before .before .before .before .before .before .pre .fit) (c .before .before .before .before .before .before .loop .i) (omega arith), level-derived (a .t1) (c .before .before .before .before .before .before .before .before .before .pre .built) (c .before .before .before .before .before .before .before .before .before .pre .fit) (c .before .before .before .before .before .before .loop .i) (omega arith))
+    let a = c .before .before .before .before .before .before .before .before .before .args in (
+      fewer (a .t1 .widths) (a .t1 .count) (c .before .before .before .before .before .before .loop .i + 1) (a .rows .now) (a .head .now) (omega arith)
+          (c .before .before .before .before .before .before .before .before .before .pre .places),
+      level-table (a .t1) (c .before .before .before .before .before .before .before .before .before .pre .built)
+          (c .before .before .before .before .before .before .before .before .before .pre .fit) (c .before .before .before .before .before .before .loop .i) (omega arith),
+      level-derived (a .t1) (c .before .before .before .before .before .before .before .before .before .pre .built)
+          (c .before .before .before .before .before .before .before .before .before .pre .fit) (c .before .before .before .before .before .before .loop .i) (omega arith),
+    )
 
 returns : tie.Need-returns Inv-loop μ-loop
 returns c =
     let a = c .before .before .before .before .before .before .before .before .before .before .before .args in
-    sym (sym (coherent-is (a .t1) (c .before .before .before .before .before .before .before .before .before .before .before .pre .built) (c .before .before .before .before .before .before .before .before .before .before .before .pre .fit) (a .rows .now) (a .head .now)) ∙ all-not (λ j. slotAgrees (getD (a .t1 .slots) j noSlot) (a .t1 .widths) (a .head .now) (a .rows .now) j) (a .t1 .count) (c .before .before .before .before .before .before .before .before .loop .i) (omega arith) (sym (c .before .node-agrees .ensures) ∙ not-true (c .before .node-agrees .result) (c .if1 .taken)))
+    sym (sym (coherent-is (a .t1) (c .before .before .before .before .before .before .before .before .before .before .before .pre .built)
+    (c .before .before .before .before .before .before .before .before .before .before .before .pre .fit) (a .rows .now) (a .head .now))
+    ∙ all-not (λ j. slotAgrees (getD (a .t1 .slots) j noSlot) (a .t1 .widths) (a .head .now) (a .rows .now) j) (a .t1 .count)
+    (c .before .before .before .before .before .before .before .before .loop .i) (omega arith)
+    (sym (c .before .node-agrees .ensures) ∙ not-true (c .before .node-agrees .result) (c .if1 .taken)))
 
 add-i : tie.Need-add-i Inv-loop μ-loop
 add-i c = omega arith
@@ -52,12 +63,21 @@ loop-less : tie.Need-loop-less Inv-loop μ-loop
 loop-less c = omega arith
 
 loop-again : tie.Need-loop-again Inv-loop μ-loop
-loop-again c = let a = c .before .before .before .before .before .before .before .before .before .before .before .args in (omega arith, c .before .before .before .before .before .before .before .before .loop .inv .1, all-more (λ j. slotAgrees (getD (a .t1 .slots) j noSlot) (a .t1 .widths) (a .head .now) (a .rows .now) j) (a .t1 .count) (c .before .before .before .before .before .before .before .before .loop .i) (c .before .before .before .before .before .before .before .before .loop .inv .2) (sym (c .before .node-agrees .ensures) ∙ not-false (c .before .node-agrees .result) (c .if1 .left)))
+loop-again c = let a = c .before .before .before .before .before .before .before .before .before .before .before .args
+    in (
+      omega arith,
+      c .before .before .before .before .before .before .before .before .loop .inv .1,
+      all-more (λ j. slotAgrees (getD (a .t1 .slots) j noSlot) (a .t1 .widths) (a .head .now) (a .rows .now) j) (a .t1 .count)
+          (c .before .before .before .before .before .before .before .before .loop .i) (c .before .before .before .before .before .before .before .before .loop .inv .2)
+          (sym (c .before .node-agrees .ensures) ∙ not-false (c .before .node-agrees .result) (c .if1 .left)),
+    )
 
 returns-2 : tie.Need-returns-2 Inv-loop μ-loop
 returns-2 c =
     let a = c .before .before .before .before .args in
-    sym (sym (coherent-is (a .t1) (c .before .before .before .before .pre .built) (c .before .before .before .before .pre .fit) (a .rows .now) (a .head .now)) ∙ all-done (λ j. slotAgrees (getD (a .t1 .slots) j noSlot) (a .t1 .widths) (a .head .now) (a .rows .now) j) (a .t1 .count) (c .before .loop .i) (omega arith) (c .before .loop .inv .2))
+    sym (sym (coherent-is (a .t1) (c .before .before .before .before .pre .built) (c .before .before .before .before .pre .fit) (a .rows .now) (a .head .now))
+    ∙ all-done (λ j. slotAgrees (getD (a .t1 .slots) j noSlot) (a .t1 .widths) (a .head .now) (a .rows .now) j) (a .t1 .count) (c .before .loop .i) (omega arith)
+    (c .before .loop .inv .2))
 
 pub is-coherent-spec : {M : Type 1} → statement M
 is-coherent-spec =

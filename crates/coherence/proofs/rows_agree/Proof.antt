@@ -14,7 +14,8 @@ slice-aggregate-evaluate-held : tie.Need-slice-aggregate-evaluate-held
 slice-aggregate-evaluate-held c = search needs
 
 evaluate-held-requires : tie.Need-evaluate-held-requires
-evaluate-held-requires c κs = let a = c .before .before .before .before .args in (fewer (a .widths .now) (a .i + 1) (a .i) (a .rows .now) (a .head .now) (omega arith) (c .before .before .before .before .pre .0), c .before .before .before .before .pre .1, refl)
+evaluate-held-requires c κs = let a = c .before .before .before .before .args
+    in (fewer (a .widths .now) (a .i + 1) (a .i) (a .rows .now) (a .head .now) (omega arith) (c .before .before .before .before .pre .0), c .before .before .before .before .pre .1, refl)
 
 enum-told : tie.Need-enum-told
 enum-told c = search needs
@@ -38,7 +39,9 @@ returns : tie.Need-returns
 returns c =
     let a = c .before .before .before .before .before .before .before .before .before .before .before .args in
     let f = rw (c .before .before .before .count .given .1) at (c .before .before .before .before .before .before .evaluate-held .ensures) in
-    sym (count-differs (a .slot) (a .widths .now) (a .rows .now) (a .head .now) (a .i) (c .before .before .before .before .before .before .before .before .before .before .before .pre .0) (c .before .before .before .before .before .before .before .before .before .before .before .pre .1) (c .before .before .before .before .before .before .evaluate-held .last .1 .1 .1 .1 .1 .0) (c .before .before .before .count .given .0 .0) f (c .if1 .taken))
+    sym (count-differs (a .slot) (a .widths .now) (a .rows .now) (a .head .now) (a .i) (c .before .before .before .before .before .before .before .before .before .before .before .pre .0)
+    (c .before .before .before .before .before .before .before .before .before .before .before .pre .1)
+    (c .before .before .before .before .before .before .evaluate-held .last .1 .1 .1 .1 .1 .0) (c .before .before .before .count .given .0 .0) f (c .if1 .taken))
 
 mul-same-words : tie.Need-mul-same-words
 mul-same-words c = search needs
@@ -68,19 +71,28 @@ same-words-requires : tie.Need-same-words-requires
 same-words-requires c κs =
     let a = c .before .before .before .before .before .before .before .before .before .before .before .before .before .args in
     let f = rw (c .before .before .before .before .before .count .given .1) at (c .before .before .before .before .before .before .before .before .evaluate-held .ensures) in
-    omega (arith, c .before .before .before .before .before .before .before .before .before .before .before .before .before .pre .0 .rows-long, c .before .before .before .before .before .before .before .before .before .before .before .before .before .pre .0 .few)
+    omega (
+      arith,
+      c .before .before .before .before .before .before .before .before .before .before .before .before .before .pre .0 .rows-long,
+      c .before .before .before .before .before .before .before .before .before .before .before .before .before .pre .0 .few,
+    )
 
 returns-2 : tie.Need-returns-2
 returns-2 c =
     let a = c .before .before .before .before .before .before .before .before .args in
     let f = rw (c .enum-told .given .1) at (c .before .before .before .evaluate-held .ensures) in
-    sym (over-differs (a .slot) (a .widths .now) (a .rows .now) (a .head .now) (a .i) (c .before .before .before .before .before .before .before .before .pre .0) (c .before .before .before .before .before .before .before .before .pre .1) (f .0))
+    sym (over-differs (a .slot) (a .widths .now) (a .rows .now) (a .head .now) (a .i) (c .before .before .before .before .before .before .before .before .pre .0)
+    (c .before .before .before .before .before .before .before .before .pre .1) (f .0))
 
 returns-3 : tie.Need-returns-3
 returns-3 c =
     let a = c .before .before .before .before .before .before .before .before .before .before .before .before .before .before .args in
     let f = rw (c .before .before .before .before .before .before .count .given .1) at (c .before .before .before .before .before .before .before .before .before .evaluate-held .ensures) in
-    c .same-words .ensures ∙ words-decide (a .slot) (a .widths .now) (a .rows .now) (a .head .now) (a .i) (c .before .before .before .before .before .before .before .before .before .before .before .before .before .before .pre .0) (c .before .before .before .before .before .before .before .before .before .before .before .before .before .before .pre .1) (c .before .before .before .before .before .before .before .before .before .evaluate-held .last .1 .1 .1 .1 .1 .0) (c .before .before .before .before .before .before .count .given .0 .0) f (c .before .before .before .if1 .left)
+    c .same-words .ensures ∙ words-decide (a .slot) (a .widths .now) (a .rows .now) (a .head .now) (a .i)
+    (c .before .before .before .before .before .before .before .before .before .before .before .before .before .before .pre .0)
+    (c .before .before .before .before .before .before .before .before .before .before .before .before .before .before .pre .1)
+    (c .before .before .before .before .before .before .before .before .before .evaluate-held .last .1 .1 .1 .1 .1 .0)
+    (c .before .before .before .before .before .before .count .given .0 .0) f (c .before .before .before .if1 .left)
 
 pub rows-agree-spec : {M : Type 1} → statement M
 rows-agree-spec =

@@ -1,7 +1,5 @@
-use mathlib.Core.Path.{_≡_, refl, sym, ap, _∙_}
+use mathlib.Core.Path.{refl}
 use Prim.Native.Nat.{_*_, _+_, Ordering·lt, Ordering·eq, Ordering·gt}
-use Rattle.model.specs.Algebra.{holdsOf}
-use Rattle.rows.specs.Rows.{orderOf}
 use Rattle.comparisons.proofs.Truth.{truth}
 use native.Mathlib.Omega.{arith}
 use borrow.Author.Needs.{needs}

@@ -8,7 +8,7 @@ use Rattle.model.specs.Evaluation.{evaluateSet}
 use Rattle.evaluation.proofs.Inside.{fills-none, join-fits, join-inside, operand-narrow, project-inside, select-inside, set-inside}
 use Rattle.model.specs.Algebra.{joinRows, projectRows}
 use Rattle.nodes.specs.Nodes.{operationOf, pairsOf}
-use Rattle.algebra.proofs.Places.{place-few, rows-ascend}
+use Rattle.algebra.proofs.Places.{place-few}
 use Rattle.rows.specs.Rows.{stride}
 use Rattle.evaluation.proofs.evaluate.Tie as tie
 use Rattle.evaluation.proofs.evaluate.Reads as reads
@@ -27,9 +27,17 @@ enum-known-node c = search needs
 select-rows-requires : tie.Need-select-rows-requires
 select-rows-requires c κs =
     let a = c .before .before .before .before .before .before .before .args in
-    let s = select-inside (a .l .width) (a .r .width) (c .before .before .node .given .0 .0) (c .before .before .node .given .0 .1 .0) (c .before .before .node .given .0 .1 .1 .0) (c .before .before .node .given .0 .1 .1 .1 .0) (rw (c .before .before .node .given .1) at (c .before .before .before .before .before .before .before .pre .3)) in
-    let few = place-few (a .l .width) (a .left .now) (a .l .count) (c .before .before .before .before .before .before .before .pre .1) in
-    (few, omega (arith, c .before .before .before .before .before .before .before .pre .1 .long), omega (arith, s .0, c .before .before .before .before .before .before .before .pre .1 .narrow), s .1, operand-narrow (a .l .width) (c .before .before .node .given .0 .1 .1 .1 .0) (c .before .before .before .before .before .before .before .pre .1 .narrow) (s .2), c .before .before .before .before .before .before .before .pre .4)
+    let s = select-inside (a .l .width) (a .r .width) (c .before .before .node .given .0 .0) (c .before .before .node .given .0 .1 .0) (c .before .before .node .given .0 .1 .1 .0)
+    (c .before .before .node .given .0 .1 .1 .1 .0) (rw (c .before .before .node .given .1) at (c .before .before .before .before .before .before .before .pre .3)) in
+    let few = place-few (a .l .width) (a .left .now) (a .l .count) (c .before .before .before .before .before .before .before .pre .1) in (
+      few,
+      omega (arith, c .before .before .before .before .before .before .before .pre .1 .long),
+      omega (arith, s .0, c .before .before .before .before .before .before .before .pre .1 .narrow),
+      s .1,
+      operand-narrow (a .l .width) (c .before .before .node .given .0 .1 .1 .1 .0)
+          (c .before .before .before .before .before .before .before .pre .1 .narrow) (s .2),
+      c .before .before .before .before .before .before .before .pre .4,
+    )
 
 enum-known-node-2 : tie.Need-enum-known-node-2
 enum-known-node-2 c = search needs
@@ -37,10 +45,18 @@ enum-known-node-2 c = search needs
 project-rows-requires : tie.Need-project-rows-requires
 project-rows-requires c κs =
     let a = c .before .before .before .before .before .before .before .before .before .before .args in
-    let s = project-inside (a .l .width) (a .r .width) (c .before .before .before .before .before .node2 .given .0 .0) (take (c .before .before .before .before .before .node2 .given .0 .1 .0) (a .t1 .columns)) (rw (c .before .before .before .before .before .node2 .given .1) at (c .before .before .before .before .before .before .before .before .before .before .pre .3)) in
+    let s = project-inside (a .l .width) (a .r .width) (c .before .before .before .before .before .node2 .given .0 .0)
+    (take (c .before .before .before .before .before .node2 .given .0 .1 .0) (a .t1 .columns))
+    (rw (c .before .before .before .before .before .node2 .given .1) at (c .before .before .before .before .before .before .before .before .before .before .pre .3)) in
     let few = place-few (a .l .width) (a .left .now) (a .l .count) (c .before .before .before .before .before .before .before .before .before .before .pre .1) in
-    let counts = rw (c .before .before .before .before .before .node2 .given .1) at (c .before .before .before .before .before .before .before .before .before .before .pre .0 .counts) in
-    (omega (arith, c .before .before .before .before .before .before .before .before .before .before .pre .1 .long), counts, omega (arith, c .before .before .before .before .before .before .before .before .before .before .pre .0 .columns-length), columns-more (a .l .width) stride (take (c .before .before .before .before .before .node2 .given .0 .1 .0) (a .t1 .columns)) (c .before .before .before .before .before .before .before .before .before .before .pre .1 .narrow) s, c .before .before .before .before .before .before .before .before .before .before .pre .4)
+    let counts = rw (c .before .before .before .before .before .node2 .given .1) at (c .before .before .before .before .before .before .before .before .before .before .pre .0 .counts) in (
+      omega (arith, c .before .before .before .before .before .before .before .before .before .before .pre .1 .long),
+      counts,
+      omega (arith, c .before .before .before .before .before .before .before .before .before .before .pre .0 .columns-length),
+      columns-more (a .l .width) stride (take (c .before .before .before .before .before .node2 .given .0 .1 .0) (a .t1 .columns))
+          (c .before .before .before .before .before .before .before .before .before .before .pre .1 .narrow) s,
+      c .before .before .before .before .before .before .before .before .before .before .pre .4,
+    )
 
 enum-known-node-3 : tie.Need-enum-known-node-3
 enum-known-node-3 c = search needs
@@ -48,10 +64,33 @@ enum-known-node-3 c = search needs
 join-rows-requires : tie.Need-join-rows-requires
 join-rows-requires c κs =
     let a = c .before .before .before .before .before .before .before .before .before .args in
-    let s = join-inside (a .l .width) (a .r .width) (c .before .before .before .before .node3 .given .0 .0) (c .before .before .before .before .node3 .given .0 .1 .0) (pairsOf (c .before .before .before .before .node3 .given .0 .1 .1 .0) (a .t1 .pairs)) (take (c .before .before .before .before .node3 .given .0 .1 .1 .1 .0) (a .t1 .columns)) (rw (c .before .before .before .before .node3 .given .1) at (c .before .before .before .before .before .before .before .before .before .pre .3)) in
+    let s = join-inside (a .l .width) (a .r .width) (c .before .before .before .before .node3 .given .0 .0) (c .before .before .before .before .node3 .given .0 .1 .0)
+    (pairsOf (c .before .before .before .before .node3 .given .0 .1 .1 .0) (a .t1 .pairs)) (take (c .before .before .before .before .node3 .given .0 .1 .1 .1 .0) (a .t1 .columns))
+    (rw (c .before .before .before .before .node3 .given .1) at (c .before .before .before .before .before .before .before .before .before .pre .3)) in
     let counts = rw (c .before .before .before .before .node3 .given .1) at (c .before .before .before .before .before .before .before .before .before .pre .0 .counts) in
-    let fits = join-fits (record { split = a .l .width; p = (c .before .before .before .before .node3 .given .0 .1 .1 .0); pairs = a .t1 .pairs; n = (c .before .before .before .before .node3 .given .0 .1 .1 .1 .0); columns = a .t1 .columns }) (a .r .width) (c .before .before .before .before .before .before .before .before .before .pre .1 .narrow) (c .before .before .before .before .before .before .before .before .before .pre .2 .narrow) (counts .0) (counts .1) (c .before .before .before .before .before .before .before .before .before .pre .0 .pairs-length) (c .before .before .before .before .before .before .before .before .before .pre .0 .columns-length) (record { pairs = s .0; columns = s .1 }) in
-    (omega (arith, c .before .before .before .before .before .before .before .before .before .pre .1 .long, (place-few (a .l .width) (a .left .now) (a .l .count) (c .before .before .before .before .before .before .before .before .before .pre .1))), omega (arith, c .before .before .before .before .before .before .before .before .before .pre .2 .long, (place-few (a .r .width) (a .right .now) (a .r .count) (c .before .before .before .before .before .before .before .before .before .pre .2))), fits, c .before .before .before .before .before .before .before .before .before .pre .4)
+    let fits = join-fits (record {
+      split = a .l .width;
+      p = (c .before .before .before .before .node3 .given .0 .1 .1 .0);
+      pairs = a .t1 .pairs;
+      n = (c .before .before .before .before .node3 .given .0 .1 .1 .1 .0);
+      columns = a .t1 .columns;
+    }) (a .r .width) (c .before .before .before .before .before .before .before .before .before .pre .1 .narrow)
+    (c .before .before .before .before .before .before .before .before .before .pre .2 .narrow) (counts .0) (counts .1)
+    (c .before .before .before .before .before .before .before .before .before .pre .0 .pairs-length)
+    (c .before .before .before .before .before .before .before .before .before .pre .0 .columns-length) (record { pairs = s .0; columns = s .1 }) in (
+      omega (
+        arith,
+        c .before .before .before .before .before .before .before .before .before .pre .1 .long,
+        (place-few (a .l .width) (a .left .now) (a .l .count) (c .before .before .before .before .before .before .before .before .before .pre .1)),
+      ),
+      omega (
+        arith,
+        c .before .before .before .before .before .before .before .before .before .pre .2 .long,
+        (place-few (a .r .width) (a .right .now) (a .r .count) (c .before .before .before .before .before .before .before .before .before .pre .2)),
+      ),
+      fits,
+      c .before .before .before .before .before .before .before .before .before .pre .4,
+    )
 
 enum-known-node-4 : tie.Need-enum-known-node-4
 enum-known-node-4 c = search needs
@@ -75,8 +114,12 @@ returns-2 : tie.Need-returns-2
 unfolding evaluateOn
 returns-2 c =
     let a = c .before .before .before .before .before .before .before .before .before .before .args in
-    let s = select-inside (a .l .width) (a .r .width) (c .before .before .before .before .before .node .given .0 .0) (c .before .before .before .before .before .node .given .0 .1 .0) (c .before .before .before .before .before .node .given .0 .1 .1 .0) (c .before .before .before .before .before .node .given .0 .1 .1 .1 .0) (rw (c .before .before .before .before .before .node .given .1) at (c .before .before .before .before .before .before .before .before .before .before .pre .3)) in
-    rw (c .before .before .before .before .before .node .given .1) (c .before .before .select-rows .ensures (a .l .width) (c .before .before .before .before .before .before .before .before .before .before .pre .1) (record { first = s .0; second = s .2 }))
+    let s = select-inside (a .l .width) (a .r .width) (c .before .before .before .before .before .node .given .0 .0) (c .before .before .before .before .before .node .given .0 .1 .0)
+    (c .before .before .before .before .before .node .given .0 .1 .1 .0) (c .before .before .before .before .before .node .given .0 .1 .1 .1 .0)
+    (rw (c .before .before .before .before .before .node .given .1) at (c .before .before .before .before .before .before .before .before .before .before .pre .3)) in
+    rw (c .before .before .before .before .before .node .given .1)
+    (c .before .before .select-rows .ensures (a .l .width) (c .before .before .before .before .before .before .before .before .before .before .pre .1)
+    (record { first = s .0; second = s .2 }))
 
 same-length-2 : tie.Need-same-length-2
 same-length-2 c = search needs
@@ -85,8 +128,12 @@ returns-3 : tie.Need-returns-3
 unfolding evaluateOn projectRows
 returns-3 c =
     let a = c .before .before .before .before .before .before .before .before .before .before .before .before .before .args in
-    let s = project-inside (a .l .width) (a .r .width) (c .before .before .before .before .before .before .before .before .node2 .given .0 .0) (take (c .before .before .before .before .before .before .before .before .node2 .given .0 .1 .0) (a .t1 .columns)) (rw (c .before .before .before .before .before .before .before .before .node2 .given .1) at (c .before .before .before .before .before .before .before .before .before .before .before .before .before .pre .3)) in
-    rw (c .before .before .before .before .before .before .before .before .node2 .given .1) (c .before .before .project-rows .ensures (a .l .width) (c .before .before .before .before .before .before .before .before .before .before .before .before .before .pre .1) s)
+    let s = project-inside (a .l .width) (a .r .width) (c .before .before .before .before .before .before .before .before .node2 .given .0 .0)
+    (take (c .before .before .before .before .before .before .before .before .node2 .given .0 .1 .0) (a .t1 .columns))
+    (rw (c .before .before .before .before .before .before .before .before .node2 .given .1)
+    at (c .before .before .before .before .before .before .before .before .before .before .before .before .before .pre .3)) in
+    rw (c .before .before .before .before .before .before .before .before .node2 .given .1)
+    (c .before .before .project-rows .ensures (a .l .width) (c .before .before .before .before .before .before .before .before .before .before .before .before .before .pre .1) s)
 
 same-length-3 : tie.Need-same-length-3
 same-length-3 c = search needs
@@ -95,8 +142,15 @@ returns-4 : tie.Need-returns-4
 unfolding evaluateOn joinRows
 returns-4 c =
     let a = c .before .before .before .before .before .before .before .before .before .before .before .before .args in
-    let s = join-inside (a .l .width) (a .r .width) (c .before .before .before .before .before .before .before .node3 .given .0 .0) (c .before .before .before .before .before .before .before .node3 .given .0 .1 .0) (pairsOf (c .before .before .before .before .before .before .before .node3 .given .0 .1 .1 .0) (a .t1 .pairs)) (take (c .before .before .before .before .before .before .before .node3 .given .0 .1 .1 .1 .0) (a .t1 .columns)) (rw (c .before .before .before .before .before .before .before .node3 .given .1) at (c .before .before .before .before .before .before .before .before .before .before .before .before .pre .3)) in
-    rw (c .before .before .before .before .before .before .before .node3 .given .1) (c .before .before .join-rows .ensures (a .r .width) (c .before .before .before .before .before .before .before .before .before .before .before .before .pre .1) (c .before .before .before .before .before .before .before .before .before .before .before .before .pre .2) (record { pairs = s .0; columns = s .1 }))
+    let s = join-inside (a .l .width) (a .r .width) (c .before .before .before .before .before .before .before .node3 .given .0 .0)
+    (c .before .before .before .before .before .before .before .node3 .given .0 .1 .0)
+    (pairsOf (c .before .before .before .before .before .before .before .node3 .given .0 .1 .1 .0) (a .t1 .pairs))
+    (take (c .before .before .before .before .before .before .before .node3 .given .0 .1 .1 .1 .0) (a .t1 .columns))
+    (rw (c .before .before .before .before .before .before .before .node3 .given .1)
+    at (c .before .before .before .before .before .before .before .before .before .before .before .before .pre .3)) in
+    rw (c .before .before .before .before .before .before .before .node3 .given .1)
+    (c .before .before .join-rows .ensures (a .r .width) (c .before .before .before .before .before .before .before .before .before .before .before .before .pre .1)
+    (c .before .before .before .before .before .before .before .before .before .before .before .before .pre .2) (record { pairs = s .0; columns = s .1 }))
 
 same-length-4 : tie.Need-same-length-4
 same-length-4 c = search needs

@@ -1,12 +1,12 @@
-use mathlib.Core.Path.{ap, sym, _∙_, _≡_}
-use mathlib.Core.Bool.{_||_, Bool, true, false}
+use mathlib.Core.Path.{ap, sym, _∙_}
+use mathlib.Core.Bool.{_||_}
 use Prim.Native.Nat.{ℕ}
 use native.Mathlib.Omega.{arith}
 use lib.Dec.{eqb}
 use borrow.Author.Needs.{needs}
 use borrow.Author.Tests.{le-leb, lt-leb, not-false, not-true}
 use Rattle.events.proofs.read_event.Statement.{statement}
-use Rattle.events.proofs.Events.{eventKind, reads-broken, reads-no-event, reads-too-many, reads-misfit, reads-event}
+use Rattle.events.proofs.Events.{reads-broken, reads-no-event, reads-too-many, reads-misfit, reads-event}
 use Rattle.model.specs.Batch.{maxEvents}
 use Rattle.records.proofs.Header.{whole}
 use Rattle.events.proofs.read_event.Tie as tie
@@ -65,14 +65,16 @@ returns-4 c =
     let i = c .before .before .before .before .is-event in
     reads-misfit (a .count) (a .widths .now) (a .levels .now) (a .before) (a .bytes .now) (a .at)
     (sym (c .before .before .before .before .before .before .before .is-broken .ensures) ∙ c .before .before .before .before .before .before .if1 .left)
-    (ap (λ (k : ℕ). eqb k 32 || eqb k 33) (sym (c .before .before .before .before .before .u16-at .ensures .is)) ∙ sym (i .ensures) ∙ not-false (i .result) (c .before .before .before .if2 .left))
+    (ap (λ (k : ℕ). eqb k 32 || eqb k 33) (sym (c .before .before .before .before .before .u16-at .ensures .is)) ∙ sym (i .ensures)
+    ∙ not-false (i .result) (c .before .before .before .if2 .left))
     (lt-leb maxEvents (a .before) (omega (arith, c .before .before .if3 .left)))
     (sym (c .before .event-fits .ensures) ∙ not-true (c .before .event-fits .result) (c .if4 .taken))
 
 u16-at-requires-2 : tie.Need-u16-at-requires-2
 u16-at-requires-2 c κs =
     let a = c .before .before .before .before .before .before .before .before .before .before .before .args in
-    let w = whole (a .bytes .now) (a .at) (sym (c .before .before .before .before .before .before .before .is-broken .ensures) ∙ c .before .before .before .before .before .before .if1 .left) in
+    let w = whole (a .bytes .now) (a .at) (sym (c .before .before .before .before .before .before .before .is-broken .ensures) ∙ c .before .before .before .before .before .before .if1 .left)
+    in
     omega (arith, w .header)
 
 returns-5 : tie.Need-returns-5

@@ -36,8 +36,12 @@ loop-less c = omega arith
 loop-again : tie.Need-loop-again Inv-loop μ-loop
 loop-again c =
     let a = c .before .before .before .args in
-    let k = c .before .before .loop .k in
-    (omega arith, c .before .before .loop .inv .1, length-set (c .before .before .loop .out) (a .at + k) (getD (a .text .now) k 0) ∙ c .before .before .loop .inv .2, put-one (a .out .now) (c .before .before .loop .out) (a .text .now) (a .at) k (omega arith) (c .before .before .loop .inv .3))
+    let k = c .before .before .loop .k in (
+      omega arith,
+      c .before .before .loop .inv .1,
+      length-set (c .before .before .loop .out) (a .at + k) (getD (a .text .now) k 0) ∙ c .before .before .loop .inv .2,
+      put-one (a .out .now) (c .before .before .loop .out) (a .text .now) (a .at) k (omega arith) (c .before .before .loop .inv .3),
+    )
 
 add-result : tie.Need-add-result Inv-loop μ-loop
 add-result c = omega arith
@@ -46,7 +50,8 @@ same-length : tie.Need-same-length Inv-loop μ-loop
 same-length c = omega (arith, c .before .loop .inv .2)
 
 returns : tie.Need-returns Inv-loop μ-loop
-returns c = let a = c .before .before .args in let e : c .before .loop .k ≡ length (a .text .now) = omega arith in let all : take (c .before .loop .k) (a .text .now) ≡ a .text .now = take-all (c .before .loop .k) (a .text .now) (omega arith) in (c .before .loop .inv .3 ∙ ap (sets (a .out .now) (a .at)) all, omega arith)
+returns c = let a = c .before .before .args in let e : c .before .loop .k ≡ length (a .text .now) = omega arith in let all : take (c .before .loop .k) (a .text .now)
+    ≡ a .text .now = take-all (c .before .loop .k) (a .text .now) (omega arith) in (c .before .loop .inv .3 ∙ ap (sets (a .out .now) (a .at)) all, omega arith)
 
 pub put-bytes-spec : {M : Type 1} → statement M
 put-bytes-spec =

@@ -18,7 +18,9 @@ abbrev μ-loop : tie.MeasureT-loop
 μ-loop out₀ at x count rest₀ k₀ out rest k = k
 
 loop-holds : tie.Need-loop-holds Inv-loop μ-loop
-loop-holds c = let a = c .args in let none : drop (a .count) (decimal (a .x)) ≡ [] = drop-of-length-le (decimal (a .x)) {i = a .count} (omega (arith, c .pre .1)) in (omega arith, refl, ap (sets (a .out .now) (a .at + a .count)) (sym none), left-all (a .x) (a .count) (c .pre .1))
+loop-holds c = let a = c .args in let none : drop (a .count) (decimal (a .x))
+    ≡ [] = drop-of-length-le (decimal (a .x)) {i = a .count}
+    (omega (arith, c .pre .1)) in (omega arith, refl, ap (sets (a .out .now) (a .at + a .count)) (sym none), left-all (a .x) (a .count) (c .pre .1))
 
 sub-k : tie.Need-sub-k Inv-loop μ-loop
 sub-k c = omega arith
@@ -41,7 +43,8 @@ loop-less c = omega arith
 loop-again : tie.Need-loop-again Inv-loop μ-loop
 loop-again c =
     let a = c .before .before .args in
-    let d = digit-more (a .x) (c .before .loop .k) (c .before .loop .rest) (a .out .now) (c .before .loop .out) (a .at) (omega arith) (omega (arith, c .before .before .pre .1)) (c .before .loop .inv .3) (c .before .loop .inv .2) in
+    let d = digit-more (a .x) (c .before .loop .k) (c .before .loop .rest) (a .out .now) (c .before .loop .out) (a .at) (omega arith) (omega (arith, c .before .before .pre .1))
+    (c .before .loop .inv .3) (c .before .loop .inv .2) in
     (omega arith, length-set (c .before .loop .out) (a .at + (c .before .loop .k - 1)) (48 + (c .before .loop .rest % 10)) ∙ c .before .loop .inv .1, d .0, d .1)
 
 same-length : tie.Need-same-length Inv-loop μ-loop

@@ -20,25 +20,56 @@ put-bytes-requires : tie.Need-put-bytes-requires
 put-bytes-requires c κs = search needs
 
 put-numbers-requires : tie.Need-put-numbers-requires
-put-numbers-requires c κs = let a = c .before .before .before .before .before .before .before .before .args in omega (arith, c .before .before .before .put-bytes .ensures .1, ap length (c .before .before .before .put-bytes .ensures .0), length-sets (a .out .now) (a .at) (a .word .now))
+put-numbers-requires c κs = let a = c .before .before .before .before .before .before .before .before .args in omega
+    (arith, c .before .before .before .put-bytes .ensures .1, ap length (c .before .before .before .put-bytes .ensures .0), length-sets (a .out .now) (a .at) (a .word .now))
 
 slice-write-out : tie.Need-slice-write-out
-slice-write-out c = let a = c .before .before .before .before .before .before .before .before .before .before .before .args in omega (arith, c .before .before .put-numbers .ensures .2, c .before .before .before .before .before .before .put-bytes .ensures .1, ap length (c .before .before .put-numbers .ensures .0), length-sets (c .before .before .before .before .before .before .put-bytes .last .0) (c .before .before .before .before .before .before .put-bytes .result) (numbersText (a .numbers .now)), ap length (c .before .before .before .before .before .before .put-bytes .ensures .0), length-sets (a .out .now) (a .at) (a .word .now))
+slice-write-out c = let a = c .before .before .before .before .before .before .before .before .before .before .before .args in omega (
+  arith,
+  c .before .before .put-numbers .ensures .2,
+  c .before .before .before .before .before .before .put-bytes .ensures .1,
+  ap length (c .before .before .put-numbers .ensures .0),
+  length-sets (c .before .before .before .before .before .before .put-bytes .last .0) (c .before .before .before .before .before .before .put-bytes .result)
+      (numbersText (a .numbers .now)),
+  ap length (c .before .before .before .before .before .before .put-bytes .ensures .0),
+  length-sets (a .out .now) (a .at) (a .word .now),
+)
 
 add-result : tie.Need-add-result
-add-result c = let a = c .before .before .before .before .before .before .before .before .before .before .before .args in omega (arith, c .before .before .put-numbers .ensures .2, c .before .before .before .before .before .before .put-bytes .ensures .1)
+add-result c = let a = c .before .before .before .before .before .before .before .before .before .before .before .args in omega
+    (arith, c .before .before .put-numbers .ensures .2, c .before .before .before .before .before .before .put-bytes .ensures .1)
 
 same-length : tie.Need-same-length
-same-length c = let a = c .before .before .before .before .before .before .before .before .before .before .before .args in omega (arith, ap length (c .before .before .put-numbers .ensures .0), length-sets (c .before .before .before .before .before .before .put-bytes .last .0) (c .before .before .before .before .before .before .put-bytes .result) (numbersText (a .numbers .now)), ap length (c .before .before .before .before .before .before .put-bytes .ensures .0), length-sets (a .out .now) (a .at) (a .word .now), length-set (c .before .before .put-numbers .last .0) (c .before .before .put-numbers .result) 10)
+same-length c = let a = c .before .before .before .before .before .before .before .before .before .before .before .args in omega (
+  arith,
+  ap length (c .before .before .put-numbers .ensures .0),
+  length-sets (c .before .before .before .before .before .before .put-bytes .last .0)
+      (c .before .before .before .before .before .before .put-bytes .result) (numbersText (a .numbers .now)),
+  ap length (c .before .before .before .before .before .before .put-bytes .ensures .0),
+  length-sets (a .out .now) (a .at) (a .word .now),
+  length-set (c .before .before .put-numbers .last .0) (c .before .before .put-numbers .result) 10,
+)
 
 returns : tie.Need-returns
 returns c =
     let a = c .before .before .before .before .before .before .before .before .before .before .before .args in
-    let two = sets-more (a .out .now) (c .before .before .before .before .before .before .put-bytes .last .0) (c .before .before .put-numbers .last .0) (a .at) (c .before .before .before .before .before .before .put-bytes .result) (a .word .now) (numbersText (a .numbers .now)) (c .before .before .before .before .before .before .put-bytes .ensures .0) (c .before .before .before .before .before .before .put-bytes .ensures .1) (c .before .before .put-numbers .ensures .0) in
-    let end : c .before .before .put-numbers .result ≡ a .at + length (a .word .now ++ numbersText (a .numbers .now)) = omega (arith, c .before .before .put-numbers .ensures .1, c .before .before .before .before .before .before .put-bytes .ensures .1, length-append (a .word .now) (numbersText (a .numbers .now))) in
-    let three = sets-more (a .out .now) (c .before .before .put-numbers .last .0) (set (c .before .before .put-numbers .last .0) (c .before .before .put-numbers .result) 10) (a .at) (c .before .before .put-numbers .result) (a .word .now ++ numbersText (a .numbers .now)) (newline ∷ []) two end refl in
-    let same = line-is (a .word .now) (a .numbers .now) in
-    (three ∙ ap (sets (a .out .now) (a .at)) same, omega (arith, end, ap length same, length-append (a .word .now ++ numbersText (a .numbers .now)) (newline ∷ [])), omega (arith, c .before .before .put-numbers .ensures .2, c .before .before .before .before .before .before .put-bytes .ensures .1))
+    let two = sets-more (a .out .now) (c .before .before .before .before .before .before .put-bytes .last .0) (c .before .before .put-numbers .last .0) (a .at)
+    (c .before .before .before .before .before .before .put-bytes .result) (a .word .now) (numbersText (a .numbers .now))
+    (c .before .before .before .before .before .before .put-bytes .ensures .0) (c .before .before .before .before .before .before .put-bytes .ensures .1)
+    (c .before .before .put-numbers .ensures .0) in
+    let end : c .before .before .put-numbers .result ≡ a .at + length (a .word .now ++ numbersText (a .numbers .now)) = omega (
+      arith,
+      c .before .before .put-numbers .ensures .1,
+      c .before .before .before .before .before .before .put-bytes .ensures .1,
+      length-append (a .word .now) (numbersText (a .numbers .now)),
+    ) in
+    let three = sets-more (a .out .now) (c .before .before .put-numbers .last .0) (set (c .before .before .put-numbers .last .0) (c .before .before .put-numbers .result) 10) (a .at)
+    (c .before .before .put-numbers .result) (a .word .now ++ numbersText (a .numbers .now)) (newline ∷ []) two end refl in
+    let same = line-is (a .word .now) (a .numbers .now) in (
+      three ∙ ap (sets (a .out .now) (a .at)) same,
+      omega (arith, end, ap length same, length-append (a .word .now ++ numbersText (a .numbers .now)) (newline ∷ [])),
+      omega (arith, c .before .before .put-numbers .ensures .2, c .before .before .before .before .before .before .put-bytes .ensures .1),
+    )
 
 pub put-line-at-spec : {M : Type 1} → statement M
 put-line-at-spec =

@@ -15,13 +15,15 @@ use Rattle.lines.proofs.put_numbers.Lts as lts
 use Rattle.lines.proofs.put_number.Reads as put-number-reads
 
 abbrev Inv-loop : tie.InvT-loop
-Inv-loop out₀ at numbers n to₀ k₀ out to k = (k ≤ n) × (n ≡ length numbers) × (length out ≡ length out₀) × (to ≤ at + 21 * k) × (to ≡ at + length (numbersText (take k numbers))) × (out ≡ sets out₀ at (numbersText (take k numbers)))
+Inv-loop out₀ at numbers n to₀ k₀ out to k = (k ≤ n) × (n ≡ length numbers) × (length out ≡ length out₀) × (to ≤ at + 21 * k) × (to ≡ at + length (numbersText (take k numbers)))
+    × (out ≡ sets out₀ at (numbersText (take k numbers)))
 
 abbrev μ-loop : tie.MeasureT-loop
 μ-loop out₀ at numbers n to₀ k₀ out to k = n - k
 
 loop-holds : tie.Need-loop-holds Inv-loop μ-loop
-loop-holds c = let a = c .before .before .args in (omega arith, refl, refl, omega arith, omega (arith, ap length (numbers-none (a .numbers .now))), ap (sets (a .out .now) (a .at)) (sym (numbers-none (a .numbers .now))))
+loop-holds c = let a = c .before .before .args
+    in (omega arith, refl, refl, omega arith, omega (arith, ap length (numbers-none (a .numbers .now))), ap (sets (a .out .now) (a .at)) (sym (numbers-none (a .numbers .now))))
 
 slice-write-out : tie.Need-slice-write-out Inv-loop μ-loop
 slice-write-out c = omega (arith, c .before .loop .inv .2, c .before .loop .inv .3)
@@ -36,7 +38,8 @@ shared-slice-read-put-number : tie.Need-shared-slice-read-put-number Inv-loop μ
 shared-slice-read-put-number c = omega arith
 
 put-number-requires : tie.Need-put-number-requires Inv-loop μ-loop
-put-number-requires c κs = let a = c .before .before .before .before .before .before .args in omega (arith, length-set (c .before .before .before .loop .out) (c .before .before .before .loop .to) 32, c .before .before .before .loop .inv .2, c .before .before .before .loop .inv .3)
+put-number-requires c κs = let a = c .before .before .before .before .before .before .args in omega
+    (arith, length-set (c .before .before .before .loop .out) (c .before .before .before .loop .to) 32, c .before .before .before .loop .inv .2, c .before .before .before .loop .inv .3)
 
 add-k : tie.Need-add-k Inv-loop μ-loop
 add-k c = omega arith
@@ -48,11 +51,33 @@ loop-again : tie.Need-loop-again Inv-loop μ-loop
 loop-again c =
     let a = c .before .before .before .before .before .before .before .before .before .args in
     let x = getD (a .numbers .now) (c .before .before .before .before .before .before .loop .k) 0 in
-    let one = sets-more (a .out .now) (c .before .before .before .before .before .before .loop .out) (set (c .before .before .before .before .before .before .loop .out) (c .before .before .before .before .before .before .loop .to) 32) (a .at) (c .before .before .before .before .before .before .loop .to) (numbersText (take (c .before .before .before .before .before .before .loop .k) (a .numbers .now))) (space ∷ []) (c .before .before .before .before .before .before .loop .inv .5) (c .before .before .before .before .before .before .loop .inv .4) refl in
-    let end = numbers-end (a .at) (c .before .before .before .before .before .before .loop .to) (numbersText (take (c .before .before .before .before .before .before .loop .k) (a .numbers .now))) (c .before .before .before .before .before .before .loop .inv .4) in
-    let two = sets-more (a .out .now) (set (c .before .before .before .before .before .before .loop .out) (c .before .before .before .before .before .before .loop .to) 32) (c .before .before .put-number .last .0) (a .at) (c .before .before .before .before .before .before .loop .to + 1) ((numbersText (take (c .before .before .before .before .before .before .loop .k) (a .numbers .now))) ++ (space ∷ [])) (decimal x) one end (c .before .before .put-number .ensures .0) in
-    let same = numbers-step (a .numbers .now) (c .before .before .before .before .before .before .loop .k) (omega arith) in
-    (omega arith, c .before .before .before .before .before .before .loop .inv .1, ap length (c .before .before .put-number .ensures .0) ∙ length-sets (set (c .before .before .before .before .before .before .loop .out) (c .before .before .before .before .before .before .loop .to) 32) (c .before .before .before .before .before .before .loop .to + 1) (decimal x) ∙ length-set (c .before .before .before .before .before .before .loop .out) (c .before .before .before .before .before .before .loop .to) 32 ∙ c .before .before .before .before .before .before .loop .inv .2, omega (arith, c .before .before .put-number .ensures .2, c .before .before .before .before .before .before .loop .inv .3), omega (arith, c .before .before .put-number .ensures .1, end, ap length same, length-append ((numbersText (take (c .before .before .before .before .before .before .loop .k) (a .numbers .now))) ++ (space ∷ [])) (decimal x)), two ∙ ap (sets (a .out .now) (a .at)) same)
+    let one = sets-more (a .out .now) (c .before .before .before .before .before .before .loop .out)
+    (set (c .before .before .before .before .before .before .loop .out) (c .before .before .before .before .before .before .loop .to) 32) (a .at)
+    (c .before .before .before .before .before .before .loop .to) (numbersText (take (c .before .before .before .before .before .before .loop .k) (a .numbers .now))) (space ∷ [])
+    (c .before .before .before .before .before .before .loop .inv .5) (c .before .before .before .before .before .before .loop .inv .4) refl in
+    let end = numbers-end (a .at) (c .before .before .before .before .before .before .loop .to)
+    (numbersText (take (c .before .before .before .before .before .before .loop .k) (a .numbers .now))) (c .before .before .before .before .before .before .loop .inv .4) in
+    let two = sets-more (a .out .now) (set (c .before .before .before .before .before .before .loop .out) (c .before .before .before .before .before .before .loop .to) 32)
+    (c .before .before .put-number .last .0) (a .at) (c .before .before .before .before .before .before .loop .to + 1)
+    ((numbersText (take (c .before .before .before .before .before .before .loop .k) (a .numbers .now))) ++ (space ∷ [])) (decimal x) one end (c .before .before .put-number .ensures .0) in
+    let same = numbers-step (a .numbers .now) (c .before .before .before .before .before .before .loop .k) (omega arith) in (
+      omega arith,
+      c .before .before .before .before .before .before .loop .inv .1,
+      ap length (c .before .before .put-number .ensures .0)
+          ∙ length-sets (set (c .before .before .before .before .before .before .loop .out) (c .before .before .before .before .before .before .loop .to) 32)
+          (c .before .before .before .before .before .before .loop .to + 1) (decimal x) ∙ length-set (c .before .before .before .before .before .before .loop .out)
+          (c .before .before .before .before .before .before .loop .to) 32 ∙ c .before .before .before .before .before .before .loop .inv .2,
+      omega (arith, c .before .before .put-number .ensures .2, c .before .before .before .before .before .before .loop .inv .3),
+      omega (
+        arith,
+        c .before .before .put-number .ensures .1,
+        end,
+        ap length same,
+        length-append ((numbersText (take (c .before .before .before .before .before .before .loop .k) (a .numbers .now))) ++ (space ∷ [])) (decimal x),
+      ),
+      two
+          ∙ ap (sets (a .out .now) (a .at)) same,
+    )
 
 same-length : tie.Need-same-length Inv-loop μ-loop
 same-length c = omega (arith, c .before .loop .inv .2)
@@ -61,8 +86,11 @@ returns : tie.Need-returns Inv-loop μ-loop
 returns c =
     let a = c .before .before .before .before .args in
     let all : take (c .before .loop .k) (a .numbers .now) ≡ a .numbers .now = take-all (c .before .loop .k) (a .numbers .now) (omega arith) in
-    let k : c .before .loop .k ≡ length (a .numbers .now) = omega arith in
-    (c .before .loop .inv .5 ∙ ap (λ (l : List ℕ). sets (a .out .now) (a .at) (numbersText l)) all, c .before .loop .inv .4 ∙ ap (λ (l : List ℕ). a .at + length (numbersText l)) all, omega (arith, c .before .loop .inv .3))
+    let k : c .before .loop .k ≡ length (a .numbers .now) = omega arith in (
+      c .before .loop .inv .5 ∙ ap (λ (l : List ℕ). sets (a .out .now) (a .at) (numbersText l)) all,
+      c .before .loop .inv .4 ∙ ap (λ (l : List ℕ). a .at + length (numbersText l)) all,
+      omega (arith, c .before .loop .inv .3),
+    )
 
 pub put-numbers-spec : {M : Type 1} → statement M
 put-numbers-spec =

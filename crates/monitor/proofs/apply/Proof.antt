@@ -25,10 +25,14 @@ same-length-4 : tie.Need-same-length-4
 same-length-4 c = search needs
 
 returns : tie.Need-returns
-returns c = let a = (c .before .before .before .before .before .before .before .before .before .before .before .before .before .before .args) in apply-refused (a .net .now) (a .rows .now) (a .gained .now) (a .lost .now) (a .head .now) (c .before .before .before .read-areas .result) (c .before .before .before .read-areas .ensures) (a .batch .now) (c .if1 .taken)
+returns c = let a = (c .before .before .before .before .before .before .before .before .before .before .before .before .before .before .args) in apply-refused (a .net .now) (a .rows .now)
+    (a .gained .now) (a .lost .now) (a .head .now) (c .before .before .before .read-areas .result) (c .before .before .before .read-areas .ensures) (a .batch .now) (c .if1 .taken)
 
 apply-batch-requires : tie.Need-apply-batch-requires
-apply-batch-requires c κs = let a = (c .before .before .before .before .before .before .before .before .before .before .before .before .before .before .before .before .before .before .before .args) in applicable (a .net .now) (a .rows .now) (a .gained .now) (a .lost .now) (a .head .now) (c .before .before .before .before .before .before .before .before .read-areas .result) (c .before .before .before .before .before .before .before .before .read-areas .ensures) (c .before .before .before .before .before .if1 .left)
+apply-batch-requires c κs = let a =
+    (c .before .before .before .before .before .before .before .before .before .before .before .before .before .before .before .before .before .before .before .args) in applicable
+    (a .net .now) (a .rows .now) (a .gained .now) (a .lost .now) (a .head .now) (c .before .before .before .before .before .before .before .before .read-areas .result)
+    (c .before .before .before .before .before .before .before .before .read-areas .ensures) (c .before .before .before .before .before .if1 .left)
 
 same-length-5 : tie.Need-same-length-5
 same-length-5 c = search needs
@@ -43,7 +47,18 @@ same-length-8 : tie.Need-same-length-8
 same-length-8 c = search needs
 
 returns-2 : tie.Need-returns-2
-returns-2 c = let a = (c .before .before .before .before .before .before .before .before .before .before .before .before .before .before .before .before .before .before .before .before .before .before .before .before .before .before .before .before .args) in applied (a .net .now) (a .rows .now) (a .gained .now) (a .lost .now) (a .head .now) (c .before .before .before .before .before .before .before .before .before .before .before .before .before .before .before .before .before .read-areas .result) (c .before .before .before .before .before .before .before .before .before .before .before .before .before .before .before .before .before .read-areas .ensures) (c .before .before .before .before .before .before .before .before .before .before .before .before .before .before .if1 .left) (a .batch .now) (resultWith (c .before .before .before .before .before .before .before .before .apply-batch .result) (lent (c .before .before .before .before .before .before .before .before .apply-batch .last .1 .1 .0) (c .before .before .before .before .before .before .before .before .apply-batch .last .1 .1 .1 .0) (c .before .before .before .before .before .before .before .before .apply-batch .last .1 .1 .1 .1 .0) (c .before .before .before .before .before .before .before .before .apply-batch .last .1 .1 .1 .1 .1 .0))) (c .before .before .before .before .before .before .before .before .apply-batch .ensures)
+returns-2 c = let a =
+    (c .before .before .before .before .before .before .before .before .before .before .before .before .before .before .before .before .before .before .before .before .before .before .before
+    .before .before .before .before .before .args) in applied (a .net .now) (a .rows .now) (a .gained .now) (a .lost .now) (a .head .now)
+    (c .before .before .before .before .before .before .before .before .before .before .before .before .before .before .before .before .before .read-areas .result)
+    (c .before .before .before .before .before .before .before .before .before .before .before .before .before .before .before .before .before .read-areas .ensures)
+    (c .before .before .before .before .before .before .before .before .before .before .before .before .before .before .if1 .left) (a .batch .now)
+    (resultWith (c .before .before .before .before .before .before .before .before .apply-batch .result)
+    (lent (c .before .before .before .before .before .before .before .before .apply-batch .last .1 .1 .0)
+    (c .before .before .before .before .before .before .before .before .apply-batch .last .1 .1 .1 .0)
+    (c .before .before .before .before .before .before .before .before .apply-batch .last .1 .1 .1 .1 .0)
+    (c .before .before .before .before .before .before .before .before .apply-batch .last .1 .1 .1 .1 .1 .0)))
+    (c .before .before .before .before .before .before .before .before .apply-batch .ensures)
 
 pub apply-spec : {M : Type 1} → statement M
 apply-spec =

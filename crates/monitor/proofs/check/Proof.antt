@@ -11,13 +11,17 @@ read-areas-requires : tie.Need-read-areas-requires
 read-areas-requires c κs = search needs
 
 returns : tie.Need-returns
-returns c = let a = c .before .before .before .before .before .before .before .before .args in check-refused (a .net .now) (a .rows .now) (a .gained .now) (a .lost .now) (a .head .now) (c .before .before .read-areas .result) (c .before .before .read-areas .ensures) (c .if1 .taken)
+returns c = let a = c .before .before .before .before .before .before .before .before .args in check-refused (a .net .now) (a .rows .now) (a .gained .now) (a .lost .now) (a .head .now)
+    (c .before .before .read-areas .result) (c .before .before .read-areas .ensures) (c .if1 .taken)
 
 is-coherent-requires : tie.Need-is-coherent-requires
-is-coherent-requires c κs = let a = c .before .before .before .before .before .before .before .before .before .args in checkable (a .net .now) (a .rows .now) (a .gained .now) (a .lost .now) (a .head .now) (c .before .before .before .read-areas .result) (c .before .before .before .read-areas .ensures) (c .before .if1 .left)
+is-coherent-requires c κs = let a = c .before .before .before .before .before .before .before .before .before .args in checkable (a .net .now) (a .rows .now) (a .gained .now) (a .lost .now)
+    (a .head .now) (c .before .before .before .read-areas .result) (c .before .before .before .read-areas .ensures) (c .before .if1 .left)
 
 returns-2 : tie.Need-returns-2
-returns-2 c = let a = c .before .before .before .before .before .before .before .before .before .before .args in check-answered (a .net .now) (a .rows .now) (a .gained .now) (a .lost .now) (a .head .now) (c .before .before .before .before .read-areas .result) (c .before .before .before .before .read-areas .ensures) (c .before .before .if1 .left) (c .is-coherent .result) (c .is-coherent .ensures)
+returns-2 c = let a = c .before .before .before .before .before .before .before .before .before .before .args in check-answered (a .net .now) (a .rows .now) (a .gained .now) (a .lost .now)
+    (a .head .now) (c .before .before .before .before .read-areas .result) (c .before .before .before .before .read-areas .ensures) (c .before .before .if1 .left) (c .is-coherent .result)
+    (c .is-coherent .ensures)
 
 pub check-spec : {M : Type 1} → statement M
 check-spec = tie.close (tie.spec read-areas-requires returns is-coherent-requires returns-2)

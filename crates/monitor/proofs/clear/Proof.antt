@@ -11,16 +11,21 @@ use Rattle.monitor.proofs.clear.Lts as lts
 use Rattle.words.proofs.clear_run.Reads as clear-run-reads
 
 clear-run-requires : tie.Need-clear-run-requires
-clear-run-requires c κs = let a = c .before .before .before .before .before .args in let long = long-parts (a .rows .now) (a .gained .now) (a .lost .now) (a .head .now) (c .before .before .before .before .before .pre) in (omega arith, long .0)
+clear-run-requires c κs = let a = c .before .before .before .before .before .args in let long = long-parts (a .rows .now) (a .gained .now) (a .lost .now) (a .head .now)
+    (c .before .before .before .before .before .pre) in (omega arith, long .0)
 
 clear-run-requires-2 : tie.Need-clear-run-requires-2
-clear-run-requires-2 c κs = let a = c .before .before .before .before .before .before .before .before .before .args in let long = long-parts (a .rows .now) (a .gained .now) (a .lost .now) (a .head .now) (c .before .before .before .before .before .before .before .before .before .pre) in (omega arith, long .1)
+clear-run-requires-2 c κs = let a = c .before .before .before .before .before .before .before .before .before .args in let long = long-parts (a .rows .now) (a .gained .now) (a .lost .now)
+    (a .head .now) (c .before .before .before .before .before .before .before .before .before .pre) in (omega arith, long .1)
 
 clear-run-requires-3 : tie.Need-clear-run-requires-3
-clear-run-requires-3 c κs = let a = c .before .before .before .before .before .before .before .before .before .before .before .before .before .args in let long = long-parts (a .rows .now) (a .gained .now) (a .lost .now) (a .head .now) (c .before .before .before .before .before .before .before .before .before .before .before .before .before .pre) in (omega arith, long .2)
+clear-run-requires-3 c κs = let a = c .before .before .before .before .before .before .before .before .before .before .before .before .before .args in let long = long-parts (a .rows .now)
+    (a .gained .now) (a .lost .now) (a .head .now) (c .before .before .before .before .before .before .before .before .before .before .before .before .before .pre) in (omega arith, long .2)
 
 clear-run-requires-4 : tie.Need-clear-run-requires-4
-clear-run-requires-4 c κs = let a = c .before .before .before .before .before .before .before .before .before .before .before .before .before .before .before .before .before .args in let long = long-parts (a .rows .now) (a .gained .now) (a .lost .now) (a .head .now) (c .before .before .before .before .before .before .before .before .before .before .before .before .before .before .before .before .before .pre) in (omega arith, long .3)
+clear-run-requires-4 c κs = let a = c .before .before .before .before .before .before .before .before .before .before .before .before .before .before .before .before .before .args
+    in let long = long-parts (a .rows .now) (a .gained .now) (a .lost .now) (a .head .now)
+    (c .before .before .before .before .before .before .before .before .before .before .before .before .before .before .before .before .before .pre) in (omega arith, long .3)
 
 same-length : tie.Need-same-length
 same-length c = search needs

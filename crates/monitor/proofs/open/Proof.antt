@@ -29,13 +29,18 @@ same-length-4 : tie.Need-same-length-4
 same-length-4 c = search needs
 
 returns : tie.Need-returns
-returns c = let a = c .before .before .before .before .before .before .before .before .before .before .before .args in sym (open-short (a .net .now) (lent (a .rows .now) (a .gained .now) (a .lost .now) (a .head .now)) (sym (c .before .long-enough .ensures) ∙ not-true (c .before .long-enough .result) (c .if1 .taken)))
+returns c = let a = c .before .before .before .before .before .before .before .before .before .before .before .args in sym
+    (open-short (a .net .now) (lent (a .rows .now) (a .gained .now) (a .lost .now) (a .head .now))
+    (sym (c .before .long-enough .ensures) ∙ not-true (c .before .long-enough .result) (c .if1 .taken)))
 
 read-network-requires : tie.Need-read-network-requires
 read-network-requires c κs = search needs
 
 clear-requires : tie.Need-clear-requires
-clear-requires c κs = let a = c .before .before .before .before .before .before .before .before .before .before .before .before .before .before .before .before .before .before .before .args in (sym (c .before .before .before .before .before .before .before .before .before .long-enough .ensures) ∙ not-false (c .before .before .before .before .before .before .before .before .before .long-enough .result) (c .before .before .before .before .before .before .before .before .if1 .left))
+clear-requires c κs = let a = c .before .before .before .before .before .before .before .before .before .before .before .before .before .before .before .before .before .before .before .args
+    in (sym (c .before .before .before .before .before .before .before .before .before .long-enough .ensures)
+    ∙ not-false (c .before .before .before .before .before .before .before .before .before .long-enough .result)
+    (c .before .before .before .before .before .before .before .before .if1 .left))
 
 same-length-5 : tie.Need-same-length-5
 same-length-5 c = search needs
@@ -51,9 +56,22 @@ same-length-8 c = search needs
 
 returns-2 : tie.Need-returns-2
 returns-2 c =
-    let a = c .before .before .before .before .before .before .before .before .before .before .before .before .before .before .before .before .before .before .before .before .before .before .before .before .before .before .before .before .args in
-    (λ i. record { verdict = verdictOf (c .before .before .before .before .before .before .before .before .before .before .before .before .before .before .before .before .read-network .result .verdict); areas = c .before .before .before .before .before .before .before .before .clear .ensures i })
-    ∙ sym (open-cleared (a .net .now) (lent (a .rows .now) (a .gained .now) (a .lost .now) (a .head .now)) (verdictOf (c .before .before .before .before .before .before .before .before .before .before .before .before .before .before .before .before .read-network .result .verdict)) (sym (c .before .before .before .before .before .before .before .before .before .before .before .before .before .before .before .before .before .before .long-enough .ensures) ∙ not-false (c .before .before .before .before .before .before .before .before .before .before .before .before .before .before .before .before .before .before .long-enough .result) (c .before .before .before .before .before .before .before .before .before .before .before .before .before .before .before .before .before .if1 .left)) (ap (λ (x : model.Reading). x .verdict) (c .before .before .before .before .before .before .before .before .before .before .before .before .before .before .before .before .read-network .ensures .is)) (eq-eqb (c .before .before .before .before .before .before .before .before .before .before .before .before .before .before .before .before .read-network .result .verdict .number) 0 (c .before .before .before .before .before .before .before .before .before .before .before .before .before .if2 .taken)))
+    let a = c .before .before .before .before .before .before .before .before .before .before .before .before .before .before .before .before .before .before .before .before .before .before
+    .before .before .before .before .before .before .args in
+    (λ i. record {
+      verdict = verdictOf
+          (c .before .before .before .before .before .before .before .before .before .before .before .before .before .before .before .before .read-network .result .verdict);
+      areas = c .before .before .before .before .before .before .before .before .clear .ensures i;
+    })
+    ∙ sym (open-cleared (a .net .now) (lent (a .rows .now) (a .gained .now) (a .lost .now) (a .head .now))
+    (verdictOf (c .before .before .before .before .before .before .before .before .before .before .before .before .before .before .before .before .read-network .result .verdict))
+    (sym (c .before .before .before .before .before .before .before .before .before .before .before .before .before .before .before .before .before .before .long-enough .ensures)
+    ∙ not-false (c .before .before .before .before .before .before .before .before .before .before .before .before .before .before .before .before .before .before .long-enough .result)
+    (c .before .before .before .before .before .before .before .before .before .before .before .before .before .before .before .before .before .if1 .left))
+    (ap (λ (x : model.Reading). x .verdict)
+    (c .before .before .before .before .before .before .before .before .before .before .before .before .before .before .before .before .read-network .ensures .is))
+    (eq-eqb (c .before .before .before .before .before .before .before .before .before .before .before .before .before .before .before .before .read-network .result .verdict .number) 0
+    (c .before .before .before .before .before .before .before .before .before .before .before .before .before .if2 .taken)))
 
 same-length-9 : tie.Need-same-length-9
 same-length-9 c = search needs
@@ -70,7 +88,10 @@ same-length-12 c = search needs
 returns-3 : tie.Need-returns-3
 returns-3 c =
     let a = c .before .before .before .before .before .before .before .before .before .before .before .before .before .before .before .args in
-    sym (open-refused (a .net .now) (lent (a .rows .now) (a .gained .now) (a .lost .now) (a .head .now)) (verdictOf (c .before .before .before .read-network .result .verdict)) (sym (c .before .before .before .before .before .long-enough .ensures) ∙ not-false (c .before .before .before .before .before .long-enough .result) (c .before .before .before .before .if1 .left)) (ap (λ (x : model.Reading). x .verdict) (c .before .before .before .read-network .ensures .is)) (ne-eqb (c .before .before .before .read-network .result .verdict .number) 0 (c .if2 .left)))
+    sym (open-refused (a .net .now) (lent (a .rows .now) (a .gained .now) (a .lost .now) (a .head .now)) (verdictOf (c .before .before .before .read-network .result .verdict))
+    (sym (c .before .before .before .before .before .long-enough .ensures) ∙ not-false (c .before .before .before .before .before .long-enough .result)
+    (c .before .before .before .before .if1 .left)) (ap (λ (x : model.Reading). x .verdict) (c .before .before .before .read-network .ensures .is))
+    (ne-eqb (c .before .before .before .read-network .result .verdict .number) 0 (c .if2 .left)))
 
 pub open-spec : {M : Type 1} → statement M
 open-spec =

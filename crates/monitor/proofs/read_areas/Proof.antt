@@ -21,25 +21,55 @@ refused-reading-requires : tie.Need-refused-reading-requires
 refused-reading-requires c κs = search needs
 
 returns : tie.Need-returns
-returns c = let a = c .before .before .before .before .before .before .before .before .args in forms-short (a .net .now) (lent (a .rows .now) (a .gained .now) (a .lost .now) (a .head .now)) (c .refused-reading .result) (sym (c .before .before .long-enough .ensures) ∙ not-true (c .before .before .long-enough .result) (c .before .if1 .taken)) (c .refused-reading .ensures .0) (c .refused-reading .ensures .1)
+returns c = let a = c .before .before .before .before .before .before .before .before .args in forms-short (a .net .now) (lent (a .rows .now) (a .gained .now) (a .lost .now) (a .head .now))
+    (c .refused-reading .result) (sym (c .before .before .long-enough .ensures) ∙ not-true (c .before .before .long-enough .result) (c .before .if1 .taken)) (c .refused-reading .ensures .0)
+    (c .refused-reading .ensures .1)
 
 read-network-requires : tie.Need-read-network-requires
 read-network-requires c κs = search needs
 
 returns-2 : tie.Need-returns-2
-returns-2 c = let a = c .before .before .before .before .before .before .before .before .before .before .before .args in forms-unread (a .net .now) (lent (a .rows .now) (a .gained .now) (a .lost .now) (a .head .now)) (c .before .before .before .read-network .result) (c .before .before .before .read-network .ensures) (sym (c .before .before .before .before .before .long-enough .ensures) ∙ not-false (c .before .before .before .before .before .long-enough .result) (c .before .before .before .before .if1 .left)) (c .if2 .taken)
+returns-2 c = let a = c .before .before .before .before .before .before .before .before .before .before .before .args in forms-unread (a .net .now)
+    (lent (a .rows .now) (a .gained .now) (a .lost .now) (a .head .now)) (c .before .before .before .read-network .result) (c .before .before .before .read-network .ensures)
+    (sym (c .before .before .before .before .before .long-enough .ensures) ∙ not-false (c .before .before .before .before .before .long-enough .result)
+    (c .before .before .before .before .if1 .left)) (c .if2 .taken)
 
 good-form-requires : tie.Need-good-form-requires
-good-form-requires c κs = let a = c .before .before .before .before .before .before .before .before .before .before .before .before .before .before .before .args in let b = c .before .before .before .before .before .before .before .read-network .ensures .built in (omega (arith, b .sound .few, b .widths-length), b .narrow, (sym (c .before .before .before .before .before .before .before .before .before .long-enough .ensures) ∙ not-false (c .before .before .before .before .before .before .before .before .before .long-enough .result) (c .before .before .before .before .before .before .before .before .if1 .left)))
+good-form-requires c κs = let a = c .before .before .before .before .before .before .before .before .before .before .before .before .before .before .before .args in let b =
+    c .before .before .before .before .before .before .before .read-network .ensures .built
+    in (
+      omega (arith, b .sound .few, b .widths-length),
+      b .narrow,
+      (sym (c .before .before .before .before .before .before .before .before .before .long-enough .ensures)
+          ∙ not-false (c .before .before .before .before .before .before .before .before .before .long-enough .result)
+          (c .before .before .before .before .before .before .before .before .if1 .left)),
+    )
 
 refused-reading-requires-2 : tie.Need-refused-reading-requires-2
 refused-reading-requires-2 c κs = search needs
 
 returns-3 : tie.Need-returns-3
-returns-3 c = let a = c .before .before .before .before .before .before .before .before .before .before .before .before .before .before .before .before .before .before .args in forms-bad (a .net .now) (lent (a .rows .now) (a .gained .now) (a .lost .now) (a .head .now)) (c .before .before .before .before .before .before .before .before .before .before .read-network .result) (c .before .before .before .before .before .before .before .before .before .before .read-network .ensures) (sym (c .before .before .before .before .before .before .before .before .before .before .before .before .long-enough .ensures) ∙ not-false (c .before .before .before .before .before .before .before .before .before .before .before .before .long-enough .result) (c .before .before .before .before .before .before .before .before .before .before .before .if1 .left)) (c .refused-reading2 .result) (c .before .before .before .before .before .before .before .if2 .left) (sym (c .before .before .good-form .ensures (nodesOf (c .before .before .before .before .before .before .before .before .before .before .read-network .result .network)) (c .before .before .before .before .before .before .before .before .before .before .read-network .ensures .built .sound .widths)) ∙ not-true (c .before .before .good-form .result) (c .before .if3 .taken)) (c .refused-reading2 .ensures .0) (c .refused-reading2 .ensures .1)
+returns-3 c = let a = c .before .before .before .before .before .before .before .before .before .before .before .before .before .before .before .before .before .before .args in forms-bad
+    (a .net .now) (lent (a .rows .now) (a .gained .now) (a .lost .now) (a .head .now))
+    (c .before .before .before .before .before .before .before .before .before .before .read-network .result)
+    (c .before .before .before .before .before .before .before .before .before .before .read-network .ensures)
+    (sym (c .before .before .before .before .before .before .before .before .before .before .before .before .long-enough .ensures)
+    ∙ not-false (c .before .before .before .before .before .before .before .before .before .before .before .before .long-enough .result)
+    (c .before .before .before .before .before .before .before .before .before .before .before .if1 .left)) (c .refused-reading2 .result)
+    (c .before .before .before .before .before .before .before .if2 .left)
+    (sym (c .before .before .good-form .ensures (nodesOf (c .before .before .before .before .before .before .before .before .before .before .read-network .result .network))
+    (c .before .before .before .before .before .before .before .before .before .before .read-network .ensures .built .sound .widths))
+    ∙ not-true (c .before .before .good-form .result) (c .before .if3 .taken)) (c .refused-reading2 .ensures .0) (c .refused-reading2 .ensures .1)
 
 returns-4 : tie.Need-returns-4
-returns-4 c = let a = c .before .before .before .before .before .before .before .before .before .before .before .before .before .before .before .before .before .args in forms-good (a .net .now) (lent (a .rows .now) (a .gained .now) (a .lost .now) (a .head .now)) (c .before .before .before .before .before .before .before .before .before .read-network .result) (c .before .before .before .before .before .before .before .before .before .read-network .ensures) (sym (c .before .before .before .before .before .before .before .before .before .before .before .long-enough .ensures) ∙ not-false (c .before .before .before .before .before .before .before .before .before .before .before .long-enough .result) (c .before .before .before .before .before .before .before .before .before .before .if1 .left)) (c .before .before .before .before .before .before .if2 .left) (sym (c .before .good-form .ensures (nodesOf (c .before .before .before .before .before .before .before .before .before .read-network .result .network)) (c .before .before .before .before .before .before .before .before .before .read-network .ensures .built .sound .widths)) ∙ not-false (c .before .good-form .result) (c .if3 .left))
+returns-4 c = let a = c .before .before .before .before .before .before .before .before .before .before .before .before .before .before .before .before .before .args in forms-good
+    (a .net .now) (lent (a .rows .now) (a .gained .now) (a .lost .now) (a .head .now)) (c .before .before .before .before .before .before .before .before .before .read-network .result)
+    (c .before .before .before .before .before .before .before .before .before .read-network .ensures)
+    (sym (c .before .before .before .before .before .before .before .before .before .before .before .long-enough .ensures)
+    ∙ not-false (c .before .before .before .before .before .before .before .before .before .before .before .long-enough .result)
+    (c .before .before .before .before .before .before .before .before .before .before .if1 .left)) (c .before .before .before .before .before .before .if2 .left)
+    (sym (c .before .good-form .ensures (nodesOf (c .before .before .before .before .before .before .before .before .before .read-network .result .network))
+    (c .before .before .before .before .before .before .before .before .before .read-network .ensures .built .sound .widths)) ∙ not-false (c .before .good-form .result) (c .if3 .left))
 
 pub read-areas-spec : {M : Type 1} → statement M
 read-areas-spec =

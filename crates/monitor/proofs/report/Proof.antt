@@ -13,16 +13,25 @@ read-areas-requires : tie.Need-read-areas-requires
 read-areas-requires c κs = search needs
 
 returns : tie.Need-returns
-returns c = let a = c .before .before .before .before .before .before .before .before .before .args in report-refused (a .net .now) (a .node) (a .rows .now) (a .gained .now) (a .lost .now) (a .head .now) (a .out .now) (c .before .before .read-areas .result) (c .before .before .read-areas .ensures) (c .if1 .taken)
+returns c = let a = c .before .before .before .before .before .before .before .before .before .args in report-refused (a .net .now) (a .node) (a .rows .now) (a .gained .now) (a .lost .now)
+    (a .head .now) (a .out .now) (c .before .before .read-areas .result) (c .before .before .read-areas .ensures) (c .if1 .taken)
 
 report-node-requires : tie.Need-report-node-requires
-report-node-requires c κs = let a = c .before .before .before .before .before .before .before .before .before .before .before .args in (c .before .before .before .before .read-areas .ensures .built, reportable (a .net .now) (a .rows .now) (a .gained .now) (a .lost .now) (a .head .now) (c .before .before .before .before .read-areas .result) (c .before .before .before .before .read-areas .ensures) (c .before .before .if1 .left))
+report-node-requires c κs = let a = c .before .before .before .before .before .before .before .before .before .before .before .args
+    in (
+      c .before .before .before .before .read-areas .ensures .built,
+      reportable (a .net .now) (a .rows .now) (a .gained .now) (a .lost .now) (a .head .now)
+          (c .before .before .before .before .read-areas .result) (c .before .before .before .before .read-areas .ensures) (c .before .before .if1 .left),
+    )
 
 same-length : tie.Need-same-length
 same-length c = search needs
 
 returns-2 : tie.Need-returns-2
-returns-2 c = let a = c .before .before .before .before .before .before .before .before .before .before .before .before .before .before .args in c .before .before .report-node .ensures ∙ report-known (a .net .now) (a .node) (a .rows .now) (a .gained .now) (a .lost .now) (a .head .now) (a .out .now) (c .before .before .before .before .before .before .before .read-areas .result) (c .before .before .before .before .before .before .before .read-areas .ensures) (c .before .before .before .before .before .if1 .left)
+returns-2 c = let a = c .before .before .before .before .before .before .before .before .before .before .before .before .before .before .args in c .before .before .report-node .ensures
+    ∙ report-known (a .net .now) (a .node) (a .rows .now) (a .gained .now) (a .lost .now) (a .head .now) (a .out .now)
+    (c .before .before .before .before .before .before .before .read-areas .result) (c .before .before .before .before .before .before .before .read-areas .ensures)
+    (c .before .before .before .before .before .if1 .left)
 
 pub report-spec : {M : Type 1} → statement M
 report-spec =

@@ -18,7 +18,8 @@ returns : tie.Need-returns
 returns c = let a = c .before .before .args in sym (getD-take (a .count) (a .signs .now) (a .node) 0 (c .before .if1 .taken))
 
 returns-2 : tie.Need-returns-2
-returns-2 c = let a = c .before .args in sym (List·getD-eq-default (take (a .count) (a .signs .now)) 0 (rw (length-take-le (a .count) (a .signs .now) (c .before .pre)) (omega (arith, c .if1 .left))))
+returns-2 c = let a = c .before .args in sym
+    (List·getD-eq-default (take (a .count) (a .signs .now)) 0 (rw (length-take-le (a .count) (a .signs .now) (c .before .pre)) (omega (arith, c .if1 .left))))
 
 pub sign-of-spec : {M : Type 1} → statement M
 sign-of-spec = tie.close (tie.spec mul-result shared-slice-read-result returns returns-2)

@@ -1,6 +1,6 @@
-use mathlib.Core.Path.{_≡_, refl, sym, ap, _∙_}
-use Prim.Native.Nat.{ℕ, _+_, _-_, _*_, _≤_, _<_}
-use lib.ListN.{length, getD, take, length-set}
+use mathlib.Core.Path.{_≡_, refl, ap, _∙_}
+use Prim.Native.Nat.{_-_, _≤_}
+use lib.ListN.{length, take, length-set}
 use Rattle.model.specs.Areas.{padded}
 use Rattle.model.specs.Record.{fieldsAt}
 use Rattle.network.specs.Reading.{Ends}
@@ -8,7 +8,6 @@ use Rattle.network.proofs.Building.{set-ends, zero-at}
 use Rattle.network.proofs.Kept.{ends-padded}
 use Rattle.nodes.proofs.Lists.{fields-turn}
 use native.Mathlib.Omega.{arith}
-use borrow.Author.Needs.{needs}
 use Rattle.network.proofs.fields_of.Statement.{statement}
 use Rattle.network.proofs.fields_of.Tie as tie
 use Rattle.network.proofs.fields_of.Reads as reads

@@ -1,4 +1,4 @@
-use mathlib.Core.Path.{_≡_, refl, sym, ap, _∙_}
+use mathlib.Core.Path.{_≡_, refl, _∙_}
 use Prim.Native.Nat.{_≤_, _-_}
 use lib.ListN.{length, length-set, getD}
 use Rattle.model.specs.Areas.{padded}
@@ -47,7 +47,9 @@ loop-again c =
     let s = c .before .before .before .before .args .t1 .slots in (
       omega arith,
       simp length-set (c .before .before .before .loop .inv .1),
-      kinds-more s (c .before .before .before .loop .i) (c .kind-of .result) (c .before .before .before .loop .kinds) (omega (arith, c .before .before .before .before .pre .sound .few, c .before .before .before .before .pre .slots-length)) (omega (arith, c .before .before .before .before .pre .sound .few)) (c .before .before .before .loop .inv .2)
+      kinds-more s (c .before .before .before .loop .i) (c .kind-of .result) (c .before .before .before .loop .kinds)
+          (omega (arith, c .before .before .before .before .pre .sound .few, c .before .before .before .before .pre .slots-length))
+          (omega (arith, c .before .before .before .before .pre .sound .few)) (c .before .before .before .loop .inv .2)
           (c .kind-of .ensures (getD s (c .before .before .before .loop .i) noSlot .columns) (getD s (c .before .before .before .loop .i) noSlot .pairs)),
     )
 

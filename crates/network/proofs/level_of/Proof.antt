@@ -1,8 +1,4 @@
-use mathlib.Core.Path.{_≡_, refl, sym, ap, _∙_}
-use Prim.Native.Nat.{ℕ, suc, _+_, _<_, max}
 use native.Mathlib.Numerals.{add-one}
-use lib.ListN.{length}
-use Rattle.network.specs.Reading.{levelIn, InputsBelow}
 use native.Mathlib.Omega.{arith}
 use borrow.Author.Needs.{needs}
 use Rattle.network.proofs.level_of.Statement.{statement}
@@ -24,7 +20,13 @@ shared-slice-read-result : tie.Need-shared-slice-read-result
 shared-slice-read-result c = rw (c .before .before .node .given .1) at (c .before .before .before .before .before .pre .0)
 
 add-result : tie.Need-add-result
-add-result c = omega (arith, rw (c .before .before .node .given .1) at (c .before .before .before .before .before .pre .0), c .before .before .before .before .before .pre .1 (c .before .before .node .given .0 .0), c .before .before .before .before .before .pre .2)
+add-result c = omega (
+  arith,
+  rw (c .before .before .node .given .1) at (c .before .before .before .before .before .pre .0),
+  c .before .before .before .before .before .pre .1
+      (c .before .before .node .given .0 .0),
+  c .before .before .before .before .before .pre .2,
+)
 
 enum-known-node-2 : tie.Need-enum-known-node-2
 enum-known-node-2 c = search needs
@@ -36,7 +38,13 @@ shared-slice-read-result-2 : tie.Need-shared-slice-read-result-2
 shared-slice-read-result-2 c = rw (c .before .before .node2 .given .1) at (c .before .before .before .before .before .pre .0)
 
 add-result-2 : tie.Need-add-result-2
-add-result-2 c = omega (arith, rw (c .before .before .node2 .given .1) at (c .before .before .before .before .before .pre .0), c .before .before .before .before .before .pre .1 (c .before .before .node2 .given .0 .0), c .before .before .before .before .before .pre .2)
+add-result-2 c = omega (
+  arith,
+  rw (c .before .before .node2 .given .1) at (c .before .before .before .before .before .pre .0),
+  c .before .before .before .before .before .pre .1
+      (c .before .before .node2 .given .0 .0),
+  c .before .before .before .before .before .pre .2,
+)
 
 enum-known-node-3 : tie.Need-enum-known-node-3
 enum-known-node-3 c = search needs
@@ -57,7 +65,15 @@ greater-requires : tie.Need-greater-requires
 greater-requires c κs = search needs
 
 add-result-3 : tie.Need-add-result-3
-add-result-3 c = let b = rw (c .before .before .before .before .node3 .given .1) at (c .before .before .before .before .before .before .before .pre .0) in omega (arith, b .0, b .1, c .before .before .before .before .before .before .before .pre .1 (c .before .before .before .before .node3 .given .0 .0), c .before .before .before .before .before .before .before .pre .1 (c .before .before .before .before .node3 .given .0 .1 .0), c .before .before .before .before .before .before .before .pre .2, c .greater .ensures)
+add-result-3 c = let b = rw (c .before .before .before .before .node3 .given .1) at (c .before .before .before .before .before .before .before .pre .0) in omega (
+  arith,
+  b .0,
+  b .1,
+  c .before .before .before .before .before .before .before .pre .1 (c .before .before .before .before .node3 .given .0 .0),
+  c .before .before .before .before .before .before .before .pre .1 (c .before .before .before .before .node3 .given .0 .1 .0),
+  c .before .before .before .before .before .before .before .pre .2,
+  c .greater .ensures,
+)
 
 enum-known-node-4 : tie.Need-enum-known-node-4
 enum-known-node-4 c = search needs
@@ -78,7 +94,15 @@ greater-requires-2 : tie.Need-greater-requires-2
 greater-requires-2 c κs = search needs
 
 add-result-4 : tie.Need-add-result-4
-add-result-4 c = let b = rw (c .before .before .before .before .node4 .given .1) at (c .before .before .before .before .before .before .before .pre .0) in omega (arith, b .0, b .1, c .before .before .before .before .before .before .before .pre .1 (c .before .before .before .before .node4 .given .0 .1 .0), c .before .before .before .before .before .before .before .pre .1 (c .before .before .before .before .node4 .given .0 .1 .1 .0), c .before .before .before .before .before .before .before .pre .2, c .greater2 .ensures)
+add-result-4 c = let b = rw (c .before .before .before .before .node4 .given .1) at (c .before .before .before .before .before .before .before .pre .0) in omega (
+  arith,
+  b .0,
+  b .1,
+  c .before .before .before .before .before .before .before .pre .1 (c .before .before .before .before .node4 .given .0 .1 .0),
+  c .before .before .before .before .before .before .before .pre .1 (c .before .before .before .before .node4 .given .0 .1 .1 .0),
+  c .before .before .before .before .before .before .before .pre .2,
+  c .greater2 .ensures,
+)
 
 returns : tie.Need-returns
 returns c = rw (c .enum-told .given .1)

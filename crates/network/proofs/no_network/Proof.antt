@@ -1,8 +1,6 @@
-use mathlib.Core.Path.{_≡_, refl}
+use mathlib.Core.Path.{refl}
 use native.Mathlib.Omega.{arith}
 use native.Mathlib.Nat.{not-suc-le-zero}
-use lib.ListN.{length, getD, replicate}
-use borrow.Author.Needs.{needs}
 use Rattle.model.specs.Network.{build, levels, widths}
 use Rattle.network.proofs.Building.{zero-at}
 use Rattle.network.proofs.no_network.Statement.{statement}

@@ -1,5 +1,4 @@
 use Rattle.network.proofs.Kept.{answered}
-use native.Mathlib.Omega.{arith}
 use borrow.Author.Needs.{needs}
 use Rattle.network.proofs.read.Statement.{statement}
 use Rattle.network.proofs.read.Tie as tie
@@ -15,7 +14,8 @@ kinds-of-requires : tie.Need-kinds-of-requires
 kinds-of-requires c κs = search needs
 
 returns : tie.Need-returns
-returns c = answered (c .before .before .before .before .before .before .before .args .bytes .now) (c .before .before .before .before .before .read-network .result) (c .before .before .kinds-of .result) (c .before .before .before .before .before .read-network .ensures) (c .before .before .kinds-of .ensures)
+returns c = answered (c .before .before .before .before .before .before .before .args .bytes .now) (c .before .before .before .before .before .read-network .result)
+    (c .before .before .kinds-of .result) (c .before .before .before .before .before .read-network .ensures) (c .before .before .kinds-of .ensures)
 
 pub read-spec : {M : Type 1} → statement M
 read-spec = tie.close (tie.spec read-network-requires kinds-of-requires returns)

@@ -1,6 +1,4 @@
-use mathlib.Core.Path.{_≡_, refl, ap}
 use Rattle.model.specs.Network as model
-use native.Mathlib.Omega.{arith}
 use borrow.Author.Needs.{needs}
 use Rattle.network.proofs.refused_reading.Statement.{statement}
 use Rattle.network.proofs.refused_reading.Tie as tie

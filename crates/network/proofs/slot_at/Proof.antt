@@ -1,11 +1,9 @@
-use mathlib.Core.Path.{_≡_, refl, sym, ap, _∙_}
-use Prim.Native.Nat.{ℕ, _+_, _-_, _*_, _≤_, _<_}
+use mathlib.Core.Path.{_≡_, refl, ap, _∙_}
+use Prim.Native.Nat.{ℕ, _+_, _*_, _≤_}
 use native.Mathlib.Omega.{arith}
-use lib.ListN.{length, take}
 use borrow.Author.Needs.{needs}
 use Rattle.model.specs.Network.{pairsAt}
-use Rattle.nodes.specs.Nodes.{NodeFits, nodeAt, nodeOf, pairsOf}
-use Rattle.network.specs.Reading.{slotNode}
+use Rattle.nodes.specs.Nodes.{pairsOf}
 use Rattle.nodes.proofs.Lists.{pairs-fields, pairs-take}
 use Rattle.network.proofs.slot_at.Statement.{statement}
 use Rattle.network.proofs.Building.{counts-are}
@@ -54,8 +52,10 @@ returns c =
     let f = rw (c .before .before .node .given .1) at (c .before .before .before .before .before .pre) in
     let n : ℕ = c .before .before .node .given .0 .1 .0 in
     let e = c .fields-of .ensures in
-    let columns = fields-first (a .bytes .now) (a .at) 2 n (c .fields-of .result) (f .1) e in
-    (rw (c .before .before .node .given .1, columns), record { columns-length = fields-length (a .bytes .now) (a .at) 2 n (c .fields-of .result) (f .1) e; pairs-length = refl; counts = f .1 })
+    let columns = fields-first (a .bytes .now) (a .at) 2 n (c .fields-of .result) (f .1) e in (
+      rw (c .before .before .node .given .1, columns),
+      record { columns-length = fields-length (a .bytes .now) (a .at) 2 n (c .fields-of .result) (f .1) e; pairs-length = refl; counts = f .1 },
+    )
 
 returns-2 : tie.Need-returns-2
 returns-2 c =
@@ -69,7 +69,8 @@ returns-2 c =
     let few : 2 * p ≤ 4 = omega (arith, f .2) in
     let size = fields-length (a .bytes .now) (a .at) 3 (2 * p) (x .result) few (x .ensures) in
     let pairs : pairsOf p (x .result) ≡ pairsAt (a .bytes .now) (a .at) 3 p =
-    pairs-take p (x .result) (omega (arith, f .2, size)) ∙ ap (pairsOf p) (fields-first (a .bytes .now) (a .at) 3 (2 * p) (x .result) few (x .ensures)) ∙ pairs-fields (a .bytes .now) (a .at) 3 p in
+    pairs-take p (x .result) (omega (arith, f .2, size)) ∙ ap (pairsOf p) (fields-first (a .bytes .now) (a .at) 3 (2 * p) (x .result) few (x .ensures))
+    ∙ pairs-fields (a .bytes .now) (a .at) 3 p in
     let columns = fields-first (a .bytes .now) (a .at) (4 + 2 * p) n (y .result) (f .3) (y .ensures) in
     let columns-length = fields-length (a .bytes .now) (a .at) (4 + 2 * p) n (y .result) (f .3) (y .ensures) in
     (rw (g .1, pairs, columns), record { columns-length = columns-length; pairs-length = size; counts = (f .2, f .3) })

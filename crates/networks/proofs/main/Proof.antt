@@ -87,7 +87,9 @@ array-share-prefix-text : tie.Need-array-share-prefix-text Inv-loop μ-loop
 array-share-prefix-text c = search needs
 
 slice-aggregate-write-all : tie.Need-slice-aggregate-write-all Inv-loop μ-loop
-slice-aggregate-write-all c = sym (length-take-le (c .before .before .put-line .result) (c .before .before .put-line .last .0) (omega (arith, c .before .before .put-line .ensures .2, c .before .before .put-line .kept .0)))
+slice-aggregate-write-all c = sym
+    (length-take-le (c .before .before .put-line .result) (c .before .before .put-line .last .0)
+    (omega (arith, c .before .before .put-line .ensures .2, c .before .before .put-line .kept .0)))
 
 write-all-requires-2 : tie.Need-write-all-requires-2 Inv-loop μ-loop
 write-all-requires-2 c κs = search needs
@@ -99,13 +101,19 @@ slice-aggregate-put-list-2 : tie.Need-slice-aggregate-put-list-2 Inv-loop μ-loo
 slice-aggregate-put-list-2 c = search needs
 
 put-list-requires : tie.Need-put-list-requires Inv-loop μ-loop
-put-list-requires c κs = omega (arith, c .before .before .before .before .before .put-line .kept .0, c .before .before .before .before .before .before .before .before .before .before .before .before .before .before .before .before .before .before .before .before .before .loop .inv .2)
+put-list-requires c κs = omega (
+  arith,
+  c .before .before .before .before .before .put-line .kept .0,
+  c .before .before .before .before .before .before .before .before .before .before .before .before .before .before .before .before .before .before .before .before .before .loop .inv .2,
+)
 
 array-share-prefix-text-2 : tie.Need-array-share-prefix-text-2 Inv-loop μ-loop
 array-share-prefix-text-2 c = search needs
 
 slice-aggregate-write-all-2 : tie.Need-slice-aggregate-write-all-2 Inv-loop μ-loop
-slice-aggregate-write-all-2 c = sym (length-take-le (c .before .before .put-list .result) (c .before .before .put-list .last .0) (omega (arith, c .before .before .put-list .ensures .2, c .before .before .put-list .kept .0)))
+slice-aggregate-write-all-2 c = sym
+    (length-take-le (c .before .before .put-list .result) (c .before .before .put-list .last .0)
+    (omega (arith, c .before .before .put-list .ensures .2, c .before .before .put-list .kept .0)))
 
 write-all-requires-3 : tie.Need-write-all-requires-3 Inv-loop μ-loop
 write-all-requires-3 c κs = search needs
@@ -117,13 +125,21 @@ slice-aggregate-put-list-4 : tie.Need-slice-aggregate-put-list-4 Inv-loop μ-loo
 slice-aggregate-put-list-4 c = search needs
 
 put-list-requires-2 : tie.Need-put-list-requires-2 Inv-loop μ-loop
-put-list-requires-2 c κs = omega (arith, c .before .before .before .before .before .put-list .kept .0, c .before .before .before .before .before .before .before .before .before .before .before .put-line .kept .0, c .before .before .before .before .before .before .before .before .before .before .before .before .before .before .before .before .before .before .before .before .before .before .before .before .before .before .before .loop .inv .2)
+put-list-requires-2 c κs = omega (
+  arith,
+  c .before .before .before .before .before .put-list .kept .0,
+  c .before .before .before .before .before .before .before .before .before .before .before .put-line .kept .0,
+  c .before .before .before .before .before .before .before .before .before .before .before .before .before .before .before .before .before .before .before .before .before .before .before
+      .before .before .before .before .loop .inv .2,
+)
 
 array-share-prefix-text-3 : tie.Need-array-share-prefix-text-3 Inv-loop μ-loop
 array-share-prefix-text-3 c = search needs
 
 slice-aggregate-write-all-3 : tie.Need-slice-aggregate-write-all-3 Inv-loop μ-loop
-slice-aggregate-write-all-3 c = sym (length-take-le (c .before .before .put-list2 .result) (c .before .before .put-list2 .last .0) (omega (arith, c .before .before .put-list2 .ensures .2, c .before .before .put-list2 .kept .0)))
+slice-aggregate-write-all-3 c = sym
+    (length-take-le (c .before .before .put-list2 .result) (c .before .before .put-list2 .last .0)
+    (omega (arith, c .before .before .put-list2 .ensures .2, c .before .before .put-list2 .kept .0)))
 
 write-all-requires-4 : tie.Need-write-all-requires-4 Inv-loop μ-loop
 write-all-requires-4 c κs = search needs
@@ -135,22 +151,54 @@ slice-aggregate-put-list-6 : tie.Need-slice-aggregate-put-list-6 Inv-loop μ-loo
 slice-aggregate-put-list-6 c = search needs
 
 put-list-requires-3 : tie.Need-put-list-requires-3 Inv-loop μ-loop
-put-list-requires-3 c κs = omega (arith, c .before .before .before .before .before .put-list2 .kept .0, c .before .before .before .before .before .before .before .before .before .before .before .put-list .kept .0, c .before .before .before .before .before .before .before .before .before .before .before .before .before .before .before .before .before .put-line .kept .0, c .before .before .before .before .before .before .before .before .before .before .before .before .before .before .before .before .before .before .before .before .before .before .before .before .before .before .before .before .before .before .before .before .before .loop .inv .2)
+put-list-requires-3 c κs = omega (
+  arith,
+  c .before .before .before .before .before .put-list2 .kept .0,
+  c .before .before .before .before .before .before .before .before .before .before .before .put-list .kept .0,
+  c .before .before .before .before .before .before .before .before .before .before .before .before .before .before .before .before .before .put-line .kept .0,
+  c .before .before .before .before .before .before .before .before .before .before .before .before .before .before .before .before .before .before .before .before .before .before .before
+      .before .before .before .before .before .before .before .before .before .before .loop .inv .2,
+)
 
 array-share-prefix-text-4 : tie.Need-array-share-prefix-text-4 Inv-loop μ-loop
 array-share-prefix-text-4 c = search needs
 
 slice-aggregate-write-all-4 : tie.Need-slice-aggregate-write-all-4 Inv-loop μ-loop
-slice-aggregate-write-all-4 c = sym (length-take-le (c .before .before .put-list3 .result) (c .before .before .put-list3 .last .0) (omega (arith, c .before .before .put-list3 .ensures .2, c .before .before .put-list3 .kept .0)))
+slice-aggregate-write-all-4 c = sym
+    (length-take-le (c .before .before .put-list3 .result) (c .before .before .put-list3 .last .0)
+    (omega (arith, c .before .before .put-list3 .ensures .2, c .before .before .put-list3 .kept .0)))
 
 write-all-requires-5 : tie.Need-write-all-requires-5 Inv-loop μ-loop
 write-all-requires-5 c κs = search needs
 
 loop-less : tie.Need-loop-less Inv-loop μ-loop
-loop-less c = omega (arith, c .before .before .before .before .before .before .before .before .before .before .before .before .before .before .before .before .before .before .before .before .before .before .before .before .before .before .before .before .before .before .before .before .before .before .case-at .ensures .after, c .before .before .before .before .before .before .before .before .before .before .before .before .before .before .before .before .before .before .before .before .before .before .before .before .before .before .before .before .before .before .before .before .before .before .case-at .ensures .whole, c .before .before .before .before .before .before .before .before .before .before .before .before .before .before .before .before .before .before .before .before .before .before .before .before .before .before .before .before .before .before .before .before .before .before .before .before .loop-test .taken)
+loop-less c = omega (
+  arith,
+  c .before .before .before .before .before .before .before .before .before .before .before .before .before .before .before .before .before .before .before .before .before .before .before
+      .before .before .before .before .before .before .before .before .before .before .before .case-at .ensures .after,
+  c .before .before .before .before .before .before .before .before .before .before .before .before .before .before .before .before .before .before .before .before .before .before .before
+      .before .before .before .before .before .before .before .before .before .before .before .case-at .ensures .whole,
+  c .before .before .before .before .before .before .before .before .before .before .before .before .before .before .before .before .before .before .before .before .before .before .before
+      .before .before .before .before .before .before .before .before .before .before .before .before .before .loop-test .taken,
+)
 
 loop-again : tie.Need-loop-again Inv-loop μ-loop
-loop-again c = (c .before .before .before .before .before .before .before .before .before .before .before .before .before .before .before .before .before .before .before .before .before .before .before .before .before .before .before .before .before .before .before .before .before .before .before .before .before .loop .inv .0, c .before .before .before .before .before .before .before .before .before .before .before .before .before .before .before .before .before .before .before .before .before .before .before .before .before .before .before .before .before .before .before .before .before .before .before .before .before .loop .inv .1, omega (arith, c .before .before .before .put-list3 .kept .0, c .before .before .before .before .before .before .before .before .before .put-list2 .kept .0, c .before .before .before .before .before .before .before .before .before .before .before .before .before .before .before .put-list .kept .0, c .before .before .before .before .before .before .before .before .before .before .before .before .before .before .before .before .before .before .before .before .before .put-line .kept .0, c .before .before .before .before .before .before .before .before .before .before .before .before .before .before .before .before .before .before .before .before .before .before .before .before .before .before .before .before .before .before .before .before .before .before .before .before .before .loop .inv .2))
+loop-again c = (
+  c .before .before .before .before .before .before .before .before .before .before .before .before .before .before .before .before .before .before .before .before .before
+      .before .before .before .before .before .before .before .before .before .before .before .before .before .before .before .before .loop .inv .0,
+  c .before .before .before .before .before .before .before .before .before .before .before .before .before .before .before .before .before .before .before .before .before .before .before
+      .before .before .before .before .before .before .before .before .before .before .before .before .before .before .loop .inv .1,
+  omega (
+    arith,
+    c .before .before .before .put-list3 .kept .0,
+    c .before .before .before .before .before .before .before .before .before .put-list2 .kept .0,
+    c .before .before .before .before .before .before .before .before .before .before .before .before .before .before .before .put-list .kept .0,
+    c .before .before .before .before .before .before .before .before .before .before .before .before .before .before .before .before .before .before .before .before .before .put-line .kept
+        .0,
+    c .before .before .before .before .before .before .before .before .before .before .before .before .before .before .before .before .before .before .before .before .before .before
+        .before .before .before .before .before .before .before .before .before .before .before .before .before .before .before .loop .inv .2,
+  ),
+)
 
 returns : tie.Need-returns Inv-loop μ-loop
 returns c = search needs

@@ -1,11 +1,7 @@
-use mathlib.Core.Path.{_≡_, refl, sym, ap, _∙_}
-use Prim.Native.Nat.{ℕ, _+_, _-_, _*_, _≤_, _<_}
-use lib.ListN.{length, getD, take}
-use borrow.Author.Tests.{not-true, not-false}
-use Rattle.records.proofs.Header.{whole}
+use mathlib.Core.Path.{sym}
+use Prim.Native.Nat.{_-_, _≤_}
 use Rattle.nodes.proofs.Lists.{BelowTo, below-none, below-more, below-not, below-all}
 use native.Mathlib.Omega.{arith}
-use borrow.Author.Needs.{needs}
 use Rattle.nodes.proofs.columns_below.Statement.{statement}
 use Rattle.nodes.proofs.columns_below.Tie as tie
 use Rattle.nodes.proofs.columns_below.Reads as reads
@@ -28,7 +24,9 @@ field-at-requires : tie.Need-field-at-requires Inv-loop μ-loop
 field-at-requires c κs = omega arith
 
 returns : tie.Need-returns Inv-loop μ-loop
-returns c = let a = c .before .before .before .before .before .args in sym (below-not (a .width) (a .bytes .now) (a .at) (a .k) (a .n) (c .before .before .before .loop .i) (c .before .field-at .result) (omega arith) (c .before .field-at .ensures .is) (c .if1 .taken) (c .before .before .before .loop .inv .1))
+returns c = let a = c .before .before .before .before .before .args in sym
+    (below-not (a .width) (a .bytes .now) (a .at) (a .k) (a .n) (c .before .before .before .loop .i) (c .before .field-at .result) (omega arith) (c .before .field-at .ensures .is)
+    (c .if1 .taken) (c .before .before .before .loop .inv .1))
 
 add-i : tie.Need-add-i Inv-loop μ-loop
 add-i c = omega arith
@@ -37,7 +35,12 @@ loop-less : tie.Need-loop-less Inv-loop μ-loop
 loop-less c = omega arith
 
 loop-again : tie.Need-loop-again Inv-loop μ-loop
-loop-again c = let a = c .before .before .before .before .before .args in (omega arith, below-more (a .width) (a .bytes .now) (a .at) (a .k) (a .n) (c .before .before .before .loop .i) (c .before .field-at .result) (omega arith) (c .before .field-at .ensures .is) (c .if1 .left) (c .before .before .before .loop .inv .1))
+loop-again c = let a = c .before .before .before .before .before .args
+    in (
+      omega arith,
+      below-more (a .width) (a .bytes .now) (a .at) (a .k) (a .n) (c .before .before .before .loop .i) (c .before .field-at .result) (omega arith)
+          (c .before .field-at .ensures .is) (c .if1 .left) (c .before .before .before .loop .inv .1),
+    )
 
 returns-2 : tie.Need-returns-2 Inv-loop μ-loop
 returns-2 c = let a = c .before .before .before .args in sym (below-all (a .width) (a .bytes .now) (a .at) (a .k) (a .n) (c .before .loop .i) (omega arith) (c .before .loop .inv .1))

@@ -1,7 +1,4 @@
-use mathlib.Core.Path.{_≡_, refl, sym, ap, _∙_}
-use Prim.Native.Nat.{ℕ, _+_, _-_, _*_, _≤_, _<_}
-use lib.ListN.{length, getD, take}
-use borrow.Author.Tests.{not-true, not-false}
+use mathlib.Core.Path.{sym}
 use Rattle.records.proofs.Header.{whole}
 use Rattle.nodes.proofs.Body.{join-short, join-pairs, join-no-count, join-none, join-many, join-size}
 use native.Mathlib.Omega.{arith}
@@ -20,10 +17,13 @@ returns : tie.Need-returns
 returns c = let a = c .before .before .before .args in sym (join-short (a .bytes .now) (a .at) (c .before .u16-at .result) (c .before .u16-at .ensures .is) (c .if1 .taken))
 
 field-at-requires : tie.Need-field-at-requires
-field-at-requires c κs = let a = c .before .before .before .args in omega (arith, whole (a .bytes .now) (a .at) (c .before .before .before .pre) .inside, c .if1 .left, c .before .u16-at .ensures .is)
+field-at-requires c κs = let a = c .before .before .before .args in omega
+    (arith, whole (a .bytes .now) (a .at) (c .before .before .before .pre) .inside, c .if1 .left, c .before .u16-at .ensures .is)
 
 returns-2 : tie.Need-returns-2
-returns-2 c = let a = c .before .before .before .before .before .args in sym (join-pairs (a .bytes .now) (a .at) (c .before .before .before .u16-at .result) (c .before .before .before .u16-at .ensures .is) (c .before .before .if1 .left) (c .before .field-at .result) (c .before .field-at .ensures .is) (c .if2 .taken))
+returns-2 c = let a = c .before .before .before .before .before .args in sym
+    (join-pairs (a .bytes .now) (a .at) (c .before .before .before .u16-at .result) (c .before .before .before .u16-at .ensures .is) (c .before .before .if1 .left)
+    (c .before .field-at .result) (c .before .field-at .ensures .is) (c .if2 .taken))
 
 mul-if3 : tie.Need-mul-if3
 mul-if3 c = search needs
@@ -32,7 +32,9 @@ add-if3 : tie.Need-add-if3
 add-if3 c = search needs
 
 returns-3 : tie.Need-returns-3
-returns-3 c = let a = c .before .before .before .before .before .before .args in sym (join-no-count (a .bytes .now) (a .at) (c .before .before .before .before .u16-at .result) (c .before .before .before .before .u16-at .ensures .is) (c .before .before .before .if1 .left) (c .before .before .field-at .result) (c .before .before .field-at .ensures .is) (c .before .if2 .left) (c .if3 .taken))
+returns-3 c = let a = c .before .before .before .before .before .before .args in sym
+    (join-no-count (a .bytes .now) (a .at) (c .before .before .before .before .u16-at .result) (c .before .before .before .before .u16-at .ensures .is) (c .before .before .before .if1 .left)
+    (c .before .before .field-at .result) (c .before .before .field-at .ensures .is) (c .before .if2 .left) (c .if3 .taken))
 
 mul-field-at : tie.Need-mul-field-at
 mul-field-at c = search needs
@@ -41,13 +43,21 @@ add-field-at : tie.Need-add-field-at
 add-field-at c = search needs
 
 field-at-requires-2 : tie.Need-field-at-requires-2
-field-at-requires-2 c κs = let a = c .before .before .before .before .before .before .args in omega (arith, whole (a .bytes .now) (a .at) (c .before .before .before .before .before .before .pre) .inside, c .if3 .left, c .before .before .before .before .u16-at .ensures .is)
+field-at-requires-2 c κs = let a = c .before .before .before .before .before .before .args in omega
+    (arith, whole (a .bytes .now) (a .at) (c .before .before .before .before .before .before .pre) .inside, c .if3 .left, c .before .before .before .before .u16-at .ensures .is)
 
 returns-4 : tie.Need-returns-4
-returns-4 c = let a = c .before .before .before .before .before .before .before .before .args in sym (join-none (a .bytes .now) (a .at) (c .before .before .before .before .before .before .u16-at .result) (c .before .before .before .before .before .before .u16-at .ensures .is) (c .before .before .before .before .before .if1 .left) (c .before .before .before .before .field-at .result) (c .before .before .before .before .field-at .ensures .is) (c .before .before .before .if2 .left) (c .before .before .if3 .left) (c .before .field-at2 .result) (c .before .field-at2 .ensures .is) (c .if4 .taken))
+returns-4 c = let a = c .before .before .before .before .before .before .before .before .args in sym
+    (join-none (a .bytes .now) (a .at) (c .before .before .before .before .before .before .u16-at .result) (c .before .before .before .before .before .before .u16-at .ensures .is)
+    (c .before .before .before .before .before .if1 .left) (c .before .before .before .before .field-at .result) (c .before .before .before .before .field-at .ensures .is)
+    (c .before .before .before .if2 .left) (c .before .before .if3 .left) (c .before .field-at2 .result) (c .before .field-at2 .ensures .is) (c .if4 .taken))
 
 returns-5 : tie.Need-returns-5
-returns-5 c = let a = c .before .before .before .before .before .before .before .before .before .args in sym (join-many (a .bytes .now) (a .at) (c .before .before .before .before .before .before .before .u16-at .result) (c .before .before .before .before .before .before .before .u16-at .ensures .is) (c .before .before .before .before .before .before .if1 .left) (c .before .before .before .before .before .field-at .result) (c .before .before .before .before .before .field-at .ensures .is) (c .before .before .before .before .if2 .left) (c .before .before .before .if3 .left) (c .before .before .field-at2 .result) (c .before .before .field-at2 .ensures .is) (c .before .if4 .left) (c .if5 .taken))
+returns-5 c = let a = c .before .before .before .before .before .before .before .before .before .args in sym
+    (join-many (a .bytes .now) (a .at) (c .before .before .before .before .before .before .before .u16-at .result)
+    (c .before .before .before .before .before .before .before .u16-at .ensures .is) (c .before .before .before .before .before .before .if1 .left)
+    (c .before .before .before .before .before .field-at .result) (c .before .before .before .before .before .field-at .ensures .is) (c .before .before .before .before .if2 .left)
+    (c .before .before .before .if3 .left) (c .before .before .field-at2 .result) (c .before .before .field-at2 .ensures .is) (c .before .if4 .left) (c .if5 .taken))
 
 mul-result : tie.Need-mul-result
 mul-result c = search needs
@@ -62,7 +72,11 @@ add-result-2 : tie.Need-add-result-2
 add-result-2 c = search needs
 
 returns-6 : tie.Need-returns-6
-returns-6 c = let a = c .before .before .before .before .before .before .before .before .before .args in join-size (a .bytes .now) (a .at) (c .before .before .before .before .before .before .before .u16-at .result) (c .before .before .before .before .before .before .before .u16-at .ensures .is) (c .before .before .before .before .before .before .if1 .left) (c .before .before .before .before .before .field-at .result) (c .before .before .before .before .before .field-at .ensures .is) (c .before .before .before .before .if2 .left) (c .before .before .before .if3 .left) (c .before .before .field-at2 .result) (c .before .before .field-at2 .ensures .is) (c .before .if4 .left) (c .if5 .left)
+returns-6 c = let a = c .before .before .before .before .before .before .before .before .before .args in join-size (a .bytes .now) (a .at)
+    (c .before .before .before .before .before .before .before .u16-at .result) (c .before .before .before .before .before .before .before .u16-at .ensures .is)
+    (c .before .before .before .before .before .before .if1 .left) (c .before .before .before .before .before .field-at .result)
+    (c .before .before .before .before .before .field-at .ensures .is) (c .before .before .before .before .if2 .left) (c .before .before .before .if3 .left)
+    (c .before .before .field-at2 .result) (c .before .before .field-at2 .ensures .is) (c .before .if4 .left) (c .if5 .left)
 
 pub join-shape-spec : {M : Type 1} → statement M
 join-shape-spec =

@@ -1,11 +1,7 @@
-use mathlib.Core.Path.{_≡_, refl, sym, ap, _∙_}
-use Prim.Native.Nat.{ℕ, _+_, _-_, _*_, _≤_, _<_}
-use lib.ListN.{length, getD, take}
-use borrow.Author.Tests.{not-true, not-false}
-use Rattle.records.proofs.Header.{whole}
+use mathlib.Core.Path.{sym}
+use Prim.Native.Nat.{_-_, _≤_}
 use Rattle.nodes.proofs.Lists.{PairsTo, pairs-start, pairs-more, pairs-not-left, pairs-not-right, pairs-all}
 use native.Mathlib.Omega.{arith}
-use borrow.Author.Needs.{needs}
 use Rattle.nodes.proofs.pairs_below.Statement.{statement}
 use Rattle.nodes.proofs.pairs_below.Tie as tie
 use Rattle.nodes.proofs.pairs_below.Reads as reads
@@ -31,7 +27,9 @@ field-at-requires : tie.Need-field-at-requires Inv-loop μ-loop
 field-at-requires c κs = omega arith
 
 returns : tie.Need-returns Inv-loop μ-loop
-returns c = let a = c .before .before .before .before .before .args in sym (pairs-not-left (a .left) (a .right) (a .bytes .now) (a .at) 3 (a .n) (c .before .before .before .loop .i) (c .before .field-at .result) (omega arith) (c .before .field-at .ensures .is) (c .if1 .taken) (c .before .before .before .loop .inv .1))
+returns c = let a = c .before .before .before .before .before .args in sym
+    (pairs-not-left (a .left) (a .right) (a .bytes .now) (a .at) 3 (a .n) (c .before .before .before .loop .i) (c .before .field-at .result) (omega arith) (c .before .field-at .ensures .is)
+    (c .if1 .taken) (c .before .before .before .loop .inv .1))
 
 mul-field-at-2 : tie.Need-mul-field-at-2 Inv-loop μ-loop
 mul-field-at-2 c = omega arith
@@ -43,7 +41,10 @@ field-at-requires-2 : tie.Need-field-at-requires-2 Inv-loop μ-loop
 field-at-requires-2 c κs = omega arith
 
 returns-2 : tie.Need-returns-2 Inv-loop μ-loop
-returns-2 c = let a = c .before .before .before .before .before .before .before .args in sym (pairs-not-right (a .left) (a .right) (a .bytes .now) (a .at) 3 (a .n) (c .before .before .before .before .before .loop .i) (c .before .before .before .field-at .result) (c .before .field-at2 .result) (omega arith) (c .before .before .before .field-at .ensures .is) (c .before .field-at2 .ensures .is) (c .before .before .if1 .left) (c .if2 .taken) (c .before .before .before .before .before .loop .inv .1))
+returns-2 c = let a = c .before .before .before .before .before .before .before .args in sym
+    (pairs-not-right (a .left) (a .right) (a .bytes .now) (a .at) 3 (a .n) (c .before .before .before .before .before .loop .i) (c .before .before .before .field-at .result)
+    (c .before .field-at2 .result) (omega arith) (c .before .before .before .field-at .ensures .is) (c .before .field-at2 .ensures .is) (c .before .before .if1 .left) (c .if2 .taken)
+    (c .before .before .before .before .before .loop .inv .1))
 
 add-i : tie.Need-add-i Inv-loop μ-loop
 add-i c = omega arith
@@ -52,7 +53,13 @@ loop-less : tie.Need-loop-less Inv-loop μ-loop
 loop-less c = omega arith
 
 loop-again : tie.Need-loop-again Inv-loop μ-loop
-loop-again c = let a = c .before .before .before .before .before .before .before .args in (omega arith, pairs-more (a .left) (a .right) (a .bytes .now) (a .at) 3 (a .n) (c .before .before .before .before .before .loop .i) (c .before .before .before .field-at .result) (c .before .field-at2 .result) (omega arith) (c .before .before .before .field-at .ensures .is) (c .before .field-at2 .ensures .is) (c .before .before .if1 .left) (c .if2 .left) (c .before .before .before .before .before .loop .inv .1))
+loop-again c = let a = c .before .before .before .before .before .before .before .args
+    in (
+      omega arith,
+      pairs-more (a .left) (a .right) (a .bytes .now) (a .at) 3 (a .n) (c .before .before .before .before .before .loop .i) (c .before .before .before .field-at .result)
+          (c .before .field-at2 .result) (omega arith) (c .before .before .before .field-at .ensures .is) (c .before .field-at2 .ensures .is) (c .before .before .if1 .left) (c .if2 .left)
+          (c .before .before .before .before .before .loop .inv .1),
+    )
 
 returns-3 : tie.Need-returns-3 Inv-loop μ-loop
 returns-3 c = let a = c .before .before .before .args in sym (pairs-all (a .left) (a .right) (a .bytes .now) (a .at) 3 (a .n) (c .before .loop .i) (omega arith) (c .before .loop .inv .1))

@@ -1,7 +1,4 @@
-use mathlib.Core.Path.{_≡_, refl, sym, ap, _∙_}
-use Prim.Native.Nat.{ℕ, _+_, _-_, _*_, _≤_, _<_}
-use lib.ListN.{length, getD, take}
-use borrow.Author.Tests.{not-true, not-false}
+use mathlib.Core.Path.{sym}
 use Rattle.records.proofs.Header.{whole}
 use Rattle.nodes.proofs.Body.{project-short, project-none, project-many, project-size}
 use native.Mathlib.Omega.{arith}
@@ -20,13 +17,18 @@ returns : tie.Need-returns
 returns c = let a = c .before .before .before .args in sym (project-short (a .bytes .now) (a .at) (c .before .u16-at .result) (c .before .u16-at .ensures .is) (c .if1 .taken))
 
 field-at-requires : tie.Need-field-at-requires
-field-at-requires c κs = let a = c .before .before .before .args in omega (arith, whole (a .bytes .now) (a .at) (c .before .before .before .pre) .inside, c .if1 .left, c .before .u16-at .ensures .is)
+field-at-requires c κs = let a = c .before .before .before .args in omega
+    (arith, whole (a .bytes .now) (a .at) (c .before .before .before .pre) .inside, c .if1 .left, c .before .u16-at .ensures .is)
 
 returns-2 : tie.Need-returns-2
-returns-2 c = let a = c .before .before .before .before .before .args in sym (project-none (a .bytes .now) (a .at) (c .before .before .before .u16-at .result) (c .before .before .before .u16-at .ensures .is) (c .before .before .if1 .left) (c .before .field-at .result) (c .before .field-at .ensures .is) (c .if2 .taken))
+returns-2 c = let a = c .before .before .before .before .before .args in sym
+    (project-none (a .bytes .now) (a .at) (c .before .before .before .u16-at .result) (c .before .before .before .u16-at .ensures .is) (c .before .before .if1 .left)
+    (c .before .field-at .result) (c .before .field-at .ensures .is) (c .if2 .taken))
 
 returns-3 : tie.Need-returns-3
-returns-3 c = let a = c .before .before .before .before .before .before .args in sym (project-many (a .bytes .now) (a .at) (c .before .before .before .before .u16-at .result) (c .before .before .before .before .u16-at .ensures .is) (c .before .before .before .if1 .left) (c .before .before .field-at .result) (c .before .before .field-at .ensures .is) (c .before .if2 .left) (c .if3 .taken))
+returns-3 c = let a = c .before .before .before .before .before .before .args in sym
+    (project-many (a .bytes .now) (a .at) (c .before .before .before .before .u16-at .result) (c .before .before .before .before .u16-at .ensures .is) (c .before .before .before .if1 .left)
+    (c .before .before .field-at .result) (c .before .before .field-at .ensures .is) (c .before .if2 .left) (c .if3 .taken))
 
 mul-result : tie.Need-mul-result
 mul-result c = search needs
@@ -35,7 +37,9 @@ add-result : tie.Need-add-result
 add-result c = search needs
 
 returns-4 : tie.Need-returns-4
-returns-4 c = let a = c .before .before .before .before .before .before .args in project-size (a .bytes .now) (a .at) (c .before .before .before .before .u16-at .result) (c .before .before .before .before .u16-at .ensures .is) (c .before .before .before .if1 .left) (c .before .before .field-at .result) (c .before .before .field-at .ensures .is) (c .before .if2 .left) (c .if3 .left)
+returns-4 c = let a = c .before .before .before .before .before .before .args in project-size (a .bytes .now) (a .at) (c .before .before .before .before .u16-at .result)
+    (c .before .before .before .before .u16-at .ensures .is) (c .before .before .before .if1 .left) (c .before .before .field-at .result) (c .before .before .field-at .ensures .is)
+    (c .before .if2 .left) (c .if3 .left)
 
 pub project-shape-spec : {M : Type 1} → statement M
 project-shape-spec =

@@ -1,10 +1,9 @@
-use mathlib.Core.Path.{_≡_, refl, sym, ap, _∙_}
-use Prim.Native.Nat.{ℕ, _+_, _-_, _*_, _≤_, _<_}
-use lib.ListN.{length, getD, take}
+use mathlib.Core.Path.{_≡_, sym, _∙_}
+use Prim.Native.Nat.{_+_, _*_}
 use Rattle.model.specs.Record.{fieldAt}
 use borrow.Author.Tests.{not-true, not-false}
 use Rattle.records.proofs.Header.{whole}
-use Rattle.nodes.proofs.Body.{JoinShape, join-shaped, join-unshaped, join-no-left, join-no-right, join-bad-pair, join-high, join-ok}
+use Rattle.nodes.proofs.Body.{join-shaped, join-unshaped, join-no-left, join-no-right, join-bad-pair, join-high, join-ok}
 use native.Mathlib.Omega.{arith}
 use borrow.Author.Needs.{needs}
 use Rattle.nodes.proofs.read_join.Statement.{statement}
@@ -20,22 +19,33 @@ join-shape-requires : tie.Need-join-shape-requires
 join-shape-requires c κs = search needs
 
 returns : tie.Need-returns
-returns c = let a = c .before .before .before .before .args in λ signs. join-unshaped (a .widths .now) (a .count) (c .before .before .before .before .pre .1) signs (a .bytes .now) (a .at) (sym (c .before .join-shape .ensures) ∙ not-true _ (c .if1 .taken))
+returns c = let a = c .before .before .before .before .args in λ signs. join-unshaped (a .widths .now) (a .count) (c .before .before .before .before .pre .1) signs (a .bytes .now) (a .at)
+    (sym (c .before .join-shape .ensures) ∙ not-true _ (c .if1 .taken))
 
 field-at-requires : tie.Need-field-at-requires
-field-at-requires c κs = let a = c .before .before .before .before .args in let sh = join-shaped (a .bytes .now) (a .at) (sym (c .before .join-shape .ensures) ∙ not-false _ (c .if1 .left)) in omega (arith, whole (a .bytes .now) (a .at) (c .before .before .before .before .pre .0) .inside, sh .size)
+field-at-requires c κs = let a = c .before .before .before .before .args in let sh = join-shaped (a .bytes .now) (a .at) (sym (c .before .join-shape .ensures) ∙ not-false _ (c .if1 .left))
+    in omega (arith, whole (a .bytes .now) (a .at) (c .before .before .before .before .pre .0) .inside, sh .size)
 
 returns-2 : tie.Need-returns-2
-returns-2 c = let a = c .before .before .before .before .before .before .args in λ signs. join-no-left (a .widths .now) (a .count) (c .before .before .before .before .before .before .pre .1) signs (a .bytes .now) (a .at) (sym (c .before .before .before .join-shape .ensures) ∙ not-false _ (c .before .before .if1 .left)) (c .before .field-at .result) (c .before .field-at .ensures .is) (c .if2 .taken)
+returns-2 c = let a = c .before .before .before .before .before .before .args in λ signs. join-no-left (a .widths .now) (a .count) (c .before .before .before .before .before .before .pre .1)
+    signs (a .bytes .now) (a .at) (sym (c .before .before .before .join-shape .ensures) ∙ not-false _ (c .before .before .if1 .left)) (c .before .field-at .result)
+    (c .before .field-at .ensures .is) (c .if2 .taken)
 
 field-at-requires-2 : tie.Need-field-at-requires-2
-field-at-requires-2 c κs = let a = c .before .before .before .before .before .before .args in let sh = join-shaped (a .bytes .now) (a .at) (sym (c .before .before .before .join-shape .ensures) ∙ not-false _ (c .before .before .if1 .left)) in omega (arith, whole (a .bytes .now) (a .at) (c .before .before .before .before .before .before .pre .0) .inside, sh .size)
+field-at-requires-2 c κs = let a = c .before .before .before .before .before .before .args in let sh = join-shaped (a .bytes .now) (a .at)
+    (sym (c .before .before .before .join-shape .ensures) ∙ not-false _ (c .before .before .if1 .left)) in omega
+    (arith, whole (a .bytes .now) (a .at) (c .before .before .before .before .before .before .pre .0) .inside, sh .size)
 
 returns-3 : tie.Need-returns-3
-returns-3 c = let a = c .before .before .before .before .before .before .before .before .args in λ signs. join-no-right (a .widths .now) (a .count) (c .before .before .before .before .before .before .before .before .pre .1) signs (a .bytes .now) (a .at) (sym (c .before .before .before .before .before .join-shape .ensures) ∙ not-false _ (c .before .before .before .before .if1 .left)) (c .before .before .before .field-at .result) (c .before .before .before .field-at .ensures .is) (c .before .before .if2 .left) (c .before .field-at2 .result) (c .before .field-at2 .ensures .is) (c .if3 .taken)
+returns-3 c = let a = c .before .before .before .before .before .before .before .before .args in λ signs. join-no-right (a .widths .now) (a .count)
+    (c .before .before .before .before .before .before .before .before .pre .1) signs (a .bytes .now) (a .at)
+    (sym (c .before .before .before .before .before .join-shape .ensures) ∙ not-false _ (c .before .before .before .before .if1 .left)) (c .before .before .before .field-at .result)
+    (c .before .before .before .field-at .ensures .is) (c .before .before .if2 .left) (c .before .field-at2 .result) (c .before .field-at2 .ensures .is) (c .if3 .taken)
 
 field-at-requires-3 : tie.Need-field-at-requires-3
-field-at-requires-3 c κs = let a = c .before .before .before .before .before .before .before .before .args in let sh = join-shaped (a .bytes .now) (a .at) (sym (c .before .before .before .before .before .join-shape .ensures) ∙ not-false _ (c .before .before .before .before .if1 .left)) in omega (arith, whole (a .bytes .now) (a .at) (c .before .before .before .before .before .before .before .before .pre .0) .inside, sh .size)
+field-at-requires-3 c κs = let a = c .before .before .before .before .before .before .before .before .args in let sh = join-shaped (a .bytes .now) (a .at)
+    (sym (c .before .before .before .before .before .join-shape .ensures) ∙ not-false _ (c .before .before .before .before .if1 .left)) in omega
+    (arith, whole (a .bytes .now) (a .at) (c .before .before .before .before .before .before .before .before .pre .0) .inside, sh .size)
 
 mul-pairs-below : tie.Need-mul-pairs-below
 mul-pairs-below c = search needs
@@ -50,25 +60,59 @@ shared-slice-read-pairs-below-2 : tie.Need-shared-slice-read-pairs-below-2
 shared-slice-read-pairs-below-2 c = search needs
 
 pairs-below-requires : tie.Need-pairs-below-requires
-pairs-below-requires c κs = let a = c .before .before .before .before .before .before .before .before .before .before .before .args in let sh = join-shaped (a .bytes .now) (a .at) (sym (c .before .before .before .before .before .before .before .before .join-shape .ensures) ∙ not-false _ (c .before .before .before .before .before .before .before .if1 .left)) in omega (arith, whole (a .bytes .now) (a .at) (c .before .before .before .before .before .before .before .before .before .before .before .pre .0) .inside, sh .size, c .before .before .field-at3 .ensures .is)
+pairs-below-requires c κs = let a = c .before .before .before .before .before .before .before .before .before .before .before .args in let sh = join-shaped (a .bytes .now) (a .at)
+    (sym (c .before .before .before .before .before .before .before .before .join-shape .ensures) ∙ not-false _ (c .before .before .before .before .before .before .before .if1 .left))
+    in omega (
+      arith,
+      whole (a .bytes .now) (a .at) (c .before .before .before .before .before .before .before .before .before .before .before .pre .0) .inside,
+      sh .size,
+      c .before .before .field-at3 .ensures .is,
+    )
 
 returns-4 : tie.Need-returns-4
-returns-4 c = let a = c .before .before .before .before .before .before .before .before .before .before .before .before .before .args in λ signs. join-bad-pair (a .widths .now) (a .count) (c .before .before .before .before .before .before .before .before .before .before .before .before .before .pre .1) signs (a .bytes .now) (a .at) (sym (c .before .before .before .before .before .before .before .before .before .before .join-shape .ensures) ∙ not-false _ (c .before .before .before .before .before .before .before .before .before .if1 .left)) (c .before .before .before .before .before .before .before .before .field-at .result) (c .before .before .before .before .before .before .before .before .field-at .ensures .is) (c .before .before .before .before .before .before .before .if2 .left) (c .before .before .before .before .before .before .field-at2 .result) (c .before .before .before .before .before .before .field-at2 .ensures .is) (c .before .before .before .before .before .if3 .left) (c .before .before .before .before .field-at3 .result) (c .before .before .before .before .field-at3 .ensures .is) (sym (c .before .pairs-below .ensures) ∙ not-true _ (c .if4 .taken))
+returns-4 c = let a = c .before .before .before .before .before .before .before .before .before .before .before .before .before .args in λ signs. join-bad-pair (a .widths .now) (a .count)
+    (c .before .before .before .before .before .before .before .before .before .before .before .before .before .pre .1) signs (a .bytes .now) (a .at)
+    (sym (c .before .before .before .before .before .before .before .before .before .before .join-shape .ensures)
+    ∙ not-false _ (c .before .before .before .before .before .before .before .before .before .if1 .left))
+    (c .before .before .before .before .before .before .before .before .field-at .result) (c .before .before .before .before .before .before .before .before .field-at .ensures .is)
+    (c .before .before .before .before .before .before .before .if2 .left) (c .before .before .before .before .before .before .field-at2 .result)
+    (c .before .before .before .before .before .before .field-at2 .ensures .is) (c .before .before .before .before .before .if3 .left) (c .before .before .before .before .field-at3 .result)
+    (c .before .before .before .before .field-at3 .ensures .is) (sym (c .before .pairs-below .ensures) ∙ not-true _ (c .if4 .taken))
 
 mul-field-at : tie.Need-mul-field-at
-mul-field-at c = let a = c .before .before .before .before .before .before .before .before .before .before .before .before .before .args in let sh = join-shaped (a .bytes .now) (a .at) (sym (c .before .before .before .before .before .before .before .before .before .before .join-shape .ensures) ∙ not-false _ (c .before .before .before .before .before .before .before .before .before .if1 .left)) in omega (arith, sh .pairs, c .before .before .before .before .field-at3 .ensures .is)
+mul-field-at c = let a = c .before .before .before .before .before .before .before .before .before .before .before .before .before .args in let sh = join-shaped (a .bytes .now) (a .at)
+    (sym (c .before .before .before .before .before .before .before .before .before .before .join-shape .ensures)
+    ∙ not-false _ (c .before .before .before .before .before .before .before .before .before .if1 .left)) in omega
+    (arith, sh .pairs, c .before .before .before .before .field-at3 .ensures .is)
 
 add-field-at : tie.Need-add-field-at
-add-field-at c = let a = c .before .before .before .before .before .before .before .before .before .before .before .before .before .args in let sh = join-shaped (a .bytes .now) (a .at) (sym (c .before .before .before .before .before .before .before .before .before .before .join-shape .ensures) ∙ not-false _ (c .before .before .before .before .before .before .before .before .before .if1 .left)) in omega (arith, sh .pairs, c .before .before .before .before .field-at3 .ensures .is)
+add-field-at c = let a = c .before .before .before .before .before .before .before .before .before .before .before .before .before .args in let sh = join-shaped (a .bytes .now) (a .at)
+    (sym (c .before .before .before .before .before .before .before .before .before .before .join-shape .ensures)
+    ∙ not-false _ (c .before .before .before .before .before .before .before .before .before .if1 .left)) in omega
+    (arith, sh .pairs, c .before .before .before .before .field-at3 .ensures .is)
 
 field-at-requires-4 : tie.Need-field-at-requires-4
-field-at-requires-4 c κs = let a = c .before .before .before .before .before .before .before .before .before .before .before .before .before .args in let sh = join-shaped (a .bytes .now) (a .at) (sym (c .before .before .before .before .before .before .before .before .before .before .join-shape .ensures) ∙ not-false _ (c .before .before .before .before .before .before .before .before .before .if1 .left)) in omega (arith, whole (a .bytes .now) (a .at) (c .before .before .before .before .before .before .before .before .before .before .before .before .before .pre .0) .inside, sh .size, sh .pairs, c .before .before .before .before .field-at3 .ensures .is)
+field-at-requires-4 c κs = let a = c .before .before .before .before .before .before .before .before .before .before .before .before .before .args in let sh = join-shaped (a .bytes .now)
+    (a .at) (sym (c .before .before .before .before .before .before .before .before .before .before .join-shape .ensures)
+    ∙ not-false _ (c .before .before .before .before .before .before .before .before .before .if1 .left)) in omega (
+      arith,
+      whole (a .bytes .now) (a .at) (c .before .before .before .before .before .before .before .before .before .before .before .before .before .pre .0) .inside,
+      sh .size,
+      sh .pairs,
+      c .before .before .before .before .field-at3 .ensures .is,
+    )
 
 mul-columns-below : tie.Need-mul-columns-below
-mul-columns-below c = let a = c .before .before .before .before .before .before .before .before .before .before .before .before .before .before .args in let sh = join-shaped (a .bytes .now) (a .at) (sym (c .before .before .before .before .before .before .before .before .before .before .before .join-shape .ensures) ∙ not-false _ (c .before .before .before .before .before .before .before .before .before .before .if1 .left)) in omega (arith, sh .pairs, c .before .before .before .before .before .field-at3 .ensures .is)
+mul-columns-below c = let a = c .before .before .before .before .before .before .before .before .before .before .before .before .before .before .args in let sh = join-shaped (a .bytes .now)
+    (a .at) (sym (c .before .before .before .before .before .before .before .before .before .before .before .join-shape .ensures)
+    ∙ not-false _ (c .before .before .before .before .before .before .before .before .before .before .if1 .left)) in omega
+    (arith, sh .pairs, c .before .before .before .before .before .field-at3 .ensures .is)
 
 add-columns-below : tie.Need-add-columns-below
-add-columns-below c = let a = c .before .before .before .before .before .before .before .before .before .before .before .before .before .before .args in let sh = join-shaped (a .bytes .now) (a .at) (sym (c .before .before .before .before .before .before .before .before .before .before .before .join-shape .ensures) ∙ not-false _ (c .before .before .before .before .before .before .before .before .before .before .if1 .left)) in omega (arith, sh .pairs, c .before .before .before .before .before .field-at3 .ensures .is)
+add-columns-below c = let a = c .before .before .before .before .before .before .before .before .before .before .before .before .before .before .args in let sh = join-shaped (a .bytes .now)
+    (a .at) (sym (c .before .before .before .before .before .before .before .before .before .before .before .join-shape .ensures)
+    ∙ not-false _ (c .before .before .before .before .before .before .before .before .before .before .if1 .left)) in omega
+    (arith, sh .pairs, c .before .before .before .before .before .field-at3 .ensures .is)
 
 mul-columns-below-2 : tie.Need-mul-columns-below-2
 mul-columns-below-2 c = search needs
@@ -83,20 +127,70 @@ shared-slice-read-columns-below-2 : tie.Need-shared-slice-read-columns-below-2
 shared-slice-read-columns-below-2 c = search needs
 
 add-columns-below-2 : tie.Need-add-columns-below-2
-add-columns-below-2 c = let a = c .before .before .before .before .before .before .before .before .before .before .before .before .before .before .before .before .args in let sh = join-shaped (a .bytes .now) (a .at) (sym (c .before .before .before .before .before .before .before .before .before .before .before .before .before .join-shape .ensures) ∙ not-false _ (c .before .before .before .before .before .before .before .before .before .before .before .before .if1 .left)) in omega (arith, c .before .before .before .before .before .before .before .before .before .before .before .before .before .before .before .before .pre .2 (c .before .before .before .before .before .before .before .before .before .before .before .field-at .result), c .before .before .before .before .before .before .before .before .before .before .before .before .before .before .before .before .pre .2 (c .before .before .before .before .before .before .before .before .before .field-at2 .result))
+add-columns-below-2 c = let a = c .before .before .before .before .before .before .before .before .before .before .before .before .before .before .before .before .args in let sh =
+    join-shaped (a .bytes .now) (a .at)
+    (sym (c .before .before .before .before .before .before .before .before .before .before .before .before .before .join-shape .ensures)
+    ∙ not-false _ (c .before .before .before .before .before .before .before .before .before .before .before .before .if1 .left)) in omega (
+      arith,
+      c .before .before .before .before .before .before .before .before .before .before .before .before .before .before .before .before .pre .2
+          (c .before .before .before .before .before .before .before .before .before .before .before .field-at .result),
+      c .before .before .before .before .before .before .before .before .before .before .before .before .before .before .before .before .pre .2
+          (c .before .before .before .before .before .before .before .before .before .field-at2 .result),
+    )
 
 columns-below-requires : tie.Need-columns-below-requires
 columns-below-requires c κs =
-    let a = c .before .before .before .before .before .before .before .before .before .before .before .before .before .before .before .before .args in let sh = join-shaped (a .bytes .now) (a .at) (sym (c .before .before .before .before .before .before .before .before .before .before .before .before .before .join-shape .ensures) ∙ not-false _ (c .before .before .before .before .before .before .before .before .before .before .before .before .if1 .left)) in
+    let a = c .before .before .before .before .before .before .before .before .before .before .before .before .before .before .before .before .args in let sh = join-shaped (a .bytes .now)
+    (a .at) (sym (c .before .before .before .before .before .before .before .before .before .before .before .before .before .join-shape .ensures)
+    ∙ not-false _ (c .before .before .before .before .before .before .before .before .before .before .before .before .if1 .left)) in
     let columns : c .before .before .field-at4 .result ≡ _ = c .before .before .field-at4 .ensures .is in
-    let same : c .before .before .field-at4 .result ≡ fieldAt (a .bytes .now) (a .at) (3 + 2 * fieldAt (a .bytes .now) (a .at) 2) = rw (c .before .before .before .before .before .before .before .field-at3 .ensures .is) at columns in
-    omega (arith, whole (a .bytes .now) (a .at) (c .before .before .before .before .before .before .before .before .before .before .before .before .before .before .before .before .pre .0) .inside, sh .size, sh .pairs, c .before .before .before .before .before .before .before .field-at3 .ensures .is, same)
+    let same : c .before .before .field-at4 .result
+    ≡ fieldAt (a .bytes .now) (a .at) (3 + 2 * fieldAt (a .bytes .now) (a .at) 2) = rw (c .before .before .before .before .before .before .before .field-at3 .ensures .is) at columns in
+    omega (
+      arith,
+      whole (a .bytes .now) (a .at)
+          (c .before .before .before .before .before .before .before .before .before .before .before .before .before .before .before .before .pre .0) .inside,
+      sh .size,
+      sh .pairs,
+      c .before .before .before .before .before .before .before .field-at3 .ensures .is,
+      same,
+    )
 
 returns-5 : tie.Need-returns-5
-returns-5 c = let a = c .before .before .before .before .before .before .before .before .before .before .before .before .before .before .before .before .before .before .args in λ signs. join-high (a .widths .now) (a .count) (c .before .before .before .before .before .before .before .before .before .before .before .before .before .before .before .before .before .before .pre .1) signs (a .bytes .now) (a .at) (sym (c .before .before .before .before .before .before .before .before .before .before .before .before .before .before .before .join-shape .ensures) ∙ not-false _ (c .before .before .before .before .before .before .before .before .before .before .before .before .before .before .if1 .left)) (c .before .before .before .before .before .before .before .before .before .before .before .before .before .field-at .result) (c .before .before .before .before .before .before .before .before .before .before .before .before .before .field-at .ensures .is) (c .before .before .before .before .before .before .before .before .before .before .before .before .if2 .left) (c .before .before .before .before .before .before .before .before .before .before .before .field-at2 .result) (c .before .before .before .before .before .before .before .before .before .before .before .field-at2 .ensures .is) (c .before .before .before .before .before .before .before .before .before .before .if3 .left) (c .before .before .before .before .before .before .before .before .before .field-at3 .result) (c .before .before .before .before .before .before .before .before .before .field-at3 .ensures .is) (sym (c .before .before .before .before .before .before .pairs-below .ensures) ∙ not-false _ (c .before .before .before .before .before .if4 .left)) (c .before .before .before .before .field-at4 .result) (c .before .before .before .before .field-at4 .ensures .is) (sym (c .before .columns-below .ensures) ∙ not-true _ (c .if5 .taken))
+returns-5 c = let a = c .before .before .before .before .before .before .before .before .before .before .before .before .before .before .before .before .before .before .args in λ signs.
+    join-high (a .widths .now) (a .count)
+    (c .before .before .before .before .before .before .before .before .before .before .before .before .before .before .before .before .before .before .pre .1) signs (a .bytes .now) (a .at)
+    (sym (c .before .before .before .before .before .before .before .before .before .before .before .before .before .before .before .join-shape .ensures)
+    ∙ not-false _ (c .before .before .before .before .before .before .before .before .before .before .before .before .before .before .if1 .left))
+    (c .before .before .before .before .before .before .before .before .before .before .before .before .before .field-at .result)
+    (c .before .before .before .before .before .before .before .before .before .before .before .before .before .field-at .ensures .is)
+    (c .before .before .before .before .before .before .before .before .before .before .before .before .if2 .left)
+    (c .before .before .before .before .before .before .before .before .before .before .before .field-at2 .result)
+    (c .before .before .before .before .before .before .before .before .before .before .before .field-at2 .ensures .is)
+    (c .before .before .before .before .before .before .before .before .before .before .if3 .left)
+    (c .before .before .before .before .before .before .before .before .before .field-at3 .result)
+    (c .before .before .before .before .before .before .before .before .before .field-at3 .ensures .is)
+    (sym (c .before .before .before .before .before .before .pairs-below .ensures) ∙ not-false _ (c .before .before .before .before .before .if4 .left))
+    (c .before .before .before .before .field-at4 .result) (c .before .before .before .before .field-at4 .ensures .is) (sym (c .before .columns-below .ensures) ∙ not-true _ (c .if5 .taken))
 
 returns-6 : tie.Need-returns-6
-returns-6 c = let a = c .before .before .before .before .before .before .before .before .before .before .before .before .before .before .before .before .before .before .args in λ signs. join-ok (a .widths .now) (a .count) (c .before .before .before .before .before .before .before .before .before .before .before .before .before .before .before .before .before .before .pre .1) signs (a .bytes .now) (a .at) (sym (c .before .before .before .before .before .before .before .before .before .before .before .before .before .before .before .join-shape .ensures) ∙ not-false _ (c .before .before .before .before .before .before .before .before .before .before .before .before .before .before .if1 .left)) (c .before .before .before .before .before .before .before .before .before .before .before .before .before .field-at .result) (c .before .before .before .before .before .before .before .before .before .before .before .before .before .field-at .ensures .is) (c .before .before .before .before .before .before .before .before .before .before .before .before .if2 .left) (c .before .before .before .before .before .before .before .before .before .before .before .field-at2 .result) (c .before .before .before .before .before .before .before .before .before .before .before .field-at2 .ensures .is) (c .before .before .before .before .before .before .before .before .before .before .if3 .left) (c .before .before .before .before .before .before .before .before .before .field-at3 .result) (c .before .before .before .before .before .before .before .before .before .field-at3 .ensures .is) (sym (c .before .before .before .before .before .before .pairs-below .ensures) ∙ not-false _ (c .before .before .before .before .before .if4 .left)) (c .before .before .before .before .field-at4 .result) (c .before .before .before .before .field-at4 .ensures .is) (sym (c .before .columns-below .ensures) ∙ not-false _ (c .if5 .left)) (whole (a .bytes .now) (a .at) (c .before .before .before .before .before .before .before .before .before .before .before .before .before .before .before .before .before .before .pre .0) .inside)
+returns-6 c = let a = c .before .before .before .before .before .before .before .before .before .before .before .before .before .before .before .before .before .before .args in λ signs.
+    join-ok (a .widths .now) (a .count)
+    (c .before .before .before .before .before .before .before .before .before .before .before .before .before .before .before .before .before .before .pre .1) signs (a .bytes .now) (a .at)
+    (sym (c .before .before .before .before .before .before .before .before .before .before .before .before .before .before .before .join-shape .ensures)
+    ∙ not-false _ (c .before .before .before .before .before .before .before .before .before .before .before .before .before .before .if1 .left))
+    (c .before .before .before .before .before .before .before .before .before .before .before .before .before .field-at .result)
+    (c .before .before .before .before .before .before .before .before .before .before .before .before .before .field-at .ensures .is)
+    (c .before .before .before .before .before .before .before .before .before .before .before .before .if2 .left)
+    (c .before .before .before .before .before .before .before .before .before .before .before .field-at2 .result)
+    (c .before .before .before .before .before .before .before .before .before .before .before .field-at2 .ensures .is)
+    (c .before .before .before .before .before .before .before .before .before .before .if3 .left)
+    (c .before .before .before .before .before .before .before .before .before .field-at3 .result)
+    (c .before .before .before .before .before .before .before .before .before .field-at3 .ensures .is)
+    (sym (c .before .before .before .before .before .before .pairs-below .ensures) ∙ not-false _ (c .before .before .before .before .before .if4 .left))
+    (c .before .before .before .before .field-at4 .result) (c .before .before .before .before .field-at4 .ensures .is) (sym (c .before .columns-below .ensures) ∙ not-false _ (c .if5 .left))
+    (whole (a .bytes .now) (a .at)
+    (c .before .before .before .before .before .before .before .before .before .before .before .before .before .before .before .before .before .before .pre .0) .inside)
 
 pub read-join-spec : {M : Type 1} → statement M
 read-join-spec =

@@ -1,5 +1,4 @@
 use lib.ListN.{take}
-use mathlib.Core.Path.{_≡_}
 use Rattle.model.specs.Network.{kindNumbered}
 use Rattle.nodes.proofs.ByKind.{as-kind}
 use native.Mathlib.Omega.{arith}

@@ -1,6 +1,5 @@
-use mathlib.Core.Path.{_≡_, sym, _∙_}
-use Prim.Native.Nat.{_≤_, _<_}
-use lib.ListN.{length, take}
+use mathlib.Core.Path.{sym, _∙_}
+use lib.ListN.{take}
 use lib.Seq.{length-take-le}
 use Rattle.records.proofs.Header.{whole}
 use Rattle.nodes.proofs.ByKind.{record-3, record-4, record-5, record-node, record-watch, unknown-low, unknown-high}
@@ -19,7 +18,8 @@ is-broken-requires : tie.Need-is-broken-requires
 is-broken-requires c κs = search needs
 
 returns : tie.Need-returns
-returns c = let a = c .before .before .before .before .before .args in record-3 (take (a .count) (a .widths .now)) (take (a .count) (a .signs .now)) (a .bytes .now) (a .at) (sym (c .before .is-broken .ensures) ∙ c .if1 .taken)
+returns c = let a = c .before .before .before .before .before .args in record-3 (take (a .count) (a .widths .now)) (take (a .count) (a .signs .now)) (a .bytes .now) (a .at)
+    (sym (c .before .is-broken .ensures) ∙ c .if1 .taken)
 
 add-u16-at : tie.Need-add-u16-at
 add-u16-at c = search needs
@@ -33,33 +33,50 @@ read-watch-requires c κs = (sym (c .before .before .before .is-broken .ensures)
 returns-2 : tie.Need-returns-2
 returns-2 c =
     let a = c .before .before .before .before .before .before .before .before .before .before .args in
-    record-5 (take (a .count) (a .widths .now)) (take (a .count) (a .signs .now)) (a .bytes .now) (a .at) (sym (c .before .before .before .before .before .before .is-broken .ensures) ∙ c .before .before .before .before .before .if1 .left) (c .before .before .before .before .u16-at .result) (c .before .before .before .before .u16-at .ensures .is) (omega arith) (omega arith)
+    record-5 (take (a .count) (a .widths .now)) (take (a .count) (a .signs .now)) (a .bytes .now) (a .at)
+    (sym (c .before .before .before .before .before .before .is-broken .ensures) ∙ c .before .before .before .before .before .if1 .left)
+    (c .before .before .before .before .u16-at .result) (c .before .before .before .before .u16-at .ensures .is) (omega arith) (omega arith)
     (rw (length-take-le (a .count) (a .widths .now) (c .before .before .before .before .before .before .before .before .before .before .pre .1)) (c .if4 .taken))
 
 read-node-requires : tie.Need-read-node-requires
-read-node-requires c κs = (omega arith, omega arith, sym (c .before .before .before .before .before .before .is-broken .ensures) ∙ c .before .before .before .before .before .if1 .left, c .before .before .before .before .before .before .before .before .before .before .pre .1, c .before .before .before .before .before .before .before .before .before .before .pre .3)
+read-node-requires c κs = (
+  omega arith,
+  omega arith,
+  sym (c .before .before .before .before .before .before .is-broken .ensures) ∙ c .before .before .before .before .before .if1 .left,
+  c .before .before .before .before .before .before .before .before .before .before .pre .1,
+  c .before .before .before .before .before .before .before .before .before .before .pre .3,
+)
 
 returns-3 : tie.Need-returns-3
 returns-3 c =
     let a = c .before .before .before .before .before .before .before .before .args in
-    record-watch (take (a .count) (a .widths .now)) (take (a .count) (a .signs .now)) (a .bytes .now) (a .at) (sym (c .before .before .before .before .is-broken .ensures) ∙ c .before .before .before .if1 .left) (c .before .before .u16-at .result) (c .before .before .u16-at .ensures .is) (c .read-watch .result)
+    record-watch (take (a .count) (a .widths .now)) (take (a .count) (a .signs .now)) (a .bytes .now) (a .at)
+    (sym (c .before .before .before .before .is-broken .ensures) ∙ c .before .before .before .if1 .left) (c .before .before .u16-at .result) (c .before .before .u16-at .ensures .is)
+    (c .read-watch .result)
     (c .before .match .keys1) (c .read-watch .ensures (take (a .count) (a .widths .now)))
 
 returns-4 : tie.Need-returns-4
 returns-4 c =
     let a = c .before .before .before .before .before .before .before .before .before .before .before .args in
-    record-node (take (a .count) (a .widths .now)) (take (a .count) (a .signs .now)) (a .bytes .now) (a .at) (sym (c .before .before .before .before .before .before .before .is-broken .ensures) ∙ c .before .before .before .before .before .before .if1 .left) (c .before .before .before .before .before .u16-at .result) (c .before .before .before .before .before .u16-at .ensures .is) (c .read-node .result) (omega arith) (omega arith)
-    (rw (length-take-le (a .count) (a .widths .now) (c .before .before .before .before .before .before .before .before .before .before .before .pre .1)) (c .before .if4 .left)) (c .read-node .ensures (take (a .count) (a .signs .now)))
+    record-node (take (a .count) (a .widths .now)) (take (a .count) (a .signs .now)) (a .bytes .now) (a .at)
+    (sym (c .before .before .before .before .before .before .before .is-broken .ensures) ∙ c .before .before .before .before .before .before .if1 .left)
+    (c .before .before .before .before .before .u16-at .result) (c .before .before .before .before .before .u16-at .ensures .is) (c .read-node .result) (omega arith) (omega arith)
+    (rw (length-take-le (a .count) (a .widths .now) (c .before .before .before .before .before .before .before .before .before .before .before .pre .1)) (c .before .if4 .left))
+    (c .read-node .ensures (take (a .count) (a .signs .now)))
 
 returns-5 : tie.Need-returns-5
 returns-5 c =
     let a = c .before .before .before .before .before .before .before .before .args in
-    record-4 (take (a .count) (a .widths .now)) (take (a .count) (a .signs .now)) (a .bytes .now) (a .at) (sym (c .before .before .before .before .is-broken .ensures) ∙ c .before .before .before .if1 .left) (c .before .before .u16-at .result) (c .before .before .u16-at .ensures .is) (unknown-low (c .before .before .u16-at .result) (omega arith))
+    record-4 (take (a .count) (a .widths .now)) (take (a .count) (a .signs .now)) (a .bytes .now) (a .at)
+    (sym (c .before .before .before .before .is-broken .ensures) ∙ c .before .before .before .if1 .left) (c .before .before .u16-at .result) (c .before .before .u16-at .ensures .is)
+    (unknown-low (c .before .before .u16-at .result) (omega arith))
 
 returns-6 : tie.Need-returns-6
 returns-6 c =
     let a = c .before .before .before .before .before .before .before .before .before .args in
-    record-4 (take (a .count) (a .widths .now)) (take (a .count) (a .signs .now)) (a .bytes .now) (a .at) (sym (c .before .before .before .before .before .is-broken .ensures) ∙ c .before .before .before .before .if1 .left) (c .before .before .before .u16-at .result) (c .before .before .before .u16-at .ensures .is) (unknown-high (c .before .before .before .u16-at .result) (omega arith))
+    record-4 (take (a .count) (a .widths .now)) (take (a .count) (a .signs .now)) (a .bytes .now) (a .at)
+    (sym (c .before .before .before .before .before .is-broken .ensures) ∙ c .before .before .before .before .if1 .left) (c .before .before .before .u16-at .result)
+    (c .before .before .before .u16-at .ensures .is) (unknown-high (c .before .before .before .u16-at .result) (omega arith))
 
 pub read-record-spec : {M : Type 1} → statement M
 read-record-spec =

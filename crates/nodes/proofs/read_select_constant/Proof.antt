@@ -1,11 +1,9 @@
-use mathlib.Core.Path.{_≡_, refl, sym, ap, _∙_}
-use Prim.Native.Nat.{ℕ, _+_, _-_, _*_, _≤_, _<_}
-use lib.ListN.{length, getD, take}
+use mathlib.Core.Path.{sym, _∙_}
+use lib.ListN.{take}
 use borrow.Author.Tests.{not-true, not-false}
 use Rattle.records.proofs.Header.{whole}
 use Rattle.nodes.proofs.Body.{constant-size, constant-not, constant-ok}
 use native.Mathlib.Omega.{arith}
-use borrow.Author.Needs.{needs}
 use Rattle.nodes.proofs.read_select_constant.Statement.{statement}
 use Rattle.nodes.proofs.read_select_constant.Tie as tie
 use Rattle.nodes.proofs.read_select_constant.Reads as reads
@@ -19,31 +17,61 @@ u16-at-requires : tie.Need-u16-at-requires
 u16-at-requires c κs = let a = c .before .before .args in omega (arith, whole (a .bytes .now) (a .at) (c .before .before .pre .0) .header)
 
 returns : tie.Need-returns
-returns c = let a = c .before .before .before .before .args in λ signs. constant-size (take (a .count) (a .widths .now)) signs (a .bytes .now) (a .at) (c .before .u16-at .result) (c .before .u16-at .ensures .is) (c .if1 .taken)
+returns c = let a = c .before .before .before .before .args in λ signs. constant-size (take (a .count) (a .widths .now)) signs (a .bytes .now) (a .at) (c .before .u16-at .result)
+    (c .before .u16-at .ensures .is) (c .if1 .taken)
 
 select-fits-requires : tie.Need-select-fits-requires
-select-fits-requires c κs = let a = c .before .before .before .before .args in omega (arith, whole (a .bytes .now) (a .at) (c .before .before .before .before .pre .0) .inside, c .if1 .left, c .before .u16-at .ensures .is)
+select-fits-requires c κs = let a = c .before .before .before .before .args in omega
+    (arith, whole (a .bytes .now) (a .at) (c .before .before .before .before .pre .0) .inside, c .if1 .left, c .before .u16-at .ensures .is)
 
 returns-2 : tie.Need-returns-2
-returns-2 c = let a = c .before .before .before .before .before .before .args in λ signs. constant-not (take (a .count) (a .widths .now)) signs (a .bytes .now) (a .at) (c .before .before .before .u16-at .result) (c .before .before .before .u16-at .ensures .is) (c .before .before .if1 .left) (sym (c .before .select-fits .ensures) ∙ not-true _ (c .if2 .taken))
+returns-2 c = let a = c .before .before .before .before .before .before .args in λ signs. constant-not (take (a .count) (a .widths .now)) signs (a .bytes .now) (a .at)
+    (c .before .before .before .u16-at .result) (c .before .before .before .u16-at .ensures .is) (c .before .before .if1 .left)
+    (sym (c .before .select-fits .ensures) ∙ not-true _ (c .if2 .taken))
 
 field-at-requires : tie.Need-field-at-requires
-field-at-requires c κs = let a = c .before .before .before .before .before .before .args in omega (arith, whole (a .bytes .now) (a .at) (c .before .before .before .before .before .before .pre .0) .inside, c .before .before .if1 .left, c .before .before .before .u16-at .ensures .is)
+field-at-requires c κs = let a = c .before .before .before .before .before .before .args in omega
+    (arith, whole (a .bytes .now) (a .at) (c .before .before .before .before .before .before .pre .0) .inside, c .before .before .if1 .left, c .before .before .before .u16-at .ensures .is)
 
 field-at-requires-2 : tie.Need-field-at-requires-2
-field-at-requires-2 c κs = let a = c .before .before .before .before .before .before .before .args in omega (arith, whole (a .bytes .now) (a .at) (c .before .before .before .before .before .before .before .pre .0) .inside, c .before .before .before .if1 .left, c .before .before .before .before .u16-at .ensures .is)
+field-at-requires-2 c κs = let a = c .before .before .before .before .before .before .before .args in omega (
+  arith,
+  whole (a .bytes .now) (a .at) (c .before .before .before .before .before .before .before .pre .0) .inside,
+  c .before .before .before .if1 .left,
+  c .before .before .before .before .u16-at .ensures .is,
+)
 
 field-at-requires-3 : tie.Need-field-at-requires-3
-field-at-requires-3 c κs = let a = c .before .before .before .before .before .before .before .before .args in omega (arith, whole (a .bytes .now) (a .at) (c .before .before .before .before .before .before .before .before .pre .0) .inside, c .before .before .before .before .if1 .left, c .before .before .before .before .before .u16-at .ensures .is)
+field-at-requires-3 c κs = let a = c .before .before .before .before .before .before .before .before .args in omega (
+  arith,
+  whole (a .bytes .now) (a .at) (c .before .before .before .before .before .before .before .before .pre .0) .inside,
+  c .before .before .before .before .if1 .left,
+  c .before .before .before .before .before .u16-at .ensures .is,
+)
 
 add-u32-at : tie.Need-add-u32-at
-add-u32-at c = let a = c .before .before .before .before .before .before .before .before .before .args in omega (arith, whole (a .bytes .now) (a .at) (c .before .before .before .before .before .before .before .before .before .pre .0) .inside, c .before .before .before .before .before .if1 .left, c .before .before .before .before .before .before .u16-at .ensures .is)
+add-u32-at c = let a = c .before .before .before .before .before .before .before .before .before .args in omega (
+  arith,
+  whole (a .bytes .now) (a .at) (c .before .before .before .before .before .before .before .before .before .pre .0) .inside,
+  c .before .before .before .before .before .if1 .left,
+  c .before .before .before .before .before .before .u16-at .ensures .is,
+)
 
 u32-at-requires : tie.Need-u32-at-requires
-u32-at-requires c κs = let a = c .before .before .before .before .before .before .before .before .before .args in omega (arith, whole (a .bytes .now) (a .at) (c .before .before .before .before .before .before .before .before .before .pre .0) .inside, c .before .before .before .before .before .if1 .left, c .before .before .before .before .before .before .u16-at .ensures .is)
+u32-at-requires c κs = let a = c .before .before .before .before .before .before .before .before .before .args in omega (
+  arith,
+  whole (a .bytes .now) (a .at) (c .before .before .before .before .before .before .before .before .before .pre .0) .inside,
+  c .before .before .before .before .before .if1 .left,
+  c .before .before .before .before .before .before .u16-at .ensures .is,
+)
 
 returns-3 : tie.Need-returns-3
-returns-3 c = let a = c .before .before .before .before .before .before .before .before .before .before .args in λ signs. constant-ok (take (a .count) (a .widths .now)) signs (a .bytes .now) (a .at) (c .before .before .before .before .before .before .before .u16-at .result) (c .before .before .before .before .before .before .before .u16-at .ensures .is) (c .before .before .before .before .before .before .if1 .left) (sym (c .before .before .before .before .before .select-fits .ensures) ∙ not-false _ (c .before .before .before .before .if2 .left)) (c .before .before .before .field-at .result) (c .before .before .field-at2 .result) (c .before .field-at3 .result) (c .u32-at .result) (c .before .before .before .field-at .ensures .is) (c .before .before .field-at2 .ensures .is) (c .before .field-at3 .ensures .is) (c .u32-at .ensures)
+returns-3 c = let a = c .before .before .before .before .before .before .before .before .before .before .args in λ signs. constant-ok (take (a .count) (a .widths .now)) signs (a .bytes .now)
+    (a .at) (c .before .before .before .before .before .before .before .u16-at .result) (c .before .before .before .before .before .before .before .u16-at .ensures .is)
+    (c .before .before .before .before .before .before .if1 .left)
+    (sym (c .before .before .before .before .before .select-fits .ensures) ∙ not-false _ (c .before .before .before .before .if2 .left)) (c .before .before .before .field-at .result)
+    (c .before .before .field-at2 .result) (c .before .field-at3 .result) (c .u32-at .result) (c .before .before .before .field-at .ensures .is) (c .before .before .field-at2 .ensures .is)
+    (c .before .field-at3 .ensures .is) (c .u32-at .ensures)
 
 pub read-select-constant-spec : {M : Type 1} → statement M
 read-select-constant-spec =

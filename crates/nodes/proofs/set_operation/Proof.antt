@@ -1,7 +1,6 @@
-use mathlib.Core.Path.{_≡_, refl}
+use mathlib.Core.Path.{_≡_}
 use Rattle.model.specs.Network.{kindNumbered}
 use native.Mathlib.Omega.{arith}
-use borrow.Author.Needs.{needs}
 use Rattle.nodes.proofs.set_operation.Statement.{statement}
 use Rattle.nodes.proofs.set_operation.Tie as tie
 use Rattle.nodes.proofs.set_operation.Reads as reads

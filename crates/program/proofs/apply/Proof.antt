@@ -33,10 +33,35 @@ same-length-5 : tie.Need-same-length-5
 same-length-5 c = search needs
 
 returns : tie.Need-returns
-returns c = let a = c .before .before .before .before .before .before .before .before .before .before .before .before .before .before .before .before .before .before .before .before .before .before .before .before .before .before .args in refused-batch (a .net .now) (lent (a .rows .now) (a .gained .now) (a .lost .now) (a .head .now)) (c .before .before .before .before .before .before .before .before .before .before .before .before .before .before .before .before .before .before .before .before .before .before .before .before .before .before .pre .0) (a .batch .now) (a .next) (a .out .now) (c .before .before .put-refused .last .0) (c .before .before .put-refused .result) (c .before .before .before .before .before .before .before .before .before .before .before .before .before .before .before .before .before .before .before .before .before .before .before .before .before .before .pre .1) (resultWith (c .before .before .before .before .before .before .before .before .before .before .before .before .before .before .apply .result) (lent (c .before .before .before .before .before .before .before .before .before .before .before .before .before .before .apply .last .1 .1 .0) (c .before .before .before .before .before .before .before .before .before .before .before .before .before .before .apply .last .1 .1 .1 .0) (c .before .before .before .before .before .before .before .before .before .before .before .before .before .before .apply .last .1 .1 .1 .1 .0) (c .before .before .before .before .before .before .before .before .before .before .before .before .before .before .apply .last .1 .1 .1 .1 .1 .0))) (c .before .before .before .before .before .before .before .before .before .before .before .before .before .before .apply .ensures) (c .before .before .before .before .if1 .taken) (c .before .before .put-refused .ensures)
+returns c = let a = c .before .before .before .before .before .before .before .before .before .before .before .before .before .before .before .before .before .before .before .before .before
+    .before .before .before .before .before .args in refused-batch (a .net .now) (lent (a .rows .now) (a .gained .now) (a .lost .now) (a .head .now))
+    (c .before .before .before .before .before .before .before .before .before .before .before .before .before .before .before .before .before .before .before .before .before .before .before
+    .before .before .before .pre .0) (a .batch .now) (a .next) (a .out .now) (c .before .before .put-refused .last .0) (c .before .before .put-refused .result)
+    (c .before .before .before .before .before .before .before .before .before .before .before .before .before .before .before .before .before .before .before .before .before .before .before
+    .before .before .before .pre .1)
+    (resultWith (c .before .before .before .before .before .before .before .before .before .before .before .before .before .before .apply .result)
+    (lent (c .before .before .before .before .before .before .before .before .before .before .before .before .before .before .apply .last .1 .1 .0)
+    (c .before .before .before .before .before .before .before .before .before .before .before .before .before .before .apply .last .1 .1 .1 .0)
+    (c .before .before .before .before .before .before .before .before .before .before .before .before .before .before .apply .last .1 .1 .1 .1 .0)
+    (c .before .before .before .before .before .before .before .before .before .before .before .before .before .before .apply .last .1 .1 .1 .1 .1 .0)))
+    (c .before .before .before .before .before .before .before .before .before .before .before .before .before .before .apply .ensures) (c .before .before .before .before .if1 .taken)
+    (c .before .before .put-refused .ensures)
 
 slice-read-put-batch : tie.Need-slice-read-put-batch
-slice-read-put-batch c = let a = c .before .before .before .before .before .before .before .before .before .before .before .before .before .before .before .before .before .before .before .before .before .before .before .before .args in omega (arith, applied-head (a .net .now) (lent (a .rows .now) (a .gained .now) (a .lost .now) (a .head .now)) (c .before .before .before .before .before .before .before .before .before .before .before .before .before .before .before .before .before .before .before .before .before .before .before .before .pre .0) (a .batch .now) (resultWith (c .before .before .before .before .before .before .before .before .before .before .before .before .apply .result) (lent (c .before .before .before .before .before .before .before .before .before .before .before .before .apply .last .1 .1 .0) (c .before .before .before .before .before .before .before .before .before .before .before .before .apply .last .1 .1 .1 .0) (c .before .before .before .before .before .before .before .before .before .before .before .before .apply .last .1 .1 .1 .1 .0) (c .before .before .before .before .before .before .before .before .before .before .before .before .apply .last .1 .1 .1 .1 .1 .0))) (c .before .before .before .before .before .before .before .before .before .before .before .before .apply .ensures))
+slice-read-put-batch c = let a =
+    c .before .before .before .before .before .before .before .before .before .before .before .before .before .before .before .before .before .before .before .before .before .before .before
+    .before .args in omega (
+      arith,
+      applied-head (a .net .now) (lent (a .rows .now) (a .gained .now) (a .lost .now) (a .head .now))
+          (c .before .before .before .before .before .before .before .before .before .before .before .before .before .before .before .before .before .before .before .before .before .before .before
+          .before .pre .0) (a .batch .now)
+          (resultWith (c .before .before .before .before .before .before .before .before .before .before .before .before .apply .result)
+          (lent (c .before .before .before .before .before .before .before .before .before .before .before .before .apply .last .1 .1 .0)
+          (c .before .before .before .before .before .before .before .before .before .before .before .before .apply .last .1 .1 .1 .0)
+          (c .before .before .before .before .before .before .before .before .before .before .before .before .apply .last .1 .1 .1 .1 .0)
+          (c .before .before .before .before .before .before .before .before .before .before .before .before .apply .last .1 .1 .1 .1 .1 .0)))
+          (c .before .before .before .before .before .before .before .before .before .before .before .before .apply .ensures),
+    )
 
 cast-put-batch : tie.Need-cast-put-batch
 cast-put-batch c = omega (arith, c .slice-known11 .given 0)
@@ -60,7 +85,20 @@ same-length-10 : tie.Need-same-length-10
 same-length-10 c = search needs
 
 returns-2 : tie.Need-returns-2
-returns-2 c = let a = c .before .before .before .before .before .before .before .before .before .before .before .before .before .before .before .before .before .before .before .before .before .before .before .before .before .before .before .args in accepted-batch (a .net .now) (lent (a .rows .now) (a .gained .now) (a .lost .now) (a .head .now)) (c .before .before .before .before .before .before .before .before .before .before .before .before .before .before .before .before .before .before .before .before .before .before .before .before .before .before .before .pre .0) (a .batch .now) (a .next) (a .out .now) (c .before .before .put-batch .last .0) (c .before .before .put-batch .result) (c .before .before .before .before .before .before .before .before .before .before .before .before .before .before .before .before .before .before .before .before .before .before .before .before .before .before .before .pre .1) (resultWith (c .before .before .before .before .before .before .before .before .before .before .before .before .before .before .before .apply .result) (lent (c .before .before .before .before .before .before .before .before .before .before .before .before .before .before .before .apply .last .1 .1 .0) (c .before .before .before .before .before .before .before .before .before .before .before .before .before .before .before .apply .last .1 .1 .1 .0) (c .before .before .before .before .before .before .before .before .before .before .before .before .before .before .before .apply .last .1 .1 .1 .1 .0) (c .before .before .before .before .before .before .before .before .before .before .before .before .before .before .before .apply .last .1 .1 .1 .1 .1 .0))) (c .before .before .before .before .before .before .before .before .before .before .before .before .before .before .before .apply .ensures) (c .before .before .before .before .before .if1 .left) (c .before .before .put-batch .ensures)
+returns-2 c = let a =
+    c .before .before .before .before .before .before .before .before .before .before .before .before .before .before .before .before .before .before .before .before .before .before .before
+    .before .before .before .before .args in accepted-batch (a .net .now) (lent (a .rows .now) (a .gained .now) (a .lost .now) (a .head .now))
+    (c .before .before .before .before .before .before .before .before .before .before .before .before .before .before .before .before .before .before .before .before .before .before .before
+    .before .before .before .before .pre .0) (a .batch .now) (a .next) (a .out .now) (c .before .before .put-batch .last .0) (c .before .before .put-batch .result)
+    (c .before .before .before .before .before .before .before .before .before .before .before .before .before .before .before .before .before .before .before .before .before .before .before
+    .before .before .before .before .pre .1)
+    (resultWith (c .before .before .before .before .before .before .before .before .before .before .before .before .before .before .before .apply .result)
+    (lent (c .before .before .before .before .before .before .before .before .before .before .before .before .before .before .before .apply .last .1 .1 .0)
+    (c .before .before .before .before .before .before .before .before .before .before .before .before .before .before .before .apply .last .1 .1 .1 .0)
+    (c .before .before .before .before .before .before .before .before .before .before .before .before .before .before .before .apply .last .1 .1 .1 .1 .0)
+    (c .before .before .before .before .before .before .before .before .before .before .before .before .before .before .before .apply .last .1 .1 .1 .1 .1 .0)))
+    (c .before .before .before .before .before .before .before .before .before .before .before .before .before .before .before .apply .ensures)
+    (c .before .before .before .before .before .if1 .left) (c .before .before .put-batch .ensures)
 
 pub apply-spec : {M : Type 1} → statement M
 apply-spec =

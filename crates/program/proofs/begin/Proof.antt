@@ -30,7 +30,12 @@ same-length : tie.Need-same-length
 same-length c = search needs
 
 returns : tie.Need-returns
-returns c = let a = c .before .before .before .before .before .before .before .before .before .before .before .before .before .before .before .args in says-no-input (files (a .n) (a .b) (a .net .now) (a .file .now)) (lent (a .rows .now) (a .gained .now) (a .lost .now) (a .head .now)) (a .out .now) (c .before .before .put-line-at .last .0) (c .before .before .put-line-at .result) (c .before .before .before .before .before .before .before .before .before .before .before .before .before .before .before .pre .1) (sym (c .before .before .before .before .before .before .before .has-input .ensures) ∙ not-true (c .before .before .before .before .before .before .before .has-input .result) (c .before .before .before .before .before .before .if1 .taken)) (record { bytes = c .before .before .put-line-at .ensures .0; next = c .before .before .put-line-at .ensures .1; short = c .before .before .put-line-at .ensures .2 })
+returns c = let a = c .before .before .before .before .before .before .before .before .before .before .before .before .before .before .before .args in says-no-input
+    (files (a .n) (a .b) (a .net .now) (a .file .now)) (lent (a .rows .now) (a .gained .now) (a .lost .now) (a .head .now)) (a .out .now) (c .before .before .put-line-at .last .0)
+    (c .before .before .put-line-at .result) (c .before .before .before .before .before .before .before .before .before .before .before .before .before .before .before .pre .1)
+    (sym (c .before .before .before .before .before .before .before .has-input .ensures) ∙ not-true (c .before .before .before .before .before .before .before .has-input .result)
+    (c .before .before .before .before .before .before .if1 .taken))
+    (record { bytes = c .before .before .put-line-at .ensures .0; next = c .before .before .put-line-at .ensures .1; short = c .before .before .put-line-at .ensures .2 })
 
 open-requires : tie.Need-open-requires
 open-requires c κs = search needs
@@ -54,7 +59,25 @@ same-length-6 : tie.Need-same-length-6
 same-length-6 c = search needs
 
 returns-2 : tie.Need-returns-2
-returns-2 c = let a = c .before .before .before .before .before .before .before .before .before .before .before .before .before .before .before .before .before .before .before .before .before .before .before .before .before .before .before .before .args in says-refused (files (a .n) (a .b) (a .net .now) (a .file .now)) (lent (a .rows .now) (a .gained .now) (a .lost .now) (a .head .now)) (a .out .now) (c .before .before .put-refused .last .0) (c .before .before .put-refused .result) (c .before .before .before .before .before .before .before .before .before .before .before .before .before .before .before .before .before .before .before .before .before .before .before .before .before .before .before .before .pre .1) (c .before .before .before .before .before .before .before .before .before .before .before .before .before .before .before .before .before .before .before .before .before .before .before .before .before .before .before .before .pre .0) (sym (c .before .before .before .before .before .before .before .before .before .before .before .before .before .before .before .before .before .before .before .before .has-input .ensures) ∙ not-false (c .before .before .before .before .before .before .before .before .before .before .before .before .before .before .before .before .before .before .before .before .has-input .result) (c .before .before .before .before .before .before .before .before .before .before .before .before .before .before .before .before .before .before .before .if1 .left)) (resultWith (c .before .before .before .before .before .before .before .before .before .before .before .before .before .before .«open» .result) (lent (c .before .before .before .before .before .before .before .before .before .before .before .before .before .before .«open» .last .1 .0) (c .before .before .before .before .before .before .before .before .before .before .before .before .before .before .«open» .last .1 .1 .0) (c .before .before .before .before .before .before .before .before .before .before .before .before .before .before .«open» .last .1 .1 .1 .0) (c .before .before .before .before .before .before .before .before .before .before .before .before .before .before .«open» .last .1 .1 .1 .1 .0))) (c .before .before .before .before .before .before .before .before .before .before .before .before .before .before .«open» .ensures) (c .before .before .before .before .if2 .taken) (c .before .before .put-refused .ensures)
+returns-2 c = let a =
+    c .before .before .before .before .before .before .before .before .before .before .before .before .before .before .before .before .before .before .before .before .before .before .before
+    .before .before .before .before .before .args in says-refused (files (a .n) (a .b) (a .net .now) (a .file .now)) (lent (a .rows .now) (a .gained .now) (a .lost .now) (a .head .now))
+    (a .out .now) (c .before .before .put-refused .last .0) (c .before .before .put-refused .result)
+    (c .before .before .before .before .before .before .before .before .before .before .before .before .before .before .before .before .before .before .before .before .before .before .before
+    .before .before .before .before .before .pre .1)
+    (c .before .before .before .before .before .before .before .before .before .before .before .before .before .before .before .before .before .before .before .before .before .before .before
+    .before .before .before .before .before .pre .0)
+    (sym (c .before .before .before .before .before .before .before .before .before .before .before .before .before .before .before .before .before .before .before .before .has-input
+    .ensures) ∙ not-false
+    (c .before .before .before .before .before .before .before .before .before .before .before .before .before .before .before .before .before .before .before .before .has-input .result)
+    (c .before .before .before .before .before .before .before .before .before .before .before .before .before .before .before .before .before .before .before .if1 .left))
+    (resultWith (c .before .before .before .before .before .before .before .before .before .before .before .before .before .before .«open» .result)
+    (lent (c .before .before .before .before .before .before .before .before .before .before .before .before .before .before .«open» .last .1 .0)
+    (c .before .before .before .before .before .before .before .before .before .before .before .before .before .before .«open» .last .1 .1 .0)
+    (c .before .before .before .before .before .before .before .before .before .before .before .before .before .before .«open» .last .1 .1 .1 .0)
+    (c .before .before .before .before .before .before .before .before .before .before .before .before .before .before .«open» .last .1 .1 .1 .1 .0)))
+    (c .before .before .before .before .before .before .before .before .before .before .before .before .before .before .«open» .ensures) (c .before .before .before .before .if2 .taken)
+    (c .before .before .put-refused .ensures)
 
 same-length-7 : tie.Need-same-length-7
 same-length-7 c = search needs
@@ -69,7 +92,21 @@ same-length-10 : tie.Need-same-length-10
 same-length-10 c = search needs
 
 returns-3 : tie.Need-returns-3
-returns-3 c = let a = c .before .before .before .before .before .before .before .before .before .before .before .before .before .before .before .before .before .before .before .before .before .before .before .before .args in says-opened (files (a .n) (a .b) (a .net .now) (a .file .now)) (lent (a .rows .now) (a .gained .now) (a .lost .now) (a .head .now)) (a .out .now) (a .out .now) 0 (c .before .before .before .before .before .before .before .before .before .before .before .before .before .before .before .before .before .before .before .before .before .before .before .before .pre .1) (c .before .before .before .before .before .before .before .before .before .before .before .before .before .before .before .before .before .before .before .before .before .before .before .before .pre .0) (sym (c .before .before .before .before .before .before .before .before .before .before .before .before .before .before .before .before .has-input .ensures) ∙ not-false (c .before .before .before .before .before .before .before .before .before .before .before .before .before .before .before .before .has-input .result) (c .before .before .before .before .before .before .before .before .before .before .before .before .before .before .before .if1 .left)) (resultWith (c .before .before .before .before .before .before .before .before .before .before .«open» .result) (lent (c .before .before .before .before .before .before .before .before .before .before .«open» .last .1 .0) (c .before .before .before .before .before .before .before .before .before .before .«open» .last .1 .1 .0) (c .before .before .before .before .before .before .before .before .before .before .«open» .last .1 .1 .1 .0) (c .before .before .before .before .before .before .before .before .before .before .«open» .last .1 .1 .1 .1 .0))) (c .before .before .before .before .before .before .before .before .before .before .«open» .ensures) (c .if2 .left)
+returns-3 c = let a =
+    c .before .before .before .before .before .before .before .before .before .before .before .before .before .before .before .before .before .before .before .before .before .before .before
+    .before .args in says-opened (files (a .n) (a .b) (a .net .now) (a .file .now)) (lent (a .rows .now) (a .gained .now) (a .lost .now) (a .head .now)) (a .out .now) (a .out .now) 0
+    (c .before .before .before .before .before .before .before .before .before .before .before .before .before .before .before .before .before .before .before .before .before .before .before
+    .before .pre .1) (c .before .before .before .before .before .before .before .before .before .before .before .before .before .before .before .before .before .before .before .before
+    .before .before .before .before .pre .0)
+    (sym (c .before .before .before .before .before .before .before .before .before .before .before .before .before .before .before .before .has-input .ensures)
+    ∙ not-false (c .before .before .before .before .before .before .before .before .before .before .before .before .before .before .before .before .has-input .result)
+    (c .before .before .before .before .before .before .before .before .before .before .before .before .before .before .before .if1 .left))
+    (resultWith (c .before .before .before .before .before .before .before .before .before .before .«open» .result)
+    (lent (c .before .before .before .before .before .before .before .before .before .before .«open» .last .1 .0)
+    (c .before .before .before .before .before .before .before .before .before .before .«open» .last .1 .1 .0)
+    (c .before .before .before .before .before .before .before .before .before .before .«open» .last .1 .1 .1 .0)
+    (c .before .before .before .before .before .before .before .before .before .before .«open» .last .1 .1 .1 .1 .0)))
+    (c .before .before .before .before .before .before .before .before .before .before .«open» .ensures) (c .if2 .left)
 
 pub begin-spec : {M : Type 1} → statement M
 begin-spec =

@@ -70,22 +70,46 @@ same-length-5 : tie.Need-same-length-5
 same-length-5 c = search needs
 
 returns : tie.Need-returns
-returns c = let a = c .before .before .before .before .before .before .before .before .before .before .before .before .before .before .before .before .before .before .before .before .before .before .before .before .before .before .before .before .args in let n = rw (c .before .before .before .before .before .before .before .before .before .before .before .before .before .before .before .before .before .before .end .given .1) at (c .before .before .before .before .before .before .before .before .before .before .before .before .before .before .before .before .before .before .before .before .next-piece .ensures) in says-batch (files (a .n) (a .b) (a .net .now) (a .file .now)) (a .start) (lent (a .rows .now) (a .gained .now) (a .lost .now) (a .head .now)) (a .out .now) (c .before .before .before .before .before .before .before .before .before .before .apply .last .1 .1 .1 .1 .1 .1 .1 .0) 0 (c .before .before .before .before .before .before .before .before .before .before .before .before .before .before .before .before .before .before .before .before .before .before .before .before .before .before .before .before .pre .1) (c .before .before .before .before .before .before .before .before .before .before .before .before .before .before .before .before .before .before .end .given .0 .0) (lent (c .before .before .before .before .before .before .before .before .before .before .apply .last .1 .1 .1 .0) (c .before .before .before .before .before .before .before .before .before .before .apply .last .1 .1 .1 .1 .0) (c .before .before .before .before .before .before .before .before .before .before .apply .last .1 .1 .1 .1 .1 .0) (c .before .before .before .before .before .before .before .before .before .before .apply .last .1 .1 .1 .1 .1 .1 .0)) (c .before .before .before .before .before .before .before .before .before .before .apply .result) n (c .before .before .before .before .before .before .before .before .before .before .apply .ensures)
+returns c = let a = c .before .before .before .before .before .before .before .before .before .before .before .before .before .before .before .before .before .before .before .before .before
+    .before .before .before .before .before .before .before .args in let n =
+    rw (c .before .before .before .before .before .before .before .before .before .before .before .before .before .before .before .before .before .before .end .given .1)
+    at (c .before .before .before .before .before .before .before .before .before .before .before .before .before .before .before .before .before .before .before .before .next-piece
+    .ensures) in says-batch (files (a .n) (a .b) (a .net .now) (a .file .now)) (a .start) (lent (a .rows .now) (a .gained .now) (a .lost .now) (a .head .now)) (a .out .now)
+    (c .before .before .before .before .before .before .before .before .before .before .apply .last .1 .1 .1 .1 .1 .1 .1 .0) 0
+    (c .before .before .before .before .before .before .before .before .before .before .before .before .before .before .before .before .before .before .before .before .before .before .before
+    .before .before .before .before .before .pre .1)
+    (c .before .before .before .before .before .before .before .before .before .before .before .before .before .before .before .before .before .before .end .given .0 .0)
+    (lent (c .before .before .before .before .before .before .before .before .before .before .apply .last .1 .1 .1 .0)
+    (c .before .before .before .before .before .before .before .before .before .before .apply .last .1 .1 .1 .1 .0)
+    (c .before .before .before .before .before .before .before .before .before .before .apply .last .1 .1 .1 .1 .1 .0)
+    (c .before .before .before .before .before .before .before .before .before .before .apply .last .1 .1 .1 .1 .1 .1 .0))
+    (c .before .before .before .before .before .before .before .before .before .before .apply .result) n
+    (c .before .before .before .before .before .before .before .before .before .before .apply .ensures)
 
 same-length-6 : tie.Need-same-length-6
 same-length-6 c = search needs
 
 returns-2 : tie.Need-returns-2
-returns-2 c = let a = c .before .before .before .before .before .before .before .before .before .before .before .before .before .before .before .args in let n = rw (c .before .before .before .before .before .at .given .1) at (c .before .before .before .before .before .before .before .next-piece .ensures) in says-broken (files (a .n) (a .b) (a .net .now) (a .file .now)) (a .start) (lent (a .rows .now) (a .gained .now) (a .lost .now) (a .head .now)) (a .out .now) (c .before .before .put-refused .last .0) (c .before .before .put-refused .result) (c .before .before .before .before .before .before .before .before .before .before .before .before .before .before .before .pre .1) (c .before .before .before .before .before .at .given .0 .0) n (c .before .before .put-refused .ensures)
+returns-2 c = let a = c .before .before .before .before .before .before .before .before .before .before .before .before .before .before .before .args in let n =
+    rw (c .before .before .before .before .before .at .given .1) at (c .before .before .before .before .before .before .before .next-piece .ensures) in says-broken
+    (files (a .n) (a .b) (a .net .now) (a .file .now)) (a .start) (lent (a .rows .now) (a .gained .now) (a .lost .now) (a .head .now)) (a .out .now) (c .before .before .put-refused .last .0)
+    (c .before .before .put-refused .result) (c .before .before .before .before .before .before .before .before .before .before .before .before .before .before .before .pre .1)
+    (c .before .before .before .before .before .at .given .0 .0) n (c .before .before .put-refused .ensures)
 
 same-length-7 : tie.Need-same-length-7
 same-length-7 c = search needs
 
 returns-3 : tie.Need-returns-3
-returns-3 c = let a = c .before .before .before .before .before .before .before .before .before .before .before .before .before .before .before .before .args in let n = rw (c .before .before .before .before .before .before .enum-told .given .1) at (c .before .before .before .before .before .before .before .before .next-piece .ensures) in says-unfinished (files (a .n) (a .b) (a .net .now) (a .file .now)) (a .start) (lent (a .rows .now) (a .gained .now) (a .lost .now) (a .head .now)) (a .out .now) (c .before .before .put-line-at .last .0) (c .before .before .put-line-at .result) (c .before .before .before .before .before .before .before .before .before .before .before .before .before .before .before .before .pre .1) n (record { bytes = c .before .before .put-line-at .ensures .0; next = c .before .before .put-line-at .ensures .1; short = c .before .before .put-line-at .ensures .2 })
+returns-3 c = let a = c .before .before .before .before .before .before .before .before .before .before .before .before .before .before .before .before .args in let n =
+    rw (c .before .before .before .before .before .before .enum-told .given .1) at (c .before .before .before .before .before .before .before .before .next-piece .ensures) in says-unfinished
+    (files (a .n) (a .b) (a .net .now) (a .file .now)) (a .start) (lent (a .rows .now) (a .gained .now) (a .lost .now) (a .head .now)) (a .out .now) (c .before .before .put-line-at .last .0)
+    (c .before .before .put-line-at .result) (c .before .before .before .before .before .before .before .before .before .before .before .before .before .before .before .before .pre .1) n
+    (record { bytes = c .before .before .put-line-at .ensures .0; next = c .before .before .put-line-at .ensures .1; short = c .before .before .put-line-at .ensures .2 })
 
 returns-4 : tie.Need-returns-4
-returns-4 c = let a = c .before .before .before .before .before .before .before .before .before .before .args in let n = rw (c .enum-told2 .given .1) at (c .before .before .next-piece .ensures) in says-end (files (a .n) (a .b) (a .net .now) (a .file .now)) (a .start) (lent (a .rows .now) (a .gained .now) (a .lost .now) (a .head .now)) (a .out .now) (c .before .before .before .before .before .before .before .before .before .before .pre .1) n
+returns-4 c = let a = c .before .before .before .before .before .before .before .before .before .before .args in let n = rw (c .enum-told2 .given .1)
+    at (c .before .before .next-piece .ensures) in says-end (files (a .n) (a .b) (a .net .now) (a .file .now)) (a .start) (lent (a .rows .now) (a .gained .now) (a .lost .now) (a .head .now))
+    (a .out .now) (c .before .before .before .before .before .before .before .before .before .before .pre .1) n
 
 pub cut-spec : {M : Type 1} → statement M
 cut-spec =

@@ -32,7 +32,8 @@ shared-slice-read-result : tie.Need-shared-slice-read-result
 shared-slice-read-result c = search needs
 
 returns-2 : tie.Need-returns-2
-returns-2 c = let a = c .before .before .before .args in sym (ap (λ (t : Bool). t && eqb (getD (a .head .now) (97 + a .node) 0) 0) (eq-eqb (getD (a .head .now) (65 + a .node) 0) 0 (c .before .if1 .left)))
+returns-2 c = let a = c .before .before .before .args in sym
+    (ap (λ (t : Bool). t && eqb (getD (a .head .now) (97 + a .node) 0) 0) (eq-eqb (getD (a .head .now) (65 + a .node) 0) 0 (c .before .if1 .left)))
 
 pub is-unchanged-spec : {M : Type 1} → statement M
 is-unchanged-spec =

@@ -14,19 +14,22 @@ enum-told : tie.Need-enum-told
 enum-told c = search needs
 
 begin-requires : tie.Need-begin-requires
-begin-requires c κs = rw (c .before .before .before .before .before .enum-told .given .1) at (c .before .before .before .before .before .before .before .before .before .before .before .before .before .before .pre)
+begin-requires c κs = rw (c .before .before .before .before .before .enum-told .given .1)
+    at (c .before .before .before .before .before .before .before .before .before .before .before .before .before .before .pre)
 
 enum-known-stage : tie.Need-enum-known-stage
 enum-known-stage c = search needs
 
 cut-requires : tie.Need-cut-requires
-cut-requires c κs = rw (c .before .before .before .before .before .before .stage .given .1) at (c .before .before .before .before .before .before .before .before .before .before .before .before .before .before .before .pre)
+cut-requires c κs = rw (c .before .before .before .before .before .before .stage .given .1)
+    at (c .before .before .before .before .before .before .before .before .before .before .before .before .before .before .before .pre)
 
 enum-known-stage-2 : tie.Need-enum-known-stage-2
 enum-known-stage-2 c = search needs
 
 tell-requires : tie.Need-tell-requires
-tell-requires c κs = rw (c .before .before .before .before .before .before .stage2 .given .1) at (c .before .before .before .before .before .before .before .before .before .before .before .before .before .before .before .pre)
+tell-requires c κs = rw (c .before .before .before .before .before .before .stage2 .given .1)
+    at (c .before .before .before .before .before .before .before .before .before .before .before .before .before .before .before .pre)
 
 enum-told-2 : tie.Need-enum-told-2
 enum-told-2 c = search needs
@@ -47,7 +50,8 @@ same-length-5 : tie.Need-same-length-5
 same-length-5 c = search needs
 
 returns : tie.Need-returns
-returns c = rw (c .before .before .before .before .before .before .before .before .before .before .before .before .before .before .before .before .enum-told .given .1) (c .before .before .before .before .before .before .before .before .before .before .begin .ensures)
+returns c = rw (c .before .before .before .before .before .before .before .before .before .before .before .before .before .before .before .before .enum-told .given .1)
+    (c .before .before .before .before .before .before .before .before .before .before .begin .ensures)
 
 same-length-6 : tie.Need-same-length-6
 same-length-6 c = search needs
@@ -65,7 +69,8 @@ same-length-10 : tie.Need-same-length-10
 same-length-10 c = search needs
 
 returns-2 : tie.Need-returns-2
-returns-2 c = rw (c .before .before .before .before .before .before .before .before .before .before .before .before .before .before .before .before .before .stage .given .1) (c .before .before .before .before .before .before .before .before .before .before .cut .ensures)
+returns-2 c = rw (c .before .before .before .before .before .before .before .before .before .before .before .before .before .before .before .before .before .stage .given .1)
+    (c .before .before .before .before .before .before .before .before .before .before .cut .ensures)
 
 same-length-11 : tie.Need-same-length-11
 same-length-11 c = search needs
@@ -86,7 +91,8 @@ returns-3 : tie.Need-returns-3
 returns-3 c = rw (c .before .before .before .before .before .before .before .before .before .stage2 .given .1) (c .before .before .tell .ensures)
 
 returns-4 : tie.Need-returns-4
-returns-4 c = let a = c .before .before .before .before .before .before .before .before .before .args in rw (c .enum-told2 .given .1) (says-over (files (a .n) (a .b) (a .net .now) (a .file .now)) (lent (a .rows .now) (a .gained .now) (a .lost .now) (a .head .now)) (a .out .now))
+returns-4 c = let a = c .before .before .before .before .before .before .before .before .before .args in rw (c .enum-told2 .given .1)
+    (says-over (files (a .n) (a .b) (a .net .now) (a .file .now)) (lent (a .rows .now) (a .gained .now) (a .lost .now) (a .head .now)) (a .out .now))
 
 pub step-spec : {M : Type 1} → statement M
 step-spec =

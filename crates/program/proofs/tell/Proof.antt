@@ -26,13 +26,21 @@ same-length : tie.Need-same-length
 same-length c = search needs
 
 returns : tie.Need-returns
-returns c = let a = c .before .before .before .before .before .before .before .before .before .before .before .before .args in says-node (files (a .n) (a .b) (a .net .now) (a .file .now)) (a .node) (a .next) (lent (a .rows .now) (a .gained .now) (a .lost .now) (a .head .now)) (a .out .now) (c .before .before .before .node-lines .last .1 .1 .1 .1 .1 .1 .0) (c .before .before .before .node-lines .result) (c .before .before .before .node-lines .ensures) (c .before .before .before .before .before .before .before .before .before .before .before .before .pre .1) (Tell (a .node + 1) (a .next)) (sym (ap (λ (t : Bool). cond t (Tell (a .node + 1) (a .next)) (Cut (a .next))) (lt-ltb (a .node + 1) 32 (c .if1 .taken))))
+returns c = let a = c .before .before .before .before .before .before .before .before .before .before .before .before .args in says-node (files (a .n) (a .b) (a .net .now) (a .file .now))
+    (a .node) (a .next) (lent (a .rows .now) (a .gained .now) (a .lost .now) (a .head .now)) (a .out .now) (c .before .before .before .node-lines .last .1 .1 .1 .1 .1 .1 .0)
+    (c .before .before .before .node-lines .result) (c .before .before .before .node-lines .ensures)
+    (c .before .before .before .before .before .before .before .before .before .before .before .before .pre .1) (Tell (a .node + 1) (a .next))
+    (sym (ap (λ (t : Bool). cond t (Tell (a .node + 1) (a .next)) (Cut (a .next))) (lt-ltb (a .node + 1) 32 (c .if1 .taken))))
 
 same-length-2 : tie.Need-same-length-2
 same-length-2 c = search needs
 
 returns-2 : tie.Need-returns-2
-returns-2 c = let a = c .before .before .before .before .before .before .before .before .before .before .before .before .args in says-node (files (a .n) (a .b) (a .net .now) (a .file .now)) (a .node) (a .next) (lent (a .rows .now) (a .gained .now) (a .lost .now) (a .head .now)) (a .out .now) (c .before .before .before .node-lines .last .1 .1 .1 .1 .1 .1 .0) (c .before .before .before .node-lines .result) (c .before .before .before .node-lines .ensures) (c .before .before .before .before .before .before .before .before .before .before .before .before .pre .1) (Cut (a .next)) (sym (ap (λ (t : Bool). cond t (Tell (a .node + 1) (a .next)) (Cut (a .next))) (le-ltb (a .node + 1) 32 (c .if1 .left))))
+returns-2 c = let a = c .before .before .before .before .before .before .before .before .before .before .before .before .args in says-node (files (a .n) (a .b) (a .net .now) (a .file .now))
+    (a .node) (a .next) (lent (a .rows .now) (a .gained .now) (a .lost .now) (a .head .now)) (a .out .now) (c .before .before .before .node-lines .last .1 .1 .1 .1 .1 .1 .0)
+    (c .before .before .before .node-lines .result) (c .before .before .before .node-lines .ensures)
+    (c .before .before .before .before .before .before .before .before .before .before .before .before .pre .1) (Cut (a .next))
+    (sym (ap (λ (t : Bool). cond t (Tell (a .node + 1) (a .next)) (Cut (a .next))) (le-ltb (a .node + 1) 32 (c .if1 .left))))
 
 pub tell-spec : {M : Type 1} → statement M
 tell-spec =

@@ -36,10 +36,12 @@ part-same-words-end : tie.Need-part-same-words-end
 part-same-words-end c = search needs
 
 same-words-requires : tie.Need-same-words-requires
-same-words-requires c κs = let a = c .before .before .before .before .args in let long = place-long (a .rows .now) (a .i) (c .before .before .before .before .pre .0) (c .before .before .before .before .pre .1) in (omega (arith, c .before .before .before .before .pre .2), omega (arith, long))
+same-words-requires c κs = let a = c .before .before .before .before .args in let long = place-long (a .rows .now) (a .i) (c .before .before .before .before .pre .0)
+    (c .before .before .before .before .pre .1) in (omega (arith, c .before .before .before .before .pre .2), omega (arith, long))
 
 returns-2 : tie.Need-returns-2
-returns-2 c = let a = c .before .before .before .before .before .args in λ w p q. ap not (c .same-words .ensures ∙ place-words-same w (a .new .now) (a .n) (placeAt (a .rows .now) (a .i)) (a .m) p q (c .before .before .if1 .left))
+returns-2 c = let a = c .before .before .before .before .before .args in λ w p q. ap not
+    (c .same-words .ensures ∙ place-words-same w (a .new .now) (a .n) (placeAt (a .rows .now) (a .i)) (a .m) p q (c .before .before .if1 .left))
 
 pub differs-spec : {M : Type 1} → statement M
 differs-spec =

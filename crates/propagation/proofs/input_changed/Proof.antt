@@ -24,7 +24,8 @@ shared-slice-read-result : tie.Need-shared-slice-read-result
 shared-slice-read-result c = omega (arith, c .before .right-of .ensures, c .before .before .before .before .before .before .pre .1)
 
 returns-2 : tie.Need-returns-2
-returns-2 c = let a = c .before .before .before .before .before .before .args in rw (← c .before .before .before .before .left-of .ensures, ← c .before .right-of .ensures, c .before .before .if1 .left) refl
+returns-2 c = let a = c .before .before .before .before .before .before .args
+    in rw (← c .before .before .before .before .left-of .ensures, ← c .before .right-of .ensures, c .before .before .if1 .left) refl
 
 pub input-changed-spec : {M : Type 1} → statement M
 input-changed-spec =

@@ -12,41 +12,72 @@ use Rattle.propagation.proofs.propagate.Lts as lts
 use Rattle.propagation.proofs.work_node.Reads as work-node-reads
 
 abbrev Inv-loop : tie.InvT-loop
-Inv-loop bytes rows head work₀ counts₀ changed₀ net count i₀ work counts changed i = (i ≤ net .count) × WorkedTo head (newRows net rows head bytes) (working (net .widths) rows work counts changed) i
+Inv-loop bytes rows head work₀ counts₀ changed₀ net count i₀ work counts changed i = (i ≤ net .count)
+    × WorkedTo head (newRows net rows head bytes) (working (net .widths) rows work counts changed) i
 
 abbrev μ-loop : tie.MeasureT-loop
 μ-loop bytes rows head work₀ counts₀ changed₀ net count i₀ work counts changed i = net .count - i
 
 loop-holds : tie.Need-loop-holds Inv-loop μ-loop
-loop-holds c = let a = (c .before .before .before .before .before .before .args) in (zero-le, rw (c .before .before .before .before .before .before .pre .2, c .before .before .before .before .before .before .pre .3) (worked-none (a .t1) (a .rows .now) (a .head .now) (a .bytes .now) (c .before .before .before .before .before .before .pre .0) (a .work .now) (c .before .before .before .before .before .before .pre .1)))
+loop-holds c = let a = (c .before .before .before .before .before .before .args)
+    in (
+      zero-le,
+      rw (c .before .before .before .before .before .before .pre .2, c .before .before .before .before .before .before .pre .3)
+          (worked-none (a .t1) (a .rows .now) (a .head .now) (a .bytes .now) (c .before .before .before .before .before .before .pre .0) (a .work .now)
+          (c .before .before .before .before .before .before .pre .1)),
+    )
 
 mul-slot : tie.Need-mul-slot Inv-loop μ-loop
 mul-slot c = omega (arith, c .loop-test .taken, c .before .before .before .before .before .before .before .before .pre .0 .checkable .built .sound .few)
 
 element-copy-out-slot : tie.Need-element-copy-out-slot Inv-loop μ-loop
-element-copy-out-slot c = omega (arith, c .loop-test .taken, c .before .before .before .before .before .before .before .before .pre .0 .checkable .built .sound .few, c .before .before .before .before .before .before .before .before .pre .0 .checkable .built .slots-length)
+element-copy-out-slot c = omega (
+  arith,
+  c .loop-test .taken,
+  c .before .before .before .before .before .before .before .before .pre .0 .checkable .built .sound .few,
+  c .before .before .before .before .before .before .before .before .pre .0 .checkable .built .slots-length,
+)
 
 mul-level : tie.Need-mul-level Inv-loop μ-loop
 mul-level c = omega (arith, c .before .loop-test .taken, c .before .before .before .before .before .before .before .before .before .pre .0 .checkable .built .sound .few)
 
 element-copy-out-level : tie.Need-element-copy-out-level Inv-loop μ-loop
-element-copy-out-level c = omega (arith, c .before .loop-test .taken, c .before .before .before .before .before .before .before .before .before .pre .0 .checkable .built .sound .few, c .before .before .before .before .before .before .before .before .before .pre .0 .checkable .built .levels-length)
+element-copy-out-level c = omega (
+  arith,
+  c .before .loop-test .taken,
+  c .before .before .before .before .before .before .before .before .before .pre .0 .checkable .built .sound .few,
+  c .before .before .before .before .before .before .before .before .before .pre .0 .checkable .built .levels-length,
+)
 
 work-node-requires : tie.Need-work-node-requires Inv-loop μ-loop
-work-node-requires c κs = let a = (c .before .before .before .before .before .before .before .before .before .before .before .before .before .before .before .before .args) in can-work (a .t1) (a .rows .now) (a .head .now) (a .bytes .now) (c .before .before .before .before .before .before .before .before .before .before .before .before .before .before .before .before .pre .0) (c .before .before .before .before .before .before .before .before .before .loop .work) (c .before .before .before .before .before .before .before .before .before .loop .counts) (c .before .before .before .before .before .before .before .before .before .loop .changed) (c .before .before .before .before .before .before .before .before .before .loop .i) (c .before .before .before .before .before .before .before .before .loop-test .taken) (c .before .before .before .before .before .before .before .before .before .loop .inv .1)
+work-node-requires c κs = let a = (c .before .before .before .before .before .before .before .before .before .before .before .before .before .before .before .before .args) in can-work
+    (a .t1) (a .rows .now) (a .head .now) (a .bytes .now)
+    (c .before .before .before .before .before .before .before .before .before .before .before .before .before .before .before .before .pre .0)
+    (c .before .before .before .before .before .before .before .before .before .loop .work) (c .before .before .before .before .before .before .before .before .before .loop .counts)
+    (c .before .before .before .before .before .before .before .before .before .loop .changed) (c .before .before .before .before .before .before .before .before .before .loop .i)
+    (c .before .before .before .before .before .before .before .before .loop-test .taken) (c .before .before .before .before .before .before .before .before .before .loop .inv .1)
 
 same-length : tie.Need-same-length Inv-loop μ-loop
 same-length c = omega arith
 
 same-length-2 : tie.Need-same-length-2 Inv-loop μ-loop
-same-length-2 c = omega (arith, ap length (c .before .before .before .before .before .before .before .before .before .before .before .before .before .before .before .before .before .before .before .before .before .before .before .before .pre .2))
+same-length-2 c = omega (
+  arith,
+  ap length (c .before .before .before .before .before .before .before .before .before .before .before .before .before .before .before .before .before .before .before .before
+      .before .before .before .before .pre .2),
+)
 
 same-length-3 : tie.Need-same-length-3 Inv-loop μ-loop
-same-length-3 c = omega (arith, ap length (c .before .before .before .before .before .before .before .before .before .before .before .before .before .before .before .before .before .before .before .before .before .before .before .before .pre .3))
+same-length-3 c = omega (
+  arith,
+  ap length (c .before .before .before .before .before .before .before .before .before .before .before .before .before .before .before .before .before .before .before .before
+      .before .before .before .before .pre .3),
+)
 
 returns : tie.Need-returns Inv-loop μ-loop
 returns c =
-    let s = c .before .before .before .before .before .before .before .before .before .before .before .before .before .before .before .before .before .before .before .before .before .before .before .before in
+    let s = c .before .before .before .before .before .before .before .before .before .before .before .before .before .before .before .before .before .before .before .before .before .before
+    .before .before in
     let a = s .args in
     let l = c .before .before .before .before .before .before .before .before .before .before .before .before .before .before .before .before .before .loop in
     let w = c .before .before .before .before .before .before .before .work-node in
@@ -58,13 +89,35 @@ returns c =
     (λ j k. l .inv .1 .worked j k .few)
 
 add-i : tie.Need-add-i Inv-loop μ-loop
-add-i c = omega (arith, c .before .before .before .before .before .before .before .before .before .before .before .before .before .before .before .before .loop-test .taken, c .before .before .before .before .before .before .before .before .before .before .before .before .before .before .before .before .before .before .before .before .before .before .before .before .pre .0 .checkable .built .sound .few)
+add-i c = omega (
+  arith,
+  c .before .before .before .before .before .before .before .before .before .before .before .before .before .before .before .before .loop-test .taken,
+  c .before .before .before .before .before .before .before .before .before .before .before .before .before .before .before .before .before .before .before .before .before .before .before
+      .before .pre .0 .checkable .built .sound .few,
+)
 
 loop-less : tie.Need-loop-less Inv-loop μ-loop
 loop-less c = omega (arith, c .before .before .before .before .before .before .before .before .before .before .before .before .before .before .before .before .loop-test .taken)
 
 loop-again : tie.Need-loop-again Inv-loop μ-loop
-loop-again c = let a = (c .before .before .before .before .before .before .before .before .before .before .before .before .before .before .before .before .before .before .before .before .before .before .before .before .args) in (omega (arith, c .before .before .before .before .before .before .before .before .before .before .before .before .before .before .before .before .loop-test .taken), worked-more (a .t1) (a .rows .now) (a .head .now) (a .bytes .now) (c .before .before .before .before .before .before .before .before .before .before .before .before .before .before .before .before .before .before .before .before .before .before .before .before .pre .0) (c .before .before .before .before .before .before .before .before .before .before .before .before .before .before .before .before .before .loop .work) (c .before .before .before .before .before .before .before .before .before .before .before .before .before .before .before .before .before .loop .counts) (c .before .before .before .before .before .before .before .before .before .before .before .before .before .before .before .before .before .loop .changed) (c .before .before .before .before .before .before .before .before .before .before .before .before .before .before .before .before .before .loop .i) (c .before .before .before .before .before .before .before .before .before .before .before .before .before .before .before .before .loop-test .taken) (c .before .before .before .before .before .before .before .before .before .before .before .before .before .before .before .before .before .loop .inv .1) (c .before .before .before .before .before .before .before .work-node .last .1 .1 .1 .1 .1 .1 .1 .0) (c .before .before .before .before .before .before .before .work-node .last .1 .1 .1 .1 .1 .1 .1 .1 .0) (c .before .before .before .before .before .before .before .work-node .last .1 .1 .1 .1 .1 .1 .1 .1 .1 .0) (rw (not-false (c .before .before .before .before .before .before .before .work-node .result) (c .if1 .left)) at (c .before .before .before .before .before .before .before .work-node .ensures)))
+loop-again c = let a =
+    (c .before .before .before .before .before .before .before .before .before .before .before .before .before .before .before .before .before .before .before .before .before .before .before
+    .before .args) in (
+      omega (arith, c .before .before .before .before .before .before .before .before .before .before .before .before .before .before .before .before .loop-test .taken),
+      worked-more (a .t1) (a .rows .now) (a .head .now) (a .bytes .now)
+          (c .before .before .before .before .before .before .before .before .before .before .before .before .before .before .before .before .before .before .before .before .before .before .before
+          .before .pre .0) (c .before .before .before .before .before .before .before .before .before .before .before .before .before .before .before .before .before .loop .work)
+          (c .before .before .before .before .before .before .before .before .before .before .before .before .before .before .before .before .before .loop .counts)
+          (c .before .before .before .before .before .before .before .before .before .before .before .before .before .before .before .before .before .loop .changed)
+          (c .before .before .before .before .before .before .before .before .before .before .before .before .before .before .before .before .before .loop .i)
+          (c .before .before .before .before .before .before .before .before .before .before .before .before .before .before .before .before .loop-test .taken)
+          (c .before .before .before .before .before .before .before .before .before .before .before .before .before .before .before .before .before .loop .inv .1)
+          (c .before .before .before .before .before .before .before .work-node .last .1 .1 .1 .1 .1 .1 .1 .0)
+          (c .before .before .before .before .before .before .before .work-node .last .1 .1 .1 .1 .1 .1 .1 .1 .0)
+          (c .before .before .before .before .before .before .before .work-node .last .1 .1 .1 .1 .1 .1 .1 .1 .1 .0)
+          (rw (not-false (c .before .before .before .before .before .before .before .work-node .result) (c .if1 .left))
+          at (c .before .before .before .before .before .before .before .work-node .ensures)),
+    )
 
 same-length-4 : tie.Need-same-length-4 Inv-loop μ-loop
 same-length-4 c = omega arith

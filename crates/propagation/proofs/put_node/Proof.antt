@@ -25,7 +25,10 @@ same-length : tie.Need-same-length
 same-length c = search needs
 
 returns : tie.Need-returns
-returns c = let a = c .before .before .before .before .before .before .before .args in λ w ws p q. put-same w ws (a .out .now) (a .n) (a .rows .now) (a .i) (a .m) (a .work .now) (a .counts .now) (a .changed .now) p q (c .before .before .before .before .before .before .before .pre .0) (c .before .before .before .before .before .before .before .pre .4) (c .before .before .before .before .before .before .before .pre .6) (c .before .before .before .before .before .before .before .pre .7) (c .before .differs .result) (c .before .differs .ensures w p q) (not-true (c .before .differs .result) (c .if1 .taken))
+returns c = let a = c .before .before .before .before .before .before .before .args in λ w ws p q. put-same w ws (a .out .now) (a .n) (a .rows .now) (a .i) (a .m) (a .work .now)
+    (a .counts .now) (a .changed .now) p q (c .before .before .before .before .before .before .before .pre .0) (c .before .before .before .before .before .before .before .pre .4)
+    (c .before .before .before .before .before .before .before .pre .6) (c .before .before .before .before .before .before .before .pre .7) (c .before .differs .result)
+    (c .before .differs .ensures w p q) (not-true (c .before .differs .result) (c .if1 .taken))
 
 slice-write-changed : tie.Need-slice-write-changed
 slice-write-changed c = search needs
@@ -34,7 +37,10 @@ mul-copy-run : tie.Need-mul-copy-run
 mul-copy-run c = search needs
 
 copy-run-requires : tie.Need-copy-run-requires
-copy-run-requires c κs = (omega (arith, c .before .before .before .before .before .before .before .before .pre .3), omega (arith, c .before .before .before .before .before .before .before .before .pre .0, c .before .before .before .before .before .before .before .before .pre .4))
+copy-run-requires c κs = (
+  omega (arith, c .before .before .before .before .before .before .before .before .pre .3),
+  omega (arith, c .before .before .before .before .before .before .before .before .pre .0, c .before .before .before .before .before .before .before .before .pre .4),
+)
 
 same-length-2 : tie.Need-same-length-2
 same-length-2 c = search needs
@@ -46,7 +52,13 @@ same-length-4 : tie.Need-same-length-4
 same-length-4 c = search needs
 
 returns-2 : tie.Need-returns-2
-returns-2 c = let a = c .before .before .before .before .before .before .before .before .before .before .before .args in λ w ws p q. put-other w ws (a .out .now) (a .n) (a .rows .now) (a .i) (a .m) (a .work .now) (a .counts .now) (a .changed .now) p q (c .before .before .before .before .before .before .before .before .before .before .before .pre .0) (c .before .before .before .before .before .before .before .before .before .before .before .pre .4) (c .before .before .before .before .before .before .before .before .before .before .before .pre .6) (c .before .before .before .before .before .differs .result) (c .before .before .before .before .before .differs .ensures w p q) (not-false (c .before .before .before .before .before .differs .result) (c .before .before .before .before .if1 .left)) (c .before .before .copy-run .last .1 .1 .0) (c .before .before .copy-run .ensures)
+returns-2 c = let a = c .before .before .before .before .before .before .before .before .before .before .before .args in λ w ws p q. put-other w ws (a .out .now) (a .n) (a .rows .now) (a .i)
+    (a .m) (a .work .now) (a .counts .now) (a .changed .now) p q (c .before .before .before .before .before .before .before .before .before .before .before .pre .0)
+    (c .before .before .before .before .before .before .before .before .before .before .before .pre .4)
+    (c .before .before .before .before .before .before .before .before .before .before .before .pre .6) (c .before .before .before .before .before .differs .result)
+    (c .before .before .before .before .before .differs .ensures w p q)
+    (not-false (c .before .before .before .before .before .differs .result) (c .before .before .before .before .if1 .left)) (c .before .before .copy-run .last .1 .1 .0)
+    (c .before .before .copy-run .ensures)
 
 pub put-node-spec : {M : Type 1} → statement M
 put-node-spec =

@@ -28,22 +28,44 @@ cast-work-table : tie.Need-cast-work-table
 cast-work-table c = let a = c .before .before .before .before .before .before .before .before .before .before .before .args in omega (arith, c .shared-slice-known9 .given (1 + a .i))
 
 work-table-requires : tie.Need-work-table-requires
-work-table-requires c κs = let w = c .before .before .before .before .before .before .before .before .before .before .before .before .pre .0 in (w .table (c .before .before .before .if1 .taken), w .inside, w .sized .rows, w .old, c .before .before .before .before .before .before .before .before .before .before .before .before .pre .1)
+work-table-requires c κs = let w = c .before .before .before .before .before .before .before .before .before .before .before .before .pre .0
+    in (
+      w .table (c .before .before .before .if1 .taken),
+      w .inside,
+      w .sized .rows,
+      w .old,
+      c .before .before .before .before .before .before .before .before .before .before .before .before .pre .1,
+    )
 
 same-length : tie.Need-same-length
 same-length c = search needs
 
 returns : tie.Need-returns
-returns c = let a = c .before .before .before .before .before .before .before .before .before .before .before .before .before .before .before .args in rw (eq-eqb (a .level) 0 (c .before .before .before .before .before .before .if1 .taken), ← c .before .before .before .before .before .before .before .before .before .before .before .before .before .before .before .pre .0 .old-is) (c .before .before .work-table .ensures)
+returns c = let a = c .before .before .before .before .before .before .before .before .before .before .before .before .before .before .before .args
+    in rw (
+      eq-eqb (a .level) 0 (c .before .before .before .before .before .before .if1 .taken),
+      ← c .before .before .before .before .before .before .before .before .before .before .before .before .before .before .before .pre .0 .old-is,
+    ) (c .before .before .work-table .ensures)
 
 work-derived-requires : tie.Need-work-derived-requires
-work-derived-requires c κs = let w = c .before .before .before .before .before .before .before .before .before .before .pre .0 in let d = w .derived (c .before .if1 .left) in (w .sized, d .shaped, omega (arith, d .left, w .inside), omega (arith, d .right, w .inside), w .left (c .before .if1 .left), w .right (c .before .if1 .left), d .fits, c .before .before .before .before .before .before .before .before .before .before .pre .1)
+work-derived-requires c κs = let w = c .before .before .before .before .before .before .before .before .before .before .pre .0 in let d = w .derived
+    (c .before .if1 .left) in (
+      w .sized,
+      d .shaped,
+      omega (arith, d .left, w .inside),
+      omega (arith, d .right, w .inside),
+      w .left (c .before .if1 .left),
+      w .right (c .before .if1 .left),
+      d .fits,
+      c .before .before .before .before .before .before .before .before .before .before .pre .1,
+    )
 
 same-length-2 : tie.Need-same-length-2
 same-length-2 c = search needs
 
 returns-2 : tie.Need-returns-2
-returns-2 c = let a = c .before .before .before .before .before .before .before .before .before .before .before .before .before .args in rw (ne-eqb (a .level) 0 (c .before .before .before .before .if1 .left)) (c .before .before .work-derived .ensures)
+returns-2 c = let a = c .before .before .before .before .before .before .before .before .before .before .before .before .before .args
+    in rw (ne-eqb (a .level) 0 (c .before .before .before .before .if1 .left)) (c .before .before .work-derived .ensures)
 
 pub work-rows-spec : {M : Type 1} → statement M
 work-rows-spec =

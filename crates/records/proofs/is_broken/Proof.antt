@@ -1,10 +1,9 @@
-use mathlib.Core.Path.{_≡_, sym, ap, _∙_}
-use Prim.Native.Nat.{ℕ, _-_, _<_, _≤_}
+use mathlib.Core.Path.{sym, ap, _∙_}
+use Prim.Native.Nat.{_-_, _<_, _≤_}
 use lib.Dec.{ltb}
 use lib.ListN.{length}
 use Rattle.model.specs.Record.{lengthAt}
 use Rattle.records.proofs.Header.{broken-rest, broken-size, broken-end}
-use native.Mathlib.Omega.{arith}
 use borrow.Author.Needs.{needs}
 use Rattle.records.proofs.is_broken.Statement.{statement}
 use Rattle.records.proofs.is_broken.Tie as tie

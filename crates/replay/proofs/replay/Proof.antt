@@ -25,7 +25,14 @@ same-length-4 : tie.Need-same-length-4
 same-length-4 c = search needs
 
 returns : tie.Need-returns
-returns c = let a = (c .before .before .before .before .before .before .before .before .before .before .before .before .before .before .before .before .before .before .before .before .before .args) in replay-refused (a .net .now) (a .file .now) (lent (a .rows .now) (a .gained .now) (a .lost .now) (a .head .now)) (verdictOf (c .before .before .before .before .before .before .before .before .before .before .«open» .result)) (lent (c .before .before .before .before .before .before .before .before .before .before .«open» .last .1 .0) (c .before .before .before .before .before .before .before .before .before .before .«open» .last .1 .1 .0) (c .before .before .before .before .before .before .before .before .before .before .«open» .last .1 .1 .1 .0) (c .before .before .before .before .before .before .before .before .before .before .«open» .last .1 .1 .1 .1 .0)) (c .before .before .before .before .before .before .before .before .before .before .«open» .ensures) (c .if1 .taken)
+returns c = let a = (c .before .before .before .before .before .before .before .before .before .before .before .before .before .before .before .before .before .before .before .before .before
+    .args) in replay-refused (a .net .now) (a .file .now) (lent (a .rows .now) (a .gained .now) (a .lost .now) (a .head .now))
+    (verdictOf (c .before .before .before .before .before .before .before .before .before .before .«open» .result))
+    (lent (c .before .before .before .before .before .before .before .before .before .before .«open» .last .1 .0)
+    (c .before .before .before .before .before .before .before .before .before .before .«open» .last .1 .1 .0)
+    (c .before .before .before .before .before .before .before .before .before .before .«open» .last .1 .1 .1 .0)
+    (c .before .before .before .before .before .before .before .before .before .before .«open» .last .1 .1 .1 .1 .0))
+    (c .before .before .before .before .before .before .before .before .before .before .«open» .ensures) (c .if1 .taken)
 
 replay-batches-requires : tie.Need-replay-batches-requires
 replay-batches-requires c κs = search needs
@@ -43,7 +50,27 @@ same-length-8 : tie.Need-same-length-8
 same-length-8 c = search needs
 
 returns-2 : tie.Need-returns-2
-returns-2 c = let a = (c .before .before .before .before .before .before .before .before .before .before .before .before .before .before .before .before .before .before .before .before .before .before .before .before .before .before .before .before .before .before .before .before .before .before .args) in replay-held (a .net .now) (a .file .now) (lent (a .rows .now) (a .gained .now) (a .lost .now) (a .head .now)) (verdictOf (c .before .before .before .before .before .before .before .before .before .before .before .before .before .before .before .before .before .before .before .before .before .before .before .«open» .result)) (lent (c .before .before .before .before .before .before .before .before .before .before .before .before .before .before .before .before .before .before .before .before .before .before .before .«open» .last .1 .0) (c .before .before .before .before .before .before .before .before .before .before .before .before .before .before .before .before .before .before .before .before .before .before .before .«open» .last .1 .1 .0) (c .before .before .before .before .before .before .before .before .before .before .before .before .before .before .before .before .before .before .before .before .before .before .before .«open» .last .1 .1 .1 .0) (c .before .before .before .before .before .before .before .before .before .before .before .before .before .before .before .before .before .before .before .before .before .before .before .«open» .last .1 .1 .1 .1 .0)) (lent (c .before .before .before .before .before .before .before .before .replay-batches .last .1 .1 .0) (c .before .before .before .before .before .before .before .before .replay-batches .last .1 .1 .1 .0) (c .before .before .before .before .before .before .before .before .replay-batches .last .1 .1 .1 .1 .0) (c .before .before .before .before .before .before .before .before .replay-batches .last .1 .1 .1 .1 .1 .0)) (c .before .before .before .before .before .before .before .before .before .before .before .before .before .before .before .before .before .before .before .before .before .before .before .«open» .ensures) (c .before .before .before .before .before .before .before .before .before .before .before .before .before .if1 .left) (c .before .before .before .before .before .before .before .before .replay-batches .ensures)
+returns-2 c = let a =
+    (c .before .before .before .before .before .before .before .before .before .before .before .before .before .before .before .before .before .before .before .before .before .before .before
+    .before .before .before .before .before .before .before .before .before .before .before .args) in replay-held (a .net .now) (a .file .now)
+    (lent (a .rows .now) (a .gained .now) (a .lost .now) (a .head .now))
+    (verdictOf (c .before .before .before .before .before .before .before .before .before .before .before .before .before .before .before .before .before .before .before .before .before
+    .before .before .«open» .result))
+    (lent (c .before .before .before .before .before .before .before .before .before .before .before .before .before .before .before .before .before .before .before .before .before .before
+    .before .«open» .last .1 .0)
+    (c .before .before .before .before .before .before .before .before .before .before .before .before .before .before .before .before .before .before .before .before .before .before .before
+    .«open» .last .1 .1 .0)
+    (c .before .before .before .before .before .before .before .before .before .before .before .before .before .before .before .before .before .before .before .before .before .before .before
+    .«open» .last .1 .1 .1 .0)
+    (c .before .before .before .before .before .before .before .before .before .before .before .before .before .before .before .before .before .before .before .before .before .before .before
+    .«open» .last .1 .1 .1 .1 .0))
+    (lent (c .before .before .before .before .before .before .before .before .replay-batches .last .1 .1 .0)
+    (c .before .before .before .before .before .before .before .before .replay-batches .last .1 .1 .1 .0)
+    (c .before .before .before .before .before .before .before .before .replay-batches .last .1 .1 .1 .1 .0)
+    (c .before .before .before .before .before .before .before .before .replay-batches .last .1 .1 .1 .1 .1 .0))
+    (c .before .before .before .before .before .before .before .before .before .before .before .before .before .before .before .before .before .before .before .before .before .before .before
+    .«open» .ensures) (c .before .before .before .before .before .before .before .before .before .before .before .before .before .if1 .left)
+    (c .before .before .before .before .before .before .before .before .replay-batches .ensures)
 
 pub replay-spec : {M : Type 1} → statement M
 replay-spec =

@@ -7,7 +7,8 @@ use Rattle.reports.proofs.put_allowed.Lts as lts
 use Rattle.reports.proofs.put_records.Reads as put-records-reads
 
 put-records-requires : tie.Need-put-records-requires
-put-records-requires c κs = let room = rw (c .before .if1 .taken) at (c .before .before .before .before .pre .4) in (c .before .before .before .before .pre .0, c .before .before .before .before .pre .1, c .before .before .before .before .pre .2, c .before .before .before .before .pre .3, room)
+put-records-requires c κs = let room = rw (c .before .if1 .taken) at (c .before .before .before .before .pre .4)
+    in (c .before .before .before .before .pre .0, c .before .before .before .before .pre .1, c .before .before .before .before .pre .2, c .before .before .before .before .pre .3, room)
 
 same-length : tie.Need-same-length
 same-length c = search needs

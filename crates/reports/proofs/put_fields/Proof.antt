@@ -54,8 +54,16 @@ loop-less c = omega arith
 loop-again : tie.Need-loop-again Inv-loop μ-loop
 loop-again c =
     let a = c .before .before .before .before .before .before .before .before .before .args in
-    let here = sets-more (a .out .now) (c .before .before .before .before .before .before .loop .out) (c .before .before .put32 .last .0) (a .at) (a .at + 4 * c .before .before .before .before .before .before .loop .k) (flatMap bytes32 (fields (c .before .before .before .before .before .before .loop .k) (a .words .now) (a .from))) (bytes32 (getD (a .words .now) (a .from + c .before .before .before .before .before .before .loop .k) 0)) (c .before .before .before .before .before .before .loop .inv .1) (ap (λ (n : ℕ). a .at + n) (sym (fields-size (c .before .before .before .before .before .before .loop .k) (a .words .now) (a .from)))) (c .before .before .put32 .ensures) in
-    (omega arith, here ∙ ap (sets (a .out .now) (a .at)) (sym (fields-more (c .before .before .before .before .before .before .loop .k) (a .words .now) (a .from))), ap length (c .before .before .put32 .ensures) ∙ length-sets (c .before .before .before .before .before .before .loop .out) (a .at + 4 * c .before .before .before .before .before .before .loop .k) (bytes32 (getD (a .words .now) (a .from + c .before .before .before .before .before .before .loop .k) 0)) ∙ c .before .before .before .before .before .before .loop .inv .2)
+    let here = sets-more (a .out .now) (c .before .before .before .before .before .before .loop .out) (c .before .before .put32 .last .0) (a .at)
+    (a .at + 4 * c .before .before .before .before .before .before .loop .k) (flatMap bytes32 (fields (c .before .before .before .before .before .before .loop .k) (a .words .now) (a .from)))
+    (bytes32 (getD (a .words .now) (a .from + c .before .before .before .before .before .before .loop .k) 0)) (c .before .before .before .before .before .before .loop .inv .1)
+    (ap (λ (n : ℕ). a .at + n) (sym (fields-size (c .before .before .before .before .before .before .loop .k) (a .words .now) (a .from)))) (c .before .before .put32 .ensures) in (
+      omega arith,
+      here ∙ ap (sets (a .out .now) (a .at)) (sym (fields-more (c .before .before .before .before .before .before .loop .k) (a .words .now) (a .from))),
+      ap length (c .before .before .put32 .ensures) ∙ length-sets (c .before .before .before .before .before .before .loop .out)
+          (a .at + 4 * c .before .before .before .before .before .before .loop .k) (bytes32 (getD (a .words .now) (a .from + c .before .before .before .before .before .before .loop .k) 0))
+          ∙ c .before .before .before .before .before .before .loop .inv .2,
+    )
 
 same-length : tie.Need-same-length Inv-loop μ-loop
 same-length c = omega arith

@@ -30,10 +30,12 @@ loop-holds : tie.Need-loop-holds Inv-loop μ-loop
 loop-holds c = let a = c .before .before .args in (omega arith, refl, ap (sets (a .out .now) (a .at)) (sym (held-none (a .kind) (a .node) (a .w) (a .area .now))), refl)
 
 mul-put-record : tie.Need-mul-put-record Inv-loop μ-loop
-mul-put-record c = let a = c .before .before .before .before .before .args in omega (arith, size-bound (c .before .before .loop .j) (a .w) (omega arith) (c .before .before .before .before .before .pre .0))
+mul-put-record c = let a = c .before .before .before .before .before .args in omega
+    (arith, size-bound (c .before .before .loop .j) (a .w) (omega arith) (c .before .before .before .before .before .pre .0))
 
 add-put-record : tie.Need-add-put-record Inv-loop μ-loop
-add-put-record c = let a = c .before .before .before .before .before .args in omega (arith, step-inside (a .n) (c .before .before .loop .j) (6 + 4 * a .w) (a .at) (length (a .out .now)) (omega arith) (c .before .before .before .before .before .pre .4))
+add-put-record c = let a = c .before .before .before .before .before .args in omega
+    (arith, step-inside (a .n) (c .before .before .loop .j) (6 + 4 * a .w) (a .at) (length (a .out .now)) (omega arith) (c .before .before .before .before .before .pre .4))
 
 mul-put-record-2 : tie.Need-mul-put-record-2 Inv-loop μ-loop
 mul-put-record-2 c = omega arith
@@ -45,7 +47,17 @@ add-put-record-2 : tie.Need-add-put-record-2 Inv-loop μ-loop
 add-put-record-2 c = omega arith
 
 put-record-requires : tie.Need-put-record-requires Inv-loop μ-loop
-put-record-requires c κs = let a = c .before .before .before .before .before .args in (c .before .before .before .before .before .pre .0, omega (arith, c .before .before .loop .inv .3, step-inside (a .n) (c .before .before .loop .j) (6 + 4 * a .w) (a .at) (length (a .out .now)) (omega arith) (c .before .before .before .before .before .pre .4)), omega arith)
+put-record-requires c κs = let a = c .before .before .before .before .before .args
+    in (
+      c .before .before .before .before .before .pre .0,
+      omega (
+        arith,
+        c .before .before .loop .inv .3,
+        step-inside (a .n) (c .before .before .loop .j) (6 + 4 * a .w) (a .at) (length (a .out .now)) (omega arith)
+            (c .before .before .before .before .before .pre .4),
+      ),
+      omega arith,
+    )
 
 add-j : tie.Need-add-j Inv-loop μ-loop
 add-j c = omega arith
@@ -56,8 +68,20 @@ loop-less c = omega arith
 loop-again : tie.Need-loop-again Inv-loop μ-loop
 loop-again c =
     let a = c .before .before .before .before .before .before .before .before .args in
-    let here = sets-more (a .out .now) (c .before .before .before .before .before .loop .out) (c .before .before .put-record .last .0) (a .at) (a .at + c .before .before .before .before .before .loop .j * (6 + 4 * a .w)) (recordsOf (a .kind) (a .node) (heldIn layout (a .w) (c .before .before .before .before .before .loop .j) (a .area .now) (a .node))) (changeRecord (a .kind) (a .node) (fields (a .w) (a .area .now) (a .node * 256 + c .before .before .before .before .before .loop .j * 4))) (c .before .before .before .before .before .loop .inv .2) (ap (λ (k : ℕ). a .at + k) (sym (held-size (a .kind) (a .node) (a .w) (c .before .before .before .before .before .loop .j) (a .area .now)))) (c .before .before .put-record .ensures) in
-    (omega arith, refl, here ∙ ap (sets (a .out .now) (a .at)) (sym (records-more (a .kind) (a .node) (a .w) (c .before .before .before .before .before .loop .j) (a .area .now))), ap length (c .before .before .put-record .ensures) ∙ length-sets (c .before .before .before .before .before .loop .out) (a .at + c .before .before .before .before .before .loop .j * (6 + 4 * a .w)) (changeRecord (a .kind) (a .node) (fields (a .w) (a .area .now) (a .node * 256 + c .before .before .before .before .before .loop .j * 4))) ∙ c .before .before .before .before .before .loop .inv .3)
+    let here = sets-more (a .out .now) (c .before .before .before .before .before .loop .out) (c .before .before .put-record .last .0) (a .at)
+    (a .at + c .before .before .before .before .before .loop .j * (6 + 4 * a .w))
+    (recordsOf (a .kind) (a .node) (heldIn layout (a .w) (c .before .before .before .before .before .loop .j) (a .area .now) (a .node)))
+    (changeRecord (a .kind) (a .node) (fields (a .w) (a .area .now) (a .node * 256 + c .before .before .before .before .before .loop .j * 4)))
+    (c .before .before .before .before .before .loop .inv .2)
+    (ap (λ (k : ℕ). a .at + k) (sym (held-size (a .kind) (a .node) (a .w) (c .before .before .before .before .before .loop .j) (a .area .now)))) (c .before .before .put-record .ensures) in (
+      omega arith,
+      refl,
+      here ∙ ap (sets (a .out .now) (a .at)) (sym (records-more (a .kind) (a .node) (a .w) (c .before .before .before .before .before .loop .j) (a .area .now))),
+      ap length (c .before .before .put-record .ensures) ∙ length-sets (c .before .before .before .before .before .loop .out)
+          (a .at + c .before .before .before .before .before .loop .j * (6 + 4 * a .w))
+          (changeRecord (a .kind) (a .node) (fields (a .w) (a .area .now) (a .node * 256 + c .before .before .before .before .before .loop .j * 4)))
+          ∙ c .before .before .before .before .before .loop .inv .3,
+    )
 
 same-length : tie.Need-same-length Inv-loop μ-loop
 same-length c = omega arith

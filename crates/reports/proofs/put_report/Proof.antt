@@ -36,14 +36,36 @@ allowed-size-requires c κs = search needs
 put-allowed-requires : tie.Need-put-allowed-requires
 put-allowed-requires c κs =
     let a = c .before .before .before .before .before .before .before .args in
-    let room = room-for (c .before .before .before .allows-gained .result) (c .before .before .allows-lost .result) (allowsGained (a .sign)) (allowsLost (a .sign)) (a .g * (6 + 4 * a .w)) (a .l * (6 + 4 * a .w)) (length (a .out .now)) (c .before .before .before .allows-gained .ensures) (c .before .before .allows-lost .ensures) (c .before .before .before .before .before .before .before .pre .6) in
-    (c .before .before .before .before .before .before .before .pre .0, c .before .before .before .before .before .before .before .pre .1, c .before .before .before .before .before .before .before .pre .3, c .before .before .before .before .before .before .before .pre .4, omega (arith, room))
+    let room = room-for (c .before .before .before .allows-gained .result) (c .before .before .allows-lost .result) (allowsGained (a .sign)) (allowsLost (a .sign)) (a .g * (6 + 4 * a .w))
+    (a .l * (6 + 4 * a .w)) (length (a .out .now)) (c .before .before .before .allows-gained .ensures) (c .before .before .allows-lost .ensures)
+    (c .before .before .before .before .before .before .before .pre .6) in (
+      c .before .before .before .before .before .before .before .pre .0,
+      c .before .before .before .before .before .before .before .pre .1,
+      c .before .before .before .before .before .before .before .pre .3,
+      c .before .before .before .before .before .before .before .pre .4,
+      omega (arith, room),
+    )
 
 put-allowed-requires-2 : tie.Need-put-allowed-requires-2
 put-allowed-requires-2 c κs =
     let a = c .before .before .before .before .before .before .before .before .before .before .before .args in
-    let room = room-for (c .before .before .before .before .before .before .before .allows-gained .result) (c .before .before .before .before .before .before .allows-lost .result) (allowsGained (a .sign)) (allowsLost (a .sign)) (a .g * (6 + 4 * a .w)) (a .l * (6 + 4 * a .w)) (length (a .out .now)) (c .before .before .before .before .before .before .before .allows-gained .ensures) (c .before .before .before .before .before .before .allows-lost .ensures) (c .before .before .before .before .before .before .before .before .before .before .before .pre .6) in
-    (c .before .before .before .before .before .before .before .before .before .before .before .pre .0, c .before .before .before .before .before .before .before .before .before .before .before .pre .2, c .before .before .before .before .before .before .before .before .before .before .before .pre .3, c .before .before .before .before .before .before .before .before .before .before .before .pre .5, omega (arith, room, c .before .before .before .before .before .allowed-size .ensures, ap length (c .before .before .before .put-allowed .ensures) ∙ length-sets (a .out .now) 0 (allowedOf (c .before .before .before .before .before .before .before .allows-gained .result) 64 (a .node) (heldIn layout (a .w) (a .g) (a .gained .now) (a .node)))))
+    let room = room-for (c .before .before .before .before .before .before .before .allows-gained .result) (c .before .before .before .before .before .before .allows-lost .result)
+    (allowsGained (a .sign)) (allowsLost (a .sign)) (a .g * (6 + 4 * a .w)) (a .l * (6 + 4 * a .w)) (length (a .out .now))
+    (c .before .before .before .before .before .before .before .allows-gained .ensures) (c .before .before .before .before .before .before .allows-lost .ensures)
+    (c .before .before .before .before .before .before .before .before .before .before .before .pre .6) in (
+      c .before .before .before .before .before .before .before .before .before .before .before .pre .0,
+      c .before .before .before .before .before .before .before .before .before .before .before .pre .2,
+      c .before .before .before .before .before .before .before .before .before .before .before .pre .3,
+      c .before .before .before .before .before .before .before .before .before .before .before .pre .5,
+      omega (
+        arith,
+        room,
+        c .before .before .before .before .before .allowed-size .ensures,
+        ap length (c .before .before .before .put-allowed .ensures)
+            ∙ length-sets (a .out .now) 0
+            (allowedOf (c .before .before .before .before .before .before .before .allows-gained .result) 64 (a .node) (heldIn layout (a .w) (a .g) (a .gained .now) (a .node))),
+      ),
+    )
 
 same-length : tie.Need-same-length
 same-length c = search needs
@@ -52,10 +74,41 @@ returns : tie.Need-returns
 unfolding reportBytes
 returns c =
     let a = c .before .before .before .before .before .before .before .before .before .before .before .before .before .before .args in
-    let room = room-for (c .before .before .before .before .before .before .before .before .before .before .allows-gained .result) (c .before .before .before .before .before .before .before .before .before .allows-lost .result) (allowsGained (a .sign)) (allowsLost (a .sign)) (a .g * (6 + 4 * a .w)) (a .l * (6 + 4 * a .w)) (length (a .out .now)) (c .before .before .before .before .before .before .before .before .before .before .allows-gained .ensures) (c .before .before .before .before .before .before .before .before .before .allows-lost .ensures) (c .before .before .before .before .before .before .before .before .before .before .before .before .before .before .pre .6) in
-    let both = sets-more (a .out .now) (c .before .before .before .before .before .before .put-allowed .last .1 .0) (c .before .before .put-allowed2 .last .1 .0) 0 (c .before .before .before .before .before .before .before .before .allowed-size .result) (allowedOf (c .before .before .before .before .before .before .before .before .before .before .allows-gained .result) 64 (a .node) (heldIn layout (a .w) (a .g) (a .gained .now) (a .node))) (allowedOf (c .before .before .before .before .before .before .before .before .before .allows-lost .result) 65 (a .node) (heldIn layout (a .w) (a .l) (a .lost .now) (a .node))) (c .before .before .before .before .before .before .put-allowed .ensures) (c .before .before .before .before .before .before .before .before .allowed-size .ensures ∙ sym (allowed-size-is (c .before .before .before .before .before .before .before .before .before .before .allows-gained .result) 64 (a .node) (a .w) (a .g) (a .gained .now)) ∙ sym (zero-add (length (allowedOf (c .before .before .before .before .before .before .before .before .before .before .allows-gained .result) 64 (a .node) (heldIn layout (a .w) (a .g) (a .gained .now) (a .node)))))) (c .before .before .put-allowed2 .ensures) in
-    let size = length-append (allowedOf (c .before .before .before .before .before .before .before .before .before .before .allows-gained .result) 64 (a .node) (heldIn layout (a .w) (a .g) (a .gained .now) (a .node))) (allowedOf (c .before .before .before .before .before .before .before .before .before .allows-lost .result) 65 (a .node) (heldIn layout (a .w) (a .l) (a .lost .now) (a .node))) in
-    both ∙ sets-first (a .out .now) ((allowedOf (c .before .before .before .before .before .before .before .before .before .before .allows-gained .result) 64 (a .node) (heldIn layout (a .w) (a .g) (a .gained .now) (a .node))) ++ (allowedOf (c .before .before .before .before .before .before .before .before .before .allows-lost .result) 65 (a .node) (heldIn layout (a .w) (a .l) (a .lost .now) (a .node)))) (omega (arith, size, (allowed-size-is (c .before .before .before .before .before .before .before .before .before .before .allows-gained .result) 64 (a .node) (a .w) (a .g) (a .gained .now)), (allowed-size-is (c .before .before .before .before .before .before .before .before .before .allows-lost .result) 65 (a .node) (a .w) (a .l) (a .lost .now)), room)) ∙ rw (c .before .before .before .before .before .before .before .before .before .before .allows-gained .ensures, c .before .before .before .before .before .before .before .before .before .allows-lost .ensures)
+    let room = room-for (c .before .before .before .before .before .before .before .before .before .before .allows-gained .result)
+    (c .before .before .before .before .before .before .before .before .before .allows-lost .result) (allowsGained (a .sign)) (allowsLost (a .sign)) (a .g * (6 + 4 * a .w))
+    (a .l * (6 + 4 * a .w)) (length (a .out .now)) (c .before .before .before .before .before .before .before .before .before .before .allows-gained .ensures)
+    (c .before .before .before .before .before .before .before .before .before .allows-lost .ensures)
+    (c .before .before .before .before .before .before .before .before .before .before .before .before .before .before .pre .6) in
+    let both = sets-more (a .out .now) (c .before .before .before .before .before .before .put-allowed .last .1 .0) (c .before .before .put-allowed2 .last .1 .0) 0
+    (c .before .before .before .before .before .before .before .before .allowed-size .result)
+    (allowedOf (c .before .before .before .before .before .before .before .before .before .before .allows-gained .result) 64 (a .node)
+    (heldIn layout (a .w) (a .g) (a .gained .now) (a .node)))
+    (allowedOf (c .before .before .before .before .before .before .before .before .before .allows-lost .result) 65 (a .node) (heldIn layout (a .w) (a .l) (a .lost .now) (a .node)))
+    (c .before .before .before .before .before .before .put-allowed .ensures)
+    (c .before .before .before .before .before .before .before .before .allowed-size .ensures
+    ∙ sym (allowed-size-is (c .before .before .before .before .before .before .before .before .before .before .allows-gained .result) 64 (a .node) (a .w) (a .g) (a .gained .now))
+    ∙ sym (zero-add (length
+    (allowedOf (c .before .before .before .before .before .before .before .before .before .before .allows-gained .result) 64 (a .node)
+    (heldIn layout (a .w) (a .g) (a .gained .now) (a .node)))))) (c .before .before .put-allowed2 .ensures) in
+    let size = length-append
+    (allowedOf (c .before .before .before .before .before .before .before .before .before .before .allows-gained .result) 64 (a .node)
+    (heldIn layout (a .w) (a .g) (a .gained .now) (a .node)))
+    (allowedOf (c .before .before .before .before .before .before .before .before .before .allows-lost .result) 65 (a .node) (heldIn layout (a .w) (a .l) (a .lost .now) (a .node))) in
+    both ∙ sets-first (a .out .now)
+    ((allowedOf (c .before .before .before .before .before .before .before .before .before .before .allows-gained .result) 64 (a .node)
+    (heldIn layout (a .w) (a .g) (a .gained .now) (a .node))) ++
+    (allowedOf (c .before .before .before .before .before .before .before .before .before .allows-lost .result) 65 (a .node) (heldIn layout (a .w) (a .l) (a .lost .now) (a .node))))
+    (omega (
+      arith,
+      size,
+      (allowed-size-is (c .before .before .before .before .before .before .before .before .before .before .allows-gained .result) 64 (a .node) (a .w) (a .g)
+          (a .gained .now)),
+      (allowed-size-is (c .before .before .before .before .before .before .before .before .before .allows-lost .result) 65 (a .node) (a .w) (a .l) (a .lost .now)),
+      room,
+    )) ∙ rw (
+      c .before .before .before .before .before .before .before .before .before .before .allows-gained .ensures,
+      c .before .before .before .before .before .before .before .before .before .allows-lost .ensures,
+    )
 
 pub put-report-spec : {M : Type 1} → statement M
 put-report-spec =

@@ -25,10 +25,20 @@ allowed-size-requires-2 : tie.Need-allowed-size-requires-2
 allowed-size-requires-2 c κs = search needs
 
 add-result : tie.Need-add-result
-add-result c = let a = c .before .before .before .before .args in omega (arith, c .before .before .allowed-size .ensures, c .allowed-size2 .ensures, allowed-bound (c .before .before .before .allows-gained .result) (a .gained) (a .w) (c .before .before .before .before .pre .1) (c .before .before .before .before .pre .0), allowed-bound (c .before .allows-lost .result) (a .lost) (a .w) (c .before .before .before .before .pre .2) (c .before .before .before .before .pre .0))
+add-result c = let a = c .before .before .before .before .args in omega (
+  arith,
+  c .before .before .allowed-size .ensures,
+  c .allowed-size2 .ensures,
+  allowed-bound (c .before .before .before .allows-gained .result) (a .gained) (a .w)
+      (c .before .before .before .before .pre .1) (c .before .before .before .before .pre .0),
+  allowed-bound (c .before .allows-lost .result) (a .lost) (a .w)
+      (c .before .before .before .before .pre .2) (c .before .before .before .before .pre .0),
+)
 
 returns : tie.Need-returns
-returns c = let a = c .before .before .before .before .args in ap₂ {A = ℕ} {B = ℕ} {C = ℕ} (λ x y. x + y) (c .before .before .allowed-size .ensures ∙ ap (λ (t : Bool). cond t (a .gained * (6 + 4 * a .w)) 0) (c .before .before .before .allows-gained .ensures)) (c .allowed-size2 .ensures ∙ ap (λ (t : Bool). cond t (a .lost * (6 + 4 * a .w)) 0) (c .before .allows-lost .ensures))
+returns c = let a = c .before .before .before .before .args in ap₂ {A = ℕ} {B = ℕ} {C = ℕ} (λ x y. x + y)
+    (c .before .before .allowed-size .ensures ∙ ap (λ (t : Bool). cond t (a .gained * (6 + 4 * a .w)) 0) (c .before .before .before .allows-gained .ensures))
+    (c .allowed-size2 .ensures ∙ ap (λ (t : Bool). cond t (a .lost * (6 + 4 * a .w)) 0) (c .before .allows-lost .ensures))
 
 pub report-size-spec : {M : Type 1} → statement M
 report-size-spec =

@@ -4,7 +4,6 @@ use lib.ListN.{length, length-set}
 use Rattle.rows.specs.Rows.{stride}
 use Rattle.rows.proofs.Words.{shut, shut-none, shut-turn}
 use native.Mathlib.Omega.{arith}
-use borrow.Author.Needs.{needs}
 use Rattle.rows.proofs.close_gap.Statement.{statement}
 use Rattle.rows.proofs.close_gap.Tie as tie
 use Rattle.rows.proofs.close_gap.Reads as reads

@@ -2,7 +2,6 @@ use Prim.Native.Nat.{_≤_, _-_}
 use mathlib.Core.Path.{sym}
 use Rattle.rows.proofs.Words.{Agree, agree-none, agree-more, agree-less, agree-greater, agree-all}
 use native.Mathlib.Omega.{arith}
-use borrow.Author.Needs.{needs}
 use Rattle.rows.proofs.compare_fields.Statement.{statement}
 use Rattle.rows.proofs.compare_fields.Tie as tie
 use Rattle.rows.proofs.compare_fields.Reads as reads

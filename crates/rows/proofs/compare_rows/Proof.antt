@@ -1,5 +1,4 @@
 use Rattle.rows.specs.Rows.{rowAt}
-use native.Mathlib.Omega.{arith}
 use borrow.Author.Needs.{needs}
 use Rattle.rows.proofs.compare_rows.Statement.{statement}
 use Rattle.rows.proofs.compare_rows.Tie as tie

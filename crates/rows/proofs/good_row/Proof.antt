@@ -1,7 +1,6 @@
-use mathlib.Core.Path.{_≡_, refl, sym, ap, _∙_}
+use mathlib.Core.Path.{sym, ap, _∙_}
 use borrow.Author.Tests.{not-true, not-false}
 use Rattle.rows.specs.Rows.{stride, orderOf}
-use Rattle.rows.specs.declared.Order.{Order}
 use Rattle.rows.specs.declared.Order.the-variants.{Less, Equal, Greater}
 use Rattle.rows.proofs.Form.{row-unclean, row-last, row-next}
 use native.Mathlib.Omega.{arith}
@@ -36,7 +35,8 @@ add-if2 c = search needs
 returns-2 : tie.Need-returns-2
 returns-2 c =
     let a = c .before .before .before .before .args in
-    sym (row-last (a .width) stride (a .words .now) (a .j) (a .n) (omega arith) (omega arith) (omega arith) (sym (c .before .before .all-zero .ensures) ∙ not-false _ (c .before .if1 .left)) (omega arith))
+    sym (row-last (a .width) stride (a .words .now) (a .j) (a .n) (omega arith) (omega arith) (omega arith) (sym (c .before .before .all-zero .ensures) ∙ not-false _ (c .before .if1 .left))
+    (omega arith))
 
 compare-fields-requires : tie.Need-compare-fields-requires
 compare-fields-requires c κs = search needs
@@ -54,19 +54,25 @@ returns-3 : tie.Need-returns-3
 returns-3 c =
     let s = c .before .before .before .before .before .before .before in
     let a = s .args in
-    sym (row-next (a .width) stride (a .words .now) (a .j) (a .n) (omega arith) (omega arith) (omega arith) (orderOf Less) (sym (c .before .before .before .before .before .all-zero .ensures) ∙ not-false _ (c .before .before .before .before .if1 .left)) (omega arith) (ap orderOf (sym (c .enum-told .given .1)) ∙ c .before .before .compare-fields .ensures))
+    sym (row-next (a .width) stride (a .words .now) (a .j) (a .n) (omega arith) (omega arith) (omega arith) (orderOf Less)
+    (sym (c .before .before .before .before .before .all-zero .ensures) ∙ not-false _ (c .before .before .before .before .if1 .left)) (omega arith)
+    (ap orderOf (sym (c .enum-told .given .1)) ∙ c .before .before .compare-fields .ensures))
 
 returns-4 : tie.Need-returns-4
 returns-4 c =
     let s = c .before .before .before .before .before .before .before in
     let a = s .args in
-    sym (row-next (a .width) stride (a .words .now) (a .j) (a .n) (omega arith) (omega arith) (omega arith) (orderOf Equal) (sym (c .before .before .before .before .before .all-zero .ensures) ∙ not-false _ (c .before .before .before .before .if1 .left)) (omega arith) (ap orderOf (sym (c .enum-told2 .given .1)) ∙ c .before .before .compare-fields .ensures))
+    sym (row-next (a .width) stride (a .words .now) (a .j) (a .n) (omega arith) (omega arith) (omega arith) (orderOf Equal)
+    (sym (c .before .before .before .before .before .all-zero .ensures) ∙ not-false _ (c .before .before .before .before .if1 .left)) (omega arith)
+    (ap orderOf (sym (c .enum-told2 .given .1)) ∙ c .before .before .compare-fields .ensures))
 
 returns-5 : tie.Need-returns-5
 returns-5 c =
     let s = c .before .before .before .before .before .before .before in
     let a = s .args in
-    sym (row-next (a .width) stride (a .words .now) (a .j) (a .n) (omega arith) (omega arith) (omega arith) (orderOf Greater) (sym (c .before .before .before .before .before .all-zero .ensures) ∙ not-false _ (c .before .before .before .before .if1 .left)) (omega arith) (ap orderOf (sym (c .enum-told3 .given .1)) ∙ c .before .before .compare-fields .ensures))
+    sym (row-next (a .width) stride (a .words .now) (a .j) (a .n) (omega arith) (omega arith) (omega arith) (orderOf Greater)
+    (sym (c .before .before .before .before .before .all-zero .ensures) ∙ not-false _ (c .before .before .before .before .if1 .left)) (omega arith)
+    (ap orderOf (sym (c .enum-told3 .given .1)) ∙ c .before .before .compare-fields .ensures))
 
 pub good-row-spec : {M : Type 1} → statement M
 good-row-spec =

@@ -1,10 +1,9 @@
 use Prim.Native.Nat.{_≤_, _-_}
-use mathlib.Core.Path.{_≡_, refl, sym, ap, _∙_}
+use mathlib.Core.Path.{sym, _∙_}
 use borrow.Author.Tests.{not-true, not-false}
-use Rattle.rows.specs.Rows.{stride, rowsFrom, goodRows}
+use Rattle.rows.specs.Rows.{stride}
 use Rattle.rows.proofs.Form.{GoodTo, good-none, good-more, good-not, good-all}
 use native.Mathlib.Omega.{arith}
-use borrow.Author.Needs.{needs}
 use Rattle.rows.proofs.good_rows.Statement.{statement}
 use Rattle.rows.proofs.good_rows.Tie as tie
 use Rattle.rows.proofs.good_rows.Reads as reads

@@ -1,12 +1,11 @@
-use mathlib.Core.Path.{_≡_, refl, sym, ap, _∙_}
+use mathlib.Core.Path.{sym, ap, _∙_}
 use mathlib.Core.List.{List}
-use lib.ListN.{drop, length}
+use lib.ListN.{drop}
 use lib.Seq.{paste}
 use Prim.Native.Nat.{ℕ, _≤_, _*_}
-use Rattle.model.specs.Row.{Row}
 use Rattle.model.proofs.Sets.{Ascending, ascending-holds}
 use Rattle.rows.specs.Rows.{stride, rowAt, firstRows}
-use Rattle.rows.specs.declared.Found.the-variants.{At, Missing}
+use Rattle.rows.specs.declared.Found.the-variants.{Missing}
 use Rattle.rows.proofs.Search.{Spot, located-as}
 use Rattle.rows.proofs.Words.{length-rows, put-copied}
 use Rattle.rows.proofs.Edit.{inserts-present, inserts-full, inserts-new}
@@ -25,7 +24,9 @@ ascends : (c : tie.Start) → Ascending (firstRows (c .args .words .now) (c .arg
 ascends c = ascending-holds (firstRows (c .args .words .now) (c .args .n)) (c .pre .3)
 
 -- the row is missing: its place is within the rows
-spot : (c : tie.After-p) → Spot (Missing (c .p .given .0 .0)) (rowAt stride (c .before .before .before .before .before .before .args .src .now) (c .before .before .before .before .before .before .args .at)) (firstRows (c .before .before .before .before .before .before .args .words .now) (c .before .before .before .before .before .before .args .n))
+spot : (c : tie.After-p) →
+    Spot (Missing (c .p .given .0 .0)) (rowAt stride (c .before .before .before .before .before .before .args .src .now) (c .before .before .before .before .before .before .args .at))
+    (firstRows (c .before .before .before .before .before .before .args .words .now) (c .before .before .before .before .before .before .args .n))
 spot c = located-as _ _ _ (ascends (c .before .before .before .before .before .before)) (sym (c .before .before .find .ensures) ∙ c .p .given .1)
 
 within : (c : tie.After-p) → c .p .given .0 .0 ≤ c .before .before .before .before .before .before .args .n
@@ -46,7 +47,8 @@ same-length c = search needs
 returns : tie.Need-returns
 returns c =
     let a = c .before .before .before .before .before .before .before .before .args in
-    inserts-full (a .capacity) (rowAt stride (a .src .now) (a .at)) (firstRows (a .words .now) (a .n)) (a .words .now) (c .before .before .p .given .0 .0) (spot (c .before .before)) (rw length-rows (c .if1 .taken))
+    inserts-full (a .capacity) (rowAt stride (a .src .now) (a .at)) (firstRows (a .words .now) (a .n)) (a .words .now) (c .before .before .p .given .0 .0) (spot (c .before .before))
+    (rw length-rows (c .if1 .taken))
 
 mul-open-gap : tie.Need-mul-open-gap
 mul-open-gap c = omega (arith, within (c .before .before .before))
@@ -72,7 +74,8 @@ same-length-2 c = search needs
 returns-2 : tie.Need-returns-2
 returns-2 c =
     let a = c .before .before .before .before .before .before .args in
-    inserts-present (a .capacity) (rowAt stride (a .src .now) (a .at)) (firstRows (a .words .now) (a .n)) (a .words .now) (c .enum-told .given .0 .0) (located-as _ _ _ (ascends (c .before .before .before .before .before .before)) (sym (c .before .before .find .ensures) ∙ c .enum-told .given .1))
+    inserts-present (a .capacity) (rowAt stride (a .src .now) (a .at)) (firstRows (a .words .now) (a .n)) (a .words .now) (c .enum-told .given .0 .0)
+    (located-as _ _ _ (ascends (c .before .before .before .before .before .before)) (sym (c .before .before .find .ensures) ∙ c .enum-told .given .1))
 
 same-length-3 : tie.Need-same-length-3
 same-length-3 c = search needs
@@ -80,11 +83,15 @@ same-length-3 c = search needs
 returns-3 : tie.Need-returns-3
 returns-3 c =
     let a = c .before .before .before .before .before .before .before .before .before .before .before .before .before .before .before .before .args in
-    inserts-new (a .capacity) (rowAt stride (a .src .now) (a .at)) (firstRows (a .words .now) (a .n)) (a .words .now) (c .before .before .before .before .before .before .before .before .before .before .p .given .0 .0) (c .before .before .copy-run .last .1 .1 .0) (spot (c .before .before .before .before .before .before .before .before .before .before))
+    inserts-new (a .capacity) (rowAt stride (a .src .now) (a .at)) (firstRows (a .words .now) (a .n)) (a .words .now)
+    (c .before .before .before .before .before .before .before .before .before .before .p .given .0 .0) (c .before .before .copy-run .last .1 .1 .0)
+    (spot (c .before .before .before .before .before .before .before .before .before .before))
     (rw length-rows (c .before .before .before .before .before .before .before .before .if1 .left))
     (c .before .before .copy-run .ensures
-    ∙ ap (λ (l : List ℕ). paste l (c .before .before .before .before .before .before .before .before .before .before .p .given .0 .0 * stride) (drop (a .at * stride) (a .src .now)) stride) (c .before .before .before .before .before .before .open-gap .ensures)
-    ∙ put-copied stride (a .src .now) (a .words .now) (a .at) (a .n) (c .before .before .before .before .before .before .before .before .before .before .p .given .0 .0) (omega arith) (omega arith) (within (c .before .before .before .before .before .before .before .before .before .before)))
+    ∙ ap (λ (l : List ℕ). paste l (c .before .before .before .before .before .before .before .before .before .before .p .given .0 .0 * stride) (drop (a .at * stride) (a .src .now)) stride)
+    (c .before .before .before .before .before .before .open-gap .ensures)
+    ∙ put-copied stride (a .src .now) (a .words .now) (a .at) (a .n) (c .before .before .before .before .before .before .before .before .before .before .p .given .0 .0) (omega arith)
+    (omega arith) (within (c .before .before .before .before .before .before .before .before .before .before)))
 
 pub insert-spec : {M : Type 1} → statement M
 insert-spec =

@@ -4,7 +4,6 @@ use lib.ListN.{length, length-set}
 use Rattle.rows.specs.Rows.{stride}
 use Rattle.rows.proofs.Words.{gap, gap-none, gap-turn}
 use native.Mathlib.Omega.{arith}
-use borrow.Author.Needs.{needs}
 use Rattle.rows.proofs.open_gap.Statement.{statement}
 use Rattle.rows.proofs.open_gap.Tie as tie
 use Rattle.rows.proofs.open_gap.Reads as reads
@@ -42,8 +41,13 @@ loop-less c = omega arith
 
 loop-again : tie.Need-loop-again Inv-loop μ-loop
 loop-again c =
-    let at = c .before .before in
-    (omega arith, omega arith, simp length-set (at .loop .inv .2), gap-turn stride (at .loop .k) (at .before .args .to) (at .before .args .words .now) (at .loop .words) (omega arith) (omega arith) (omega arith) (at .loop .inv .3))
+    let at = c .before .before in (
+      omega arith,
+      omega arith,
+      simp length-set (at .loop .inv .2),
+      gap-turn stride (at .loop .k) (at .before .args .to) (at .before .args .words .now) (at .loop .words) (omega arith)
+          (omega arith) (omega arith) (at .loop .inv .3),
+    )
 
 same-length : tie.Need-same-length Inv-loop μ-loop
 same-length c = omega arith

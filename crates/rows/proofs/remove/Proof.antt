@@ -1,12 +1,11 @@
-use mathlib.Core.Path.{_≡_, refl, sym, ap, _∙_}
+use mathlib.Core.Path.{_≡_, sym, ap, _∙_}
 use mathlib.Core.List.{List}
-use lib.ListN.{length, replicate}
+use lib.ListN.{replicate}
 use lib.Seq.{paste}
 use Prim.Native.Nat.{ℕ, _<_, _*_, _-_}
-use Rattle.model.specs.Row.{Row}
 use Rattle.model.proofs.Sets.{Ascending, ascending-holds}
 use Rattle.rows.specs.Rows.{stride, rowAt, firstRows}
-use Rattle.rows.specs.declared.Found.the-variants.{At, Missing}
+use Rattle.rows.specs.declared.Found.the-variants.{At}
 use Rattle.rows.proofs.Search.{Spot, located-as}
 use Rattle.rows.proofs.Words.{length-rows, taken-cleared}
 use Rattle.rows.proofs.Edit.{removes-not, removes-row}
@@ -25,7 +24,9 @@ ascends : (c : tie.Start) → Ascending (firstRows (c .args .words .now) (c .arg
 ascends c = ascending-holds (firstRows (c .args .words .now) (c .args .n)) (c .pre .2)
 
 -- the row is there: its place is within the rows
-spot : (c : tie.After-p) → Spot (At (c .p .given .0 .0)) (rowAt stride (c .before .before .before .before .before .before .args .src .now) (c .before .before .before .before .before .before .args .at)) (firstRows (c .before .before .before .before .before .before .args .words .now) (c .before .before .before .before .before .before .args .n))
+spot : (c : tie.After-p) →
+    Spot (At (c .p .given .0 .0)) (rowAt stride (c .before .before .before .before .before .before .args .src .now) (c .before .before .before .before .before .before .args .at))
+    (firstRows (c .before .before .before .before .before .before .args .words .now) (c .before .before .before .before .before .before .args .n))
 spot c = located-as _ _ _ (ascends (c .before .before .before .before .before .before)) (sym (c .before .before .find .ensures) ∙ c .p .given .1)
 
 within : (c : tie.After-p) → c .p .given .0 .0 < c .before .before .before .before .before .before .args .n
@@ -61,7 +62,8 @@ same-length c = search needs
 returns : tie.Need-returns
 returns c =
     let a = c .before .before .before .before .before .before .args in
-    removes-not (rowAt stride (a .src .now) (a .at)) (firstRows (a .words .now) (a .n)) (a .words .now) (c .enum-told .given .0 .0) (located-as _ _ _ (ascends (c .before .before .before .before .before .before)) (sym (c .before .before .find .ensures) ∙ c .enum-told .given .1))
+    removes-not (rowAt stride (a .src .now) (a .at)) (firstRows (a .words .now) (a .n)) (a .words .now) (c .enum-told .given .0 .0)
+    (located-as _ _ _ (ascends (c .before .before .before .before .before .before)) (sym (c .before .before .find .ensures) ∙ c .enum-told .given .1))
 
 same-length-2 : tie.Need-same-length-2
 same-length-2 c = search needs
@@ -70,11 +72,14 @@ returns-2 : tie.Need-returns-2
 returns-2 c =
     let a = c .before .before .before .before .before .before .before .before .before .before .before .before .before .before .before .args in
     let size : a .n * stride - (a .n * stride - stride) ≡ stride = omega (arith, within (c .before .before .before .before .before .before .before .before .before)) in
-    removes-row (rowAt stride (a .src .now) (a .at)) (firstRows (a .words .now) (a .n)) (a .words .now) (c .before .before .before .before .before .before .before .before .before .p .given .0 .0) (c .before .before .clear-run .last .0) (spot (c .before .before .before .before .before .before .before .before .before))
+    removes-row (rowAt stride (a .src .now) (a .at)) (firstRows (a .words .now) (a .n)) (a .words .now)
+    (c .before .before .before .before .before .before .before .before .before .p .given .0 .0) (c .before .before .clear-run .last .0)
+    (spot (c .before .before .before .before .before .before .before .before .before))
     (c .before .before .clear-run .ensures
     ∙ ap (λ (k : ℕ). paste (c .before .before .before .before .before .before .close-gap .last .0) (a .n * stride - stride) (replicate k 0) k) size
     ∙ ap (λ (l : List ℕ). paste l (a .n * stride - stride) (replicate stride 0) stride) (c .before .before .before .before .before .before .close-gap .ensures)
-    ∙ taken-cleared stride (a .words .now) (a .n) (c .before .before .before .before .before .before .before .before .before .p .given .0 .0) (omega arith) (within (c .before .before .before .before .before .before .before .before .before)))
+    ∙ taken-cleared stride (a .words .now) (a .n) (c .before .before .before .before .before .before .before .before .before .p .given .0 .0) (omega arith)
+    (within (c .before .before .before .before .before .before .before .before .before)))
 
 pub remove-spec : {M : Type 1} → statement M
 remove-spec =

@@ -40,8 +40,13 @@ loop-again : tie.Need-loop-again Inv-loop μ-loop
 loop-again c =
     let a = c .before .before .before .args in
     let k = c .before .before .loop .k in
-    let z : 0 + k ≡ k = omega arith in
-    (omega arith, c .before .before .loop .inv .1, length-set (c .before .before .loop .numbers) k (getD (a .bytes .now) k 0) ∙ c .before .before .loop .inv .2, ap (λ (i : ℕ). set (c .before .before .loop .numbers) i (getD (a .bytes .now) k 0)) (sym z) ∙ put-one (a .numbers .now) (c .before .before .loop .numbers) (a .bytes .now) 0 k (omega arith) (c .before .before .loop .inv .3))
+    let z : 0 + k ≡ k = omega arith in (
+      omega arith,
+      c .before .before .loop .inv .1,
+      length-set (c .before .before .loop .numbers) k (getD (a .bytes .now) k 0) ∙ c .before .before .loop .inv .2,
+      ap (λ (i : ℕ). set (c .before .before .loop .numbers) i (getD (a .bytes .now) k 0)) (sym z) ∙ put-one (a .numbers .now) (c .before .before .loop .numbers) (a .bytes .now) 0 k
+          (omega arith) (c .before .before .loop .inv .3),
+    )
 
 same-length : tie.Need-same-length Inv-loop μ-loop
 same-length c = omega (arith, c .before .loop .inv .2)

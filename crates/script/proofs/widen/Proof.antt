@@ -40,13 +40,21 @@ loop-less : tie.Need-loop-less Inv-loop μ-loop
 loop-less c = omega arith
 
 loop-again : tie.Need-loop-again Inv-loop μ-loop
-loop-again c = let a = (c .before .before .before .args) in let k = c .before .before .loop .k in let z : 0 + k ≡ k = omega arith in (omega arith, c .before .before .loop .inv .1, length-set (c .before .before .loop .numbers) k (getD (a .words .now) k 0) ∙ c .before .before .loop .inv .2, ap (λ (i : ℕ). set (c .before .before .loop .numbers) i (getD (a .words .now) k 0)) (sym z) ∙ put-one (a .numbers .now) (c .before .before .loop .numbers) (a .words .now) 0 k (omega arith) (c .before .before .loop .inv .3))
+loop-again c = let a = (c .before .before .before .args) in let k = c .before .before .loop .k in let z : 0 + k
+    ≡ k = omega arith in (
+      omega arith,
+      c .before .before .loop .inv .1,
+      length-set (c .before .before .loop .numbers) k (getD (a .words .now) k 0) ∙ c .before .before .loop .inv .2,
+      ap (λ (i : ℕ). set (c .before .before .loop .numbers) i (getD (a .words .now) k 0)) (sym z) ∙ put-one (a .numbers .now) (c .before .before .loop .numbers) (a .words .now) 0 k
+          (omega arith) (c .before .before .loop .inv .3),
+    )
 
 same-length : tie.Need-same-length Inv-loop μ-loop
 same-length c = omega (arith, c .before .loop .inv .2)
 
 returns : tie.Need-returns Inv-loop μ-loop
-returns c = let a = (c .before .before .args) in let all : take (c .before .loop .k) (a .words .now) ≡ a .words .now = take-all (c .before .loop .k) (a .words .now) (omega arith) in c .before .loop .inv .3 ∙ ap (sets (a .numbers .now) 0) all
+returns c = let a = (c .before .before .args) in let all : take (c .before .loop .k) (a .words .now) ≡ a .words .now = take-all (c .before .loop .k) (a .words .now)
+    (omega arith) in c .before .loop .inv .3 ∙ ap (sets (a .numbers .now) 0) all
 
 pub widen-spec : {M : Type 1} → statement M
 widen-spec =

@@ -30,13 +30,16 @@ array-share-prefix-net : tie.Need-array-share-prefix-net
 array-share-prefix-net c = search needs
 
 slice-aggregate-run : tie.Need-slice-aggregate-run
-slice-aggregate-run c = sym (length-take-le (c .before .before .before .before .before .before .read-file .result .size) (c .before .before .before .before .before .before .read-file .last .1 .0) (omega (arith, c .before .before .before .before .before .before .read-file .ensures)))
+slice-aggregate-run c = sym
+    (length-take-le (c .before .before .before .before .before .before .read-file .result .size) (c .before .before .before .before .before .before .read-file .last .1 .0)
+    (omega (arith, c .before .before .before .before .before .before .read-file .ensures)))
 
 array-share-prefix-file : tie.Need-array-share-prefix-file
 array-share-prefix-file c = search needs
 
 slice-aggregate-run-2 : tie.Need-slice-aggregate-run-2
-slice-aggregate-run-2 c = sym (length-take-le (c .before .before .before .read-file2 .result .size) (c .before .before .before .read-file2 .last .1 .0) (omega (arith, c .before .before .before .read-file2 .ensures)))
+slice-aggregate-run-2 c = sym
+    (length-take-le (c .before .before .before .read-file2 .result .size) (c .before .before .before .read-file2 .last .1 .0) (omega (arith, c .before .before .before .read-file2 .ensures)))
 
 slice-aggregate-run-3 : tie.Need-slice-aggregate-run-3
 slice-aggregate-run-3 c = search needs
@@ -54,7 +57,17 @@ slice-aggregate-run-7 : tie.Need-slice-aggregate-run-7
 slice-aggregate-run-7 c = search needs
 
 run-requires : tie.Need-run-requires
-run-requires c κs = (long-is _ _ _ _ (search needs) (search needs) (search needs) (search needs), omega (arith, length-take-le (c .before .before .before .before .before .before .before .before .read-file2 .result .size) (c .before .before .before .before .before .before .before .before .read-file2 .last .1 .0) (omega (arith, c .before .before .before .before .before .before .before .before .read-file2 .ensures)), c .before .before .before .before .before .before .before .before .read-file2 .ensures), search needs)
+run-requires c κs = (
+  long-is _ _ _ _ (search needs) (search needs) (search needs) (search needs),
+  omega (
+    arith,
+    length-take-le (c .before .before .before .before .before .before .before .before .read-file2 .result .size)
+        (c .before .before .before .before .before .before .before .before .read-file2 .last .1 .0)
+        (omega (arith, c .before .before .before .before .before .before .before .before .read-file2 .ensures)),
+    c .before .before .before .before .before .before .before .before .read-file2 .ensures,
+  ),
+  search needs,
+)
 
 returns : tie.Need-returns
 returns c = search needs

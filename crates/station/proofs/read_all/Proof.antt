@@ -38,16 +38,43 @@ same-length : tie.Need-same-length Inv-loop μ-loop
 same-length c = search needs
 
 returns : tie.Need-returns Inv-loop μ-loop
-returns c = omega (arith, c .before .before .before .before .before .before .before .before .before .loop .inv .0, c .before .before .before .before .before .before .before .before .before .loop .inv .1)
+returns c = omega (
+  arith,
+  c .before .before .before .before .before .before .before .before .before .loop .inv .0,
+  c .before .before .before .before .before .before .before .before .before .loop .inv .1,
+)
 
 add-at : tie.Need-add-at Inv-loop μ-loop
-add-at c = let w = rw (c .before .before .n .given .1) at (c .before .before .before .before .before .before .read-once .ensures) in omega (arith, w, c .before .before .before .before .before .before .before .before .loop-test .taken, rest-length (c .before .before .before .before .before .before .before .before .before .loop .bytes) (c .before .before .before .before .before .before .before .before .before .loop .at) (c .before .before .before .before .before .before .before .before .before .loop .inv .0))
+add-at c = let w = rw (c .before .before .n .given .1) at (c .before .before .before .before .before .before .read-once .ensures) in omega (
+  arith,
+  w,
+  c .before .before .before .before .before .before .before .before .loop-test .taken,
+  rest-length (c .before .before .before .before .before .before .before .before .before .loop .bytes) (c .before .before .before .before .before .before .before .before .before .loop .at)
+      (c .before .before .before .before .before .before .before .before .before .loop .inv .0),
+)
 
 loop-less : tie.Need-loop-less Inv-loop μ-loop
-loop-less c = let w = rw (c .before .before .n .given .1) at (c .before .before .before .before .before .before .read-once .ensures) in omega (arith, w, c .if1 .left, c .before .before .before .before .before .before .before .before .loop-test .taken, rest-length (c .before .before .before .before .before .before .before .before .before .loop .bytes) (c .before .before .before .before .before .before .before .before .before .loop .at) (c .before .before .before .before .before .before .before .before .before .loop .inv .0))
+loop-less c = let w = rw (c .before .before .n .given .1) at (c .before .before .before .before .before .before .read-once .ensures) in omega (
+  arith,
+  w,
+  c .if1 .left,
+  c .before .before .before .before .before .before .before .before .loop-test .taken,
+  rest-length (c .before .before .before .before .before .before .before .before .before .loop .bytes) (c .before .before .before .before .before .before .before .before .before .loop .at)
+      (c .before .before .before .before .before .before .before .before .before .loop .inv .0),
+)
 
 loop-again : tie.Need-loop-again Inv-loop μ-loop
-loop-again c = let w = rw (c .before .before .n .given .1) at (c .before .before .before .before .before .before .read-once .ensures) in (omega (arith, w, c .before .before .before .before .before .before .before .before .before .loop .inv .0, rest-length (c .before .before .before .before .before .before .before .before .before .loop .bytes) (c .before .before .before .before .before .before .before .before .before .loop .at) (c .before .before .before .before .before .before .before .before .before .loop .inv .0)), search needs)
+loop-again c = let w = rw (c .before .before .n .given .1) at (c .before .before .before .before .before .before .read-once .ensures)
+    in (
+      omega (
+        arith,
+        w,
+        c .before .before .before .before .before .before .before .before .before .loop .inv .0,
+        rest-length (c .before .before .before .before .before .before .before .before .before .loop .bytes) (c .before .before .before .before .before .before .before .before .before .loop .at)
+            (c .before .before .before .before .before .before .before .before .before .loop .inv .0),
+      ),
+      search needs,
+    )
 
 enum-told : tie.Need-enum-told Inv-loop μ-loop
 enum-told c = search needs

@@ -1,9 +1,7 @@
 use Rattle.station.proofs.read_file.Statement.{statement}
-use Prim.Native.Nat.{_≤_}
 use mathlib.Core.Path.{_≡_, refl}
 use lib.ListN.{length}
 use borrow.Author.Needs.{needs}
-use native.Mathlib.Omega.{arith}
 use Rattle.station.proofs.read_file.Tie as tie
 
 abbrev Inv-loop : tie.InvT-loop

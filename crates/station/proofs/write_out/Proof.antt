@@ -37,13 +37,34 @@ returns : tie.Need-returns Inv-loop μ-loop
 returns c = omega (arith, c .before .before .before .before .before .before .before .loop .inv)
 
 add-at : tie.Need-add-at Inv-loop μ-loop
-add-at c = let w = rw (c .before .before .n .given .1) at (c .before .before .before .before .write-once .ensures) in let a = c .before .before .before .before .before .before .before .before .before .args in omega (arith, w, c .before .before .before .before .before .before .loop-test .taken, rest-length (a .bytes .now) (c .before .before .before .before .before .before .before .loop .at) (c .before .before .before .before .before .before .before .loop .inv))
+add-at c = let w = rw (c .before .before .n .given .1) at (c .before .before .before .before .write-once .ensures) in let a =
+    c .before .before .before .before .before .before .before .before .before .args in omega (
+      arith,
+      w,
+      c .before .before .before .before .before .before .loop-test .taken,
+      rest-length (a .bytes .now) (c .before .before .before .before .before .before .before .loop .at)
+          (c .before .before .before .before .before .before .before .loop .inv),
+    )
 
 loop-less : tie.Need-loop-less Inv-loop μ-loop
-loop-less c = let w = rw (c .before .before .n .given .1) at (c .before .before .before .before .write-once .ensures) in let a = c .before .before .before .before .before .before .before .before .before .args in omega (arith, w, c .if1 .left, c .before .before .before .before .before .before .loop-test .taken, rest-length (a .bytes .now) (c .before .before .before .before .before .before .before .loop .at) (c .before .before .before .before .before .before .before .loop .inv))
+loop-less c = let w = rw (c .before .before .n .given .1) at (c .before .before .before .before .write-once .ensures) in let a =
+    c .before .before .before .before .before .before .before .before .before .args in omega (
+      arith,
+      w,
+      c .if1 .left,
+      c .before .before .before .before .before .before .loop-test .taken,
+      rest-length (a .bytes .now) (c .before .before .before .before .before .before .before .loop .at) (c .before .before .before .before .before .before .before .loop .inv),
+    )
 
 loop-again : tie.Need-loop-again Inv-loop μ-loop
-loop-again c = let w = rw (c .before .before .n .given .1) at (c .before .before .before .before .write-once .ensures) in let a = c .before .before .before .before .before .before .before .before .before .args in omega (arith, w, c .before .before .before .before .before .before .before .loop .inv, rest-length (a .bytes .now) (c .before .before .before .before .before .before .before .loop .at) (c .before .before .before .before .before .before .before .loop .inv))
+loop-again c = let w = rw (c .before .before .n .given .1) at (c .before .before .before .before .write-once .ensures) in let a =
+    c .before .before .before .before .before .before .before .before .before .args in omega (
+      arith,
+      w,
+      c .before .before .before .before .before .before .before .loop .inv,
+      rest-length (a .bytes .now) (c .before .before .before .before .before .before .before .loop .at)
+          (c .before .before .before .before .before .before .before .loop .inv),
+    )
 
 enum-told : tie.Need-enum-told Inv-loop μ-loop
 enum-told c = search needs

@@ -44,7 +44,10 @@ mul-numbers-2 : tie.Need-mul-numbers-2 Inv-loop μ-loop
 mul-numbers-2 c = omega (arith, c .before .loop-test .taken, c .before .before .before .pre .0)
 
 array-write-numbers-2 : tie.Need-array-write-numbers-2 Inv-loop μ-loop
-array-write-numbers-2 c = let a = (c .before .before .before .args) in let size : length (c .before .before .loop .numbers) ≡ 5 = ap length (c .before .before .loop .inv .1) ∙ length-padded 5 (a .node ∷ fields (c .before .before .loop .k) (a .words .now) (a .from)) (omega (arith, length-fields (c .before .before .loop .k) (a .words .now) (a .from), c .before .before .loop .inv .0, c .before .before .before .pre .0)) in omega (arith, c .before .loop-test .taken, c .before .before .before .pre .0, size)
+array-write-numbers-2 c = let a = (c .before .before .before .args) in let size : length (c .before .before .loop .numbers) ≡ 5 = ap length (c .before .before .loop .inv .1)
+    ∙ length-padded 5 (a .node ∷ fields (c .before .before .loop .k) (a .words .now) (a .from))
+    (omega (arith, length-fields (c .before .before .loop .k) (a .words .now) (a .from), c .before .before .loop .inv .0, c .before .before .before .pre .0)) in omega
+    (arith, c .before .loop-test .taken, c .before .before .before .pre .0, size)
 
 add-k : tie.Need-add-k Inv-loop μ-loop
 add-k c = omega (arith, c .before .loop-test .taken, c .before .before .before .pre .0)
@@ -53,7 +56,13 @@ loop-less : tie.Need-loop-less Inv-loop μ-loop
 loop-less c = omega arith
 
 loop-again : tie.Need-loop-again Inv-loop μ-loop
-loop-again c = let a = (c .before .before .before .args) in (omega (arith, c .before .loop-test .taken), numbers-more (a .node) (c .before .before .loop .k) (a .words .now) (a .from) (c .before .before .loop .numbers) (getD (a .words .now) (a .from + c .before .before .loop .k) 0) (omega (arith, c .before .loop-test .taken, c .before .before .before .pre .0)) (c .before .before .loop .inv .1) refl)
+loop-again c = let a =
+    (c .before .before .before .args)
+    in (
+      omega (arith, c .before .loop-test .taken),
+      numbers-more (a .node) (c .before .before .loop .k) (a .words .now) (a .from) (c .before .before .loop .numbers)
+          (getD (a .words .now) (a .from + c .before .before .loop .k) 0) (omega (arith, c .before .loop-test .taken, c .before .before .before .pre .0)) (c .before .before .loop .inv .1) refl,
+    )
 
 returns : tie.Need-returns Inv-loop μ-loop
 returns c = let a = (c .before .before .args) in let e : c .before .loop .k ≡ a .w = omega (arith, c .before .loop .inv .0, c .loop-test .left) in rw e at (c .before .loop .inv .1)

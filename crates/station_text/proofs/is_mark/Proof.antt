@@ -23,7 +23,8 @@ u16-at-requires-2 : tie.Need-u16-at-requires-2
 u16-at-requires-2 c κs = search needs
 
 returns-2 : tie.Need-returns-2
-returns-2 c = let a = (c .before .before .before .before .args) in rw (eq-eqb (lengthAt (a .file .now) (a .at)) 4 (sym (c .before .before .u16-at .ensures .is) ∙ c .before .if1 .left)) (ap (λ (x : ℕ). eqb x 34) (c .u16-at2 .ensures .is))
+returns-2 c = let a = (c .before .before .before .before .args) in rw (eq-eqb (lengthAt (a .file .now) (a .at)) 4 (sym (c .before .before .u16-at .ensures .is) ∙ c .before .if1 .left))
+    (ap (λ (x : ℕ). eqb x 34) (c .u16-at2 .ensures .is))
 
 pub is-mark-spec : {M : Type 1} → statement M
 is-mark-spec = tie.close (tie.spec u16-at-requires returns add-u16-at u16-at-requires-2 returns-2)

@@ -29,16 +29,25 @@ array-share-prefix-numbers : tie.Need-array-share-prefix-numbers
 array-share-prefix-numbers c = search needs
 
 slice-aggregate-put-line-at-2 : tie.Need-slice-aggregate-put-line-at-2
-slice-aggregate-put-line-at-2 c = let a = (c .before .before .before .before .before .before .args) in let size : length (c .before .before .before .change-numbers .result) ≡ 5 = ap length (c .before .before .before .change-numbers .ensures) ∙ length-padded 5 (a .node ∷ fields (a .w) (a .words .now) (a .from)) (omega (arith, length-fields (a .w) (a .words .now) (a .from), c .before .before .before .before .before .before .pre .0)) in sym (length-take-le (a .w + 1) (c .before .before .before .change-numbers .result) (omega (arith, size, c .before .before .before .before .before .before .pre .0)))
+slice-aggregate-put-line-at-2 c = let a = (c .before .before .before .before .before .before .args) in let size : length (c .before .before .before .change-numbers .result)
+    ≡ 5 = ap length (c .before .before .before .change-numbers .ensures) ∙ length-padded 5 (a .node ∷ fields (a .w) (a .words .now) (a .from))
+    (omega (arith, length-fields (a .w) (a .words .now) (a .from), c .before .before .before .before .before .before .pre .0)) in sym
+    (length-take-le (a .w + 1) (c .before .before .before .change-numbers .result) (omega (arith, size, c .before .before .before .before .before .before .pre .0)))
 
 put-line-at-requires : tie.Need-put-line-at-requires
-put-line-at-requires c κs = let a = (c .before .before .before .before .before .before .args) in let n = ap length (numbers-taken (a .node) (a .w) (a .words .now) (a .from) (c .before .before .before .change-numbers .result) (c .before .before .before .before .before .before .pre .0) (c .before .before .before .change-numbers .ensures)) in omega (arith, n, length-fields (a .w) (a .words .now) (a .from), c .before .before .before .before .before .before .pre .0, c .before .before .before .before .before .before .pre .2)
+put-line-at-requires c κs = let a = (c .before .before .before .before .before .before .args) in let n = ap length
+    (numbers-taken (a .node) (a .w) (a .words .now) (a .from) (c .before .before .before .change-numbers .result) (c .before .before .before .before .before .before .pre .0)
+    (c .before .before .before .change-numbers .ensures)) in omega
+    (arith, n, length-fields (a .w) (a .words .now) (a .from), c .before .before .before .before .before .before .pre .0, c .before .before .before .before .before .before .pre .2)
 
 same-length : tie.Need-same-length
 same-length c = search needs
 
 returns : tie.Need-returns
-returns c = let a = (c .before .before .before .before .before .before .before .before .before .args) in let t = numbers-taken (a .node) (a .w) (a .words .now) (a .from) (c .before .before .before .before .before .before .change-numbers .result) (c .before .before .before .before .before .before .before .before .before .pre .0) (c .before .before .before .before .before .before .change-numbers .ensures) in let e = rw t at (c .before .before .put-line-at .ensures) in (e .0, e .1, omega (arith, e .2, length-fields (a .w) (a .words .now) (a .from), c .before .before .before .before .before .before .before .before .before .pre .0))
+returns c = let a = (c .before .before .before .before .before .before .before .before .before .args) in let t = numbers-taken (a .node) (a .w) (a .words .now) (a .from)
+    (c .before .before .before .before .before .before .change-numbers .result) (c .before .before .before .before .before .before .before .before .before .pre .0)
+    (c .before .before .before .before .before .before .change-numbers .ensures) in let e = rw t at (c .before .before .put-line-at .ensures)
+    in (e .0, e .1, omega (arith, e .2, length-fields (a .w) (a .words .now) (a .from), c .before .before .before .before .before .before .before .before .before .pre .0))
 
 pub put-change-spec : {M : Type 1} → statement M
 put-change-spec =

@@ -17,16 +17,44 @@ allows-lost-requires : tie.Need-allows-lost-requires
 allows-lost-requires c κs = search needs
 
 put-allowed-requires : tie.Need-put-allowed-requires
-put-allowed-requires c κs = (c .before .before .before .before .before .before .pre .0, c .before .before .before .before .before .before .pre .1, c .before .before .before .before .before .before .pre .3, c .before .before .before .before .before .before .pre .4, omega (arith, c .before .before .before .before .before .before .pre .1, c .before .before .before .before .before .before .pre .6))
+put-allowed-requires c κs = (
+  c .before .before .before .before .before .before .pre .0,
+  c .before .before .before .before .before .before .pre .1,
+  c .before .before .before .before .before .before .pre .3,
+  c .before .before .before .before .before .before .pre .4,
+  omega (arith, c .before .before .before .before .before .before .pre .1, c .before .before .before .before .before .before .pre .6),
+)
 
 put-allowed-requires-2 : tie.Need-put-allowed-requires-2
-put-allowed-requires-2 c κs = (c .before .before .before .before .before .before .before .before .before .before .pre .0, c .before .before .before .before .before .before .before .before .before .before .pre .2, c .before .before .before .before .before .before .before .before .before .before .pre .3, c .before .before .before .before .before .before .before .before .before .before .pre .5, omega (arith, c .before .before .before .put-allowed .ensures .2, c .before .before .before .before .before .before .before .before .before .before .pre .1, c .before .before .before .before .before .before .before .before .before .before .pre .2, c .before .before .before .before .before .before .before .before .before .before .pre .6))
+put-allowed-requires-2 c κs = (
+  c .before .before .before .before .before .before .before .before .before .before .pre .0,
+  c .before .before .before .before .before .before .before .before .before .before .pre .2,
+  c .before .before .before .before .before .before .before .before .before .before .pre .3,
+  c .before .before .before .before .before .before .before .before .before .before .pre .5,
+  omega (
+    arith,
+    c .before .before .before .put-allowed .ensures .2,
+    c .before .before .before .before .before .before .before .before .before .before .pre .1,
+    c .before .before .before .before .before .before .before .before .before .before .pre .2,
+    c .before .before .before .before .before .before .before .before .before .before .pre .6,
+  ),
+)
 
 same-length : tie.Need-same-length
 same-length c = search needs
 
 returns : tie.Need-returns
-returns c = let a = (c .before .before .before .before .before .before .before .before .before .before .before .before .before .args) in node-lines (a .sign) (a .node) (record { gained = heldIn layout (a .w) (a .g) (a .gained .now) (a .node); lost = heldIn layout (a .w) (a .l) (a .lost .now) (a .node) }) (c .before .before .before .before .before .before .before .before .before .allows-gained .result) (c .before .before .before .before .before .before .before .before .allows-lost .result) (a .out .now) (c .before .before .before .before .before .before .put-allowed .last .1 .0) (c .before .before .put-allowed2 .last .1 .0) (a .at) (c .before .before .before .before .before .before .put-allowed .result) (c .before .before .put-allowed2 .result) (a .g) (a .l) (c .before .before .before .before .before .before .before .before .before .allows-gained .ensures) (c .before .before .before .before .before .before .before .before .allows-lost .ensures) (c .before .before .before .before .before .before .put-allowed .ensures .0) (c .before .before .before .before .before .before .put-allowed .ensures .1) (c .before .before .before .before .before .before .put-allowed .ensures .2) (c .before .before .put-allowed2 .ensures .0) (c .before .before .put-allowed2 .ensures .1) (c .before .before .put-allowed2 .ensures .2) (c .before .before .before .before .before .before .before .before .before .before .before .before .before .pre .1) (c .before .before .before .before .before .before .before .before .before .before .before .before .before .pre .2)
+returns c = let a = (c .before .before .before .before .before .before .before .before .before .before .before .before .before .args) in node-lines (a .sign) (a .node)
+    (record { gained = heldIn layout (a .w) (a .g) (a .gained .now) (a .node); lost = heldIn layout (a .w) (a .l) (a .lost .now) (a .node) })
+    (c .before .before .before .before .before .before .before .before .before .allows-gained .result)
+    (c .before .before .before .before .before .before .before .before .allows-lost .result) (a .out .now) (c .before .before .before .before .before .before .put-allowed .last .1 .0)
+    (c .before .before .put-allowed2 .last .1 .0) (a .at) (c .before .before .before .before .before .before .put-allowed .result) (c .before .before .put-allowed2 .result) (a .g) (a .l)
+    (c .before .before .before .before .before .before .before .before .before .allows-gained .ensures)
+    (c .before .before .before .before .before .before .before .before .allows-lost .ensures) (c .before .before .before .before .before .before .put-allowed .ensures .0)
+    (c .before .before .before .before .before .before .put-allowed .ensures .1) (c .before .before .before .before .before .before .put-allowed .ensures .2)
+    (c .before .before .put-allowed2 .ensures .0) (c .before .before .put-allowed2 .ensures .1) (c .before .before .put-allowed2 .ensures .2)
+    (c .before .before .before .before .before .before .before .before .before .before .before .before .before .pre .1)
+    (c .before .before .before .before .before .before .before .before .before .before .before .before .before .pre .2)
 
 pub put-node-spec : {M : Type 1} → statement M
 put-node-spec =

@@ -25,7 +25,11 @@ same-length c = search needs
 
 returns-2 : tie.Need-returns-2
 unfolding refusedLine
-returns-2 c = record { whole = λ h. record { bytes = c .before .before .put-line-at .ensures .0; next = c .before .before .put-line-at .ensures .1; short = c .before .before .put-line-at .ensures .2 }; nothing = λ h. absurd (omega (arith, h, c .before .before .before .before .before .before .if1 .left)) }
+returns-2 c = record {
+  whole = λ h. record
+      { bytes = c .before .before .put-line-at .ensures .0; next = c .before .before .put-line-at .ensures .1; short = c .before .before .put-line-at .ensures .2 };
+  nothing = λ h. absurd (omega (arith, h, c .before .before .before .before .before .before .if1 .left));
+}
 
 pub put-refused-spec : {M : Type 1} → statement M
 put-refused-spec =

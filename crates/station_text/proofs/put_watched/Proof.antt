@@ -1,7 +1,7 @@
 use borrow.Author.Needs.{needs}
 use Rattle.station_text.proofs.put_watched.Statement.{statement}
 use native.Mathlib.Omega.{arith}
-use mathlib.Core.Path.{ap, _∙_, subst}
+use mathlib.Core.Path.{subst}
 use Prim.Native.Nat.{_+_, ℕ}
 use mathlib.Core.List.{List}
 use Rattle.station_text.proofs.Changes.{watched-is}
@@ -48,13 +48,31 @@ cast-l : tie.Need-cast-l
 cast-l c = let a = (c .before .before .before .before .before .before .before .before .args) in omega (arith, c .shared-slice-known5 .given (97 + a .node))
 
 put-node-requires : tie.Need-put-node-requires
-put-node-requires c κs = let a = (c .before .before .before .before .before .before .before .before .before .args) in (c .before .before .before .before .before .before .before .before .before .pre .0 .narrow (a .node), c .before .before .before .before .before .before .before .before .before .pre .1 .gained-few (a .node) (c .before .before .before .before .before .before .before .before .before .pre .2), c .before .before .before .before .before .before .before .before .before .pre .1 .lost-few (a .node) (c .before .before .before .before .before .before .before .before .before .pre .2), omega (arith, c .before .before .before .before .before .before .before .before .before .pre .2, c .before .before .before .before .before .before .before .before .before .pre .0 .sound .few), c .before .before .before .before .before .before .before .before .before .pre .1 .gained-long, c .before .before .before .before .before .before .before .before .before .pre .1 .lost-long, c .before .before .before .before .before .before .before .before .before .pre .3)
+put-node-requires c κs = let a = (c .before .before .before .before .before .before .before .before .before .args)
+    in (
+      c .before .before .before .before .before .before .before .before .before .pre .0 .narrow (a .node),
+      c .before .before .before .before .before .before .before .before .before .pre .1 .gained-few (a .node)
+          (c .before .before .before .before .before .before .before .before .before .pre .2),
+      c .before .before .before .before .before .before .before .before .before .pre .1 .lost-few (a .node)
+          (c .before .before .before .before .before .before .before .before .before .pre .2),
+      omega (
+        arith,
+        c .before .before .before .before .before .before .before .before .before .pre .2,
+        c .before .before .before .before .before .before .before .before .before .pre .0 .sound .few,
+      ),
+      c .before .before .before .before .before .before .before .before .before .pre .1 .gained-long,
+      c .before .before .before .before .before .before .before .before .before .pre .1 .lost-long,
+      c .before .before .before .before .before .before .before .before .before .pre .3,
+    )
 
 same-length : tie.Need-same-length
 same-length c = search needs
 
 returns : tie.Need-returns
-returns c = let a = (c .before .before .before .before .before .before .before .before .before .before .before .before .args) in subst (λ (text : List ℕ). Put text 13696 (a .at) (a .out .now) (c .before .before .put-node .last .0) (c .before .before .put-node .result)) (watched-is (a .t3) (c .before .before .before .before .before .before .before .before .before .before .before .before .pre .0) (a .gained .now) (a .lost .now) (a .head .now) (a .node) (c .before .before .before .before .before .before .before .before .before .before .before .before .pre .2)) (c .before .before .put-node .ensures)
+returns c = let a = (c .before .before .before .before .before .before .before .before .before .before .before .before .args) in subst
+    (λ (text : List ℕ). Put text 13696 (a .at) (a .out .now) (c .before .before .put-node .last .0) (c .before .before .put-node .result))
+    (watched-is (a .t3) (c .before .before .before .before .before .before .before .before .before .before .before .before .pre .0) (a .gained .now) (a .lost .now) (a .head .now) (a .node)
+    (c .before .before .before .before .before .before .before .before .before .before .before .before .pre .2)) (c .before .before .put-node .ensures)
 
 pub put-watched-spec : {M : Type 1} → statement M
 put-watched-spec =

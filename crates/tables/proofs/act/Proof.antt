@@ -34,7 +34,15 @@ slice-aggregate-insert : tie.Need-slice-aggregate-insert
 slice-aggregate-insert c = search needs
 
 insert-requires : tie.Need-insert-requires
-insert-requires c κs = let a = c .before .before .before .before .before .before .before .args in let size = ap length (c .before .before .before .before .event-row .ensures) ∙ (length-padded 4 (rowIn (a .bytes .now) (a .at + 6) (a .width)) (rw (length-row-in (a .bytes .now) (a .at + 6) (a .width)) (c .before .before .before .before .before .before .before .pre .0))) in (omega arith, omega (arith, c .before .before .before .before .before .before .before .pre .4), omega (arith, size), c .before .before .before .before .before .before .before .pre .2 .asc)
+insert-requires c κs = let a = c .before .before .before .before .before .before .before .args in let size = ap length (c .before .before .before .before .event-row .ensures)
+    ∙ (length-padded 4 (rowIn (a .bytes .now) (a .at + 6) (a .width))
+    (rw (length-row-in (a .bytes .now) (a .at + 6) (a .width)) (c .before .before .before .before .before .before .before .pre .0)))
+    in (
+      omega arith,
+      omega (arith, c .before .before .before .before .before .before .before .pre .4),
+      omega (arith, size),
+      c .before .before .before .before .before .before .before .pre .2 .asc,
+    )
 
 enum-told : tie.Need-enum-told
 enum-told c = search needs
@@ -52,28 +60,59 @@ slice-aggregate-remove : tie.Need-slice-aggregate-remove
 slice-aggregate-remove c = search needs
 
 remove-requires : tie.Need-remove-requires
-remove-requires c κs = let a = c .before .before .before .before .before .before .before .args in let size = ap length (c .before .before .before .before .event-row .ensures) ∙ (length-padded 4 (rowIn (a .bytes .now) (a .at + 6) (a .width)) (rw (length-row-in (a .bytes .now) (a .at + 6) (a .width)) (c .before .before .before .before .before .before .before .pre .0))) in (omega (arith, c .before .before .before .before .before .before .before .pre .4), omega (arith, size), c .before .before .before .before .before .before .before .pre .2 .asc)
+remove-requires c κs = let a = c .before .before .before .before .before .before .before .args in let size = ap length (c .before .before .before .before .event-row .ensures)
+    ∙ (length-padded 4 (rowIn (a .bytes .now) (a .at + 6) (a .width))
+    (rw (length-row-in (a .bytes .now) (a .at + 6) (a .width)) (c .before .before .before .before .before .before .before .pre .0)))
+    in (omega (arith, c .before .before .before .before .before .before .before .pre .4), omega (arith, size), c .before .before .before .before .before .before .before .pre .2 .asc)
 
 sub-result : tie.Need-sub-result
 sub-result c =
     let a = c .before .before .before .before .before .before .before .before .before .before .before .args in
-    some-row (padded 4 (rowIn (a .bytes .now) (a .at + 6) (a .width))) (firstRows (a .words .now) (a .n)) (a .n) (sym (rw (event-row-at (a .bytes .now) (a .at + 6) (a .width) (c .before .before .before .before .before .before .before .before .event-row .result) (c .before .before .before .before .before .before .before .before .before .before .before .pre .0) (c .before .before .before .before .before .before .before .before .event-row .ensures)) at (rw (c .if2 .taken) at (c .before .before .before .remove .ensures)) .says)) (c .before .before .before .before .before .before .before .before .before .before .before .pre .2 .stands .count)
+    some-row (padded 4 (rowIn (a .bytes .now) (a .at + 6) (a .width))) (firstRows (a .words .now) (a .n)) (a .n)
+    (sym (rw (event-row-at (a .bytes .now) (a .at + 6) (a .width) (c .before .before .before .before .before .before .before .before .event-row .result)
+    (c .before .before .before .before .before .before .before .before .before .before .before .pre .0)
+    (c .before .before .before .before .before .before .before .before .event-row .ensures)) at (rw (c .if2 .taken) at (c .before .before .before .remove .ensures)) .says))
+    (c .before .before .before .before .before .before .before .before .before .before .before .pre .2 .stands .count)
 
 same-length : tie.Need-same-length
 same-length c = search needs
 
 returns : tie.Need-returns
 returns c =
-    let a = c .before .before .before .before .before .before .before .before .before .before .before .before .args in
-    (act-put (a .bytes .now) (a .at) (a .width) (c .before .before .before .before .before .before .before .before .u16-at .result) (firstRows (a .words .now) (a .n)) (c .before .before .before .before .insert .last .0) (a .n + 1) (c .before .before .before .before .before .before .before .before .u16-at .ensures .is) (c .before .before .before .before .before .before .before .if1 .taken) (put-new 128 512 (padded 4 (rowIn (a .bytes .now) (a .at + 6) (a .width))) (firstRows (a .words .now) (a .n)) (a .words .now) (c .before .before .before .before .insert .last .0) (a .n) (c .before .before .before .before .before .before .before .before .before .before .before .before .pre .2 .stands) (length-padded 4 (rowIn (a .bytes .now) (a .at + 6) (a .width)) (rw (length-row-in (a .bytes .now) (a .at + 6) (a .width)) (c .before .before .before .before .before .before .before .before .before .before .before .before .pre .0))) (wide-rows 4 (a .words .now) 0 (a .n)) (rw (event-row-at (a .bytes .now) (a .at + 6) (a .width) (c .before .before .before .before .before .before .before .before .before .event-row .result) (c .before .before .before .before .before .before .before .before .before .before .before .before .pre .0) (c .before .before .before .before .before .before .before .before .before .event-row .ensures)) at (rw (c .enum-told .given .1) at (c .before .before .before .before .insert .ensures)))), omega arith)
+    let a = c .before .before .before .before .before .before .before .before .before .before .before .before .args in (
+      act-put (a .bytes .now) (a .at) (a .width) (c .before .before .before .before .before .before .before .before .u16-at .result) (firstRows (a .words .now) (a .n))
+          (c .before .before .before .before .insert .last .0) (a .n + 1) (c .before .before .before .before .before .before .before .before .u16-at .ensures .is)
+          (c .before .before .before .before .before .before .before .if1 .taken)
+          (put-new 128 512 (padded 4 (rowIn (a .bytes .now) (a .at + 6) (a .width))) (firstRows (a .words .now) (a .n)) (a .words .now) (c .before .before .before .before .insert .last .0)
+          (a .n) (c .before .before .before .before .before .before .before .before .before .before .before .before .pre .2 .stands)
+          (length-padded 4 (rowIn (a .bytes .now) (a .at + 6) (a .width))
+          (rw (length-row-in (a .bytes .now) (a .at + 6) (a .width)) (c .before .before .before .before .before .before .before .before .before .before .before .before .pre .0)))
+          (wide-rows 4 (a .words .now) 0 (a .n))
+          (rw (event-row-at (a .bytes .now) (a .at + 6) (a .width) (c .before .before .before .before .before .before .before .before .before .event-row .result)
+          (c .before .before .before .before .before .before .before .before .before .before .before .before .pre .0)
+          (c .before .before .before .before .before .before .before .before .before .event-row .ensures))
+          at (rw (c .enum-told .given .1) at (c .before .before .before .before .insert .ensures)))),
+      omega arith,
+    )
 
 same-length-2 : tie.Need-same-length-2
 same-length-2 c = search needs
 
 returns-2 : tie.Need-returns-2
 returns-2 c =
-    let a = c .before .before .before .before .before .before .before .before .before .before .before .before .args in
-    (act-put (a .bytes .now) (a .at) (a .width) (c .before .before .before .before .before .before .before .before .u16-at .result) (firstRows (a .words .now) (a .n)) (c .before .before .before .before .insert .last .0) (a .n) (c .before .before .before .before .before .before .before .before .u16-at .ensures .is) (c .before .before .before .before .before .before .before .if1 .taken) (put-present 128 512 (padded 4 (rowIn (a .bytes .now) (a .at + 6) (a .width))) (firstRows (a .words .now) (a .n)) (a .words .now) (c .before .before .before .before .insert .last .0) (a .n) (c .before .before .before .before .before .before .before .before .before .before .before .before .pre .2 .stands) (ascending-holds (firstRows (a .words .now) (a .n)) (c .before .before .before .before .before .before .before .before .before .before .before .before .pre .2 .asc)) (rw (event-row-at (a .bytes .now) (a .at + 6) (a .width) (c .before .before .before .before .before .before .before .before .before .event-row .result) (c .before .before .before .before .before .before .before .before .before .before .before .before .pre .0) (c .before .before .before .before .before .before .before .before .before .event-row .ensures)) at (rw (c .enum-told2 .given .1) at (c .before .before .before .before .insert .ensures)))), omega arith)
+    let a = c .before .before .before .before .before .before .before .before .before .before .before .before .args in (
+      act-put (a .bytes .now) (a .at) (a .width) (c .before .before .before .before .before .before .before .before .u16-at .result) (firstRows (a .words .now) (a .n))
+          (c .before .before .before .before .insert .last .0) (a .n) (c .before .before .before .before .before .before .before .before .u16-at .ensures .is)
+          (c .before .before .before .before .before .before .before .if1 .taken)
+          (put-present 128 512 (padded 4 (rowIn (a .bytes .now) (a .at + 6) (a .width))) (firstRows (a .words .now) (a .n)) (a .words .now) (c .before .before .before .before .insert .last .0)
+          (a .n) (c .before .before .before .before .before .before .before .before .before .before .before .before .pre .2 .stands)
+          (ascending-holds (firstRows (a .words .now) (a .n)) (c .before .before .before .before .before .before .before .before .before .before .before .before .pre .2 .asc))
+          (rw (event-row-at (a .bytes .now) (a .at + 6) (a .width) (c .before .before .before .before .before .before .before .before .before .event-row .result)
+          (c .before .before .before .before .before .before .before .before .before .before .before .before .pre .0)
+          (c .before .before .before .before .before .before .before .before .before .event-row .ensures))
+          at (rw (c .enum-told2 .given .1) at (c .before .before .before .before .insert .ensures)))),
+      omega arith,
+    )
 
 same-length-3 : tie.Need-same-length-3
 same-length-3 c = search needs
@@ -81,24 +120,54 @@ same-length-3 c = search needs
 returns-3 : tie.Need-returns-3
 returns-3 c =
     let a = c .before .before .before .before .before .before .before .before .before .before .before .before .args in
-    let full = put-full 128 512 (padded 4 (rowIn (a .bytes .now) (a .at + 6) (a .width))) (firstRows (a .words .now) (a .n)) (a .words .now) (c .before .before .before .before .insert .last .0) (a .n) (c .before .before .before .before .before .before .before .before .before .before .before .before .pre .2 .stands) (rw (event-row-at (a .bytes .now) (a .at + 6) (a .width) (c .before .before .before .before .before .before .before .before .before .event-row .result) (c .before .before .before .before .before .before .before .before .before .before .before .before .pre .0) (c .before .before .before .before .before .before .before .before .before .event-row .ensures)) at (rw (c .enum-told3 .given .1) at (c .before .before .before .before .insert .ensures))) in
-    absurd (omega (arith, full .0, insert-once (padded 4 (rowIn (a .bytes .now) (a .at + 6) (a .width))) (firstRows (a .words .now) (a .n)), c .before .before .before .before .before .before .before .before .before .before .before .before .pre .2 .stands .count))
+    let full = put-full 128 512 (padded 4 (rowIn (a .bytes .now) (a .at + 6) (a .width))) (firstRows (a .words .now) (a .n)) (a .words .now)
+    (c .before .before .before .before .insert .last .0) (a .n) (c .before .before .before .before .before .before .before .before .before .before .before .before .pre .2 .stands)
+    (rw (event-row-at (a .bytes .now) (a .at + 6) (a .width) (c .before .before .before .before .before .before .before .before .before .event-row .result)
+    (c .before .before .before .before .before .before .before .before .before .before .before .before .pre .0)
+    (c .before .before .before .before .before .before .before .before .before .event-row .ensures))
+    at (rw (c .enum-told3 .given .1) at (c .before .before .before .before .insert .ensures))) in
+    absurd (omega (
+      arith,
+      full .0,
+      insert-once (padded 4 (rowIn (a .bytes .now) (a .at + 6) (a .width))) (firstRows (a .words .now) (a .n)),
+      c .before .before .before .before .before .before .before .before .before .before .before .before .pre .2 .stands .count,
+    ))
 
 same-length-4 : tie.Need-same-length-4
 same-length-4 c = search needs
 
 returns-4 : tie.Need-returns-4
 returns-4 c =
-    let a = c .before .before .before .before .before .before .before .before .before .before .before .args in
-    (act-remove (a .bytes .now) (a .at) (a .width) (c .before .before .before .before .before .before .before .u16-at .result) (firstRows (a .words .now) (a .n)) (c .before .before .before .remove .last .0) (a .n - 1) (c .before .before .before .before .before .before .before .u16-at .ensures .is) (c .before .before .before .before .before .before .if1 .left) (take-out 128 512 (omega arith) (padded 4 (rowIn (a .bytes .now) (a .at + 6) (a .width))) (firstRows (a .words .now) (a .n)) (a .words .now) (c .before .before .before .remove .last .0) (a .n) (c .before .before .before .before .before .before .before .before .before .before .before .pre .2 .stands) (wide-rows 4 (a .words .now) 0 (a .n)) (ascending-holds (firstRows (a .words .now) (a .n)) (c .before .before .before .before .before .before .before .before .before .before .before .pre .2 .asc)) (rw (event-row-at (a .bytes .now) (a .at + 6) (a .width) (c .before .before .before .before .before .before .before .before .event-row .result) (c .before .before .before .before .before .before .before .before .before .before .before .pre .0) (c .before .before .before .before .before .before .before .before .event-row .ensures)) at (rw (c .if2 .taken) at (c .before .before .before .remove .ensures)))), omega arith)
+    let a = c .before .before .before .before .before .before .before .before .before .before .before .args in (
+      act-remove (a .bytes .now) (a .at) (a .width) (c .before .before .before .before .before .before .before .u16-at .result) (firstRows (a .words .now) (a .n))
+          (c .before .before .before .remove .last .0) (a .n - 1) (c .before .before .before .before .before .before .before .u16-at .ensures .is)
+          (c .before .before .before .before .before .before .if1 .left)
+          (take-out 128 512 (omega arith) (padded 4 (rowIn (a .bytes .now) (a .at + 6) (a .width))) (firstRows (a .words .now) (a .n)) (a .words .now)
+          (c .before .before .before .remove .last .0) (a .n) (c .before .before .before .before .before .before .before .before .before .before .before .pre .2 .stands)
+          (wide-rows 4 (a .words .now) 0 (a .n))
+          (ascending-holds (firstRows (a .words .now) (a .n)) (c .before .before .before .before .before .before .before .before .before .before .before .pre .2 .asc))
+          (rw (event-row-at (a .bytes .now) (a .at + 6) (a .width) (c .before .before .before .before .before .before .before .before .event-row .result)
+          (c .before .before .before .before .before .before .before .before .before .before .before .pre .0)
+          (c .before .before .before .before .before .before .before .before .event-row .ensures)) at (rw (c .if2 .taken) at (c .before .before .before .remove .ensures)))),
+      omega arith,
+    )
 
 same-length-5 : tie.Need-same-length-5
 same-length-5 c = search needs
 
 returns-5 : tie.Need-returns-5
 returns-5 c =
-    let a = c .before .before .before .before .before .before .before .before .before .before .before .args in
-    (act-remove (a .bytes .now) (a .at) (a .width) (c .before .before .before .before .before .before .before .u16-at .result) (firstRows (a .words .now) (a .n)) (c .before .before .before .remove .last .0) (a .n) (c .before .before .before .before .before .before .before .u16-at .ensures .is) (c .before .before .before .before .before .before .if1 .left) (leave-in 128 512 (omega arith) (padded 4 (rowIn (a .bytes .now) (a .at + 6) (a .width))) (firstRows (a .words .now) (a .n)) (a .words .now) (c .before .before .before .remove .last .0) (a .n) (c .before .before .before .before .before .before .before .before .before .before .before .pre .2 .stands) (rw (event-row-at (a .bytes .now) (a .at + 6) (a .width) (c .before .before .before .before .before .before .before .before .event-row .result) (c .before .before .before .before .before .before .before .before .before .before .before .pre .0) (c .before .before .before .before .before .before .before .before .event-row .ensures)) at (rw (c .if2 .left) at (c .before .before .before .remove .ensures)))), omega arith)
+    let a = c .before .before .before .before .before .before .before .before .before .before .before .args in (
+      act-remove (a .bytes .now) (a .at) (a .width) (c .before .before .before .before .before .before .before .u16-at .result) (firstRows (a .words .now) (a .n))
+          (c .before .before .before .remove .last .0) (a .n) (c .before .before .before .before .before .before .before .u16-at .ensures .is)
+          (c .before .before .before .before .before .before .if1 .left)
+          (leave-in 128 512 (omega arith) (padded 4 (rowIn (a .bytes .now) (a .at + 6) (a .width))) (firstRows (a .words .now) (a .n)) (a .words .now)
+          (c .before .before .before .remove .last .0) (a .n) (c .before .before .before .before .before .before .before .before .before .before .before .pre .2 .stands)
+          (rw (event-row-at (a .bytes .now) (a .at + 6) (a .width) (c .before .before .before .before .before .before .before .before .event-row .result)
+          (c .before .before .before .before .before .before .before .before .before .before .before .pre .0)
+          (c .before .before .before .before .before .before .before .before .event-row .ensures)) at (rw (c .if2 .left) at (c .before .before .before .remove .ensures)))),
+      omega arith,
+    )
 
 pub act-spec : {M : Type 1} → statement M
 act-spec =

@@ -47,8 +47,12 @@ loop-less c = omega arith
 
 loop-again : tie.Need-loop-again Inv-loop μ-loop
 loop-again c =
-    let a = c .before .before .before .before .args in
-    (omega arith, length-set (c .before .before .loop .row) (c .before .before .loop .k) (c .u32-at .result) ∙ c .before .before .loop .inv .1, row-filled (a .bytes .now) (a .at + 6) (c .before .before .loop .k) (c .before .before .loop .row) (c .u32-at .result) (omega arith) (c .before .before .loop .inv .2) (c .u32-at .ensures))
+    let a = c .before .before .before .before .args in (
+      omega arith,
+      length-set (c .before .before .loop .row) (c .before .before .loop .k) (c .u32-at .result) ∙ c .before .before .loop .inv .1,
+      row-filled (a .bytes .now) (a .at + 6) (c .before .before .loop .k) (c .before .before .loop .row) (c .u32-at .result) (omega arith) (c .before .before .loop .inv .2)
+          (c .u32-at .ensures),
+    )
 
 returns : tie.Need-returns Inv-loop μ-loop
 returns c = let a = c .before .before .before .args in let e : c .before .loop .k ≡ a .width = omega arith in rw e at (c .before .loop .inv .2)

@@ -26,7 +26,9 @@ same-length : tie.Need-same-length
 same-length c = search needs
 
 returns : tie.Need-returns
-returns c = let a = (c .before .before .before .before .before .args) in λ w p. placed-none (a .area .now) (a .i) (omega (arith, c .before .before .before .before .before .pre .0, c .before .before .before .before .before .pre .1)) w (a .count) (c .before .before .clear-run .last .0) p (c .before .before .clear-run .ensures)
+returns c = let a = (c .before .before .before .before .before .args) in λ w p. placed-none (a .area .now) (a .i)
+    (omega (arith, c .before .before .before .before .before .pre .0, c .before .before .before .before .before .pre .1)) w (a .count) (c .before .before .clear-run .last .0) p
+    (c .before .before .clear-run .ensures)
 
 pub clear-place-spec : {M : Type 1} → statement M
 clear-place-spec =

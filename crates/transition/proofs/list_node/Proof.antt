@@ -23,7 +23,8 @@ shared-slice-read-if2 : tie.Need-shared-slice-read-if2
 shared-slice-read-if2 c = omega (arith, c .before .before .before .pre .1)
 
 returns-2 : tie.Need-returns-2
-returns-2 c = let a = (c .before .before .before .before .args) in rw (eq-eqb (getD (a .levels .now) (a .i) 0) (a .level) (c .before .before .if1 .left), not-true (getD (a .listed .now) (a .i) false) (c .if2 .taken)) (refl, omega arith)
+returns-2 c = let a = (c .before .before .before .before .args)
+    in rw (eq-eqb (getD (a .levels .now) (a .i) 0) (a .level) (c .before .before .if1 .left), not-true (getD (a .listed .now) (a .i) false) (c .if2 .taken)) (refl, omega arith)
 
 cast-entries : tie.Need-cast-entries
 cast-entries c = omega (arith, c .before .before .before .before .pre .2)
@@ -32,16 +33,21 @@ mul-entries : tie.Need-mul-entries
 mul-entries c = search needs
 
 slice-write-entries : tie.Need-slice-write-entries
-slice-write-entries c = let a = (c .before .before .before .before .args) in let room : a .k + 1 ≤ 32 = rw (eq-eqb (getD (a .levels .now) (a .i) 0) (a .level) (c .before .before .if1 .left), not-false (getD (a .listed .now) (a .i) false) (c .if2 .left)) at (c .before .before .before .before .pre .4) in omega (arith, room, c .before .before .before .before .pre .3)
+slice-write-entries c = let a = (c .before .before .before .before .args) in let room : a .k + 1 ≤ 32 =
+    rw (eq-eqb (getD (a .levels .now) (a .i) 0) (a .level) (c .before .before .if1 .left), not-false (getD (a .listed .now) (a .i) false) (c .if2 .left))
+    at (c .before .before .before .before .pre .4) in omega (arith, room, c .before .before .before .before .pre .3)
 
 add-result : tie.Need-add-result
-add-result c = let a = (c .before .before .before .before .args) in let room : a .k + 1 ≤ 32 = rw (eq-eqb (getD (a .levels .now) (a .i) 0) (a .level) (c .before .before .if1 .left), not-false (getD (a .listed .now) (a .i) false) (c .if2 .left)) at (c .before .before .before .before .pre .4) in omega (arith, room)
+add-result c = let a = (c .before .before .before .before .args) in let room : a .k + 1 ≤ 32 =
+    rw (eq-eqb (getD (a .levels .now) (a .i) 0) (a .level) (c .before .before .if1 .left), not-false (getD (a .listed .now) (a .i) false) (c .if2 .left))
+    at (c .before .before .before .before .pre .4) in omega (arith, room)
 
 same-length : tie.Need-same-length
 same-length c = search needs
 
 returns-3 : tie.Need-returns-3
-returns-3 c = let a = (c .before .before .before .before .args) in rw (eq-eqb (getD (a .levels .now) (a .i) 0) (a .level) (c .before .before .if1 .left), not-false (getD (a .listed .now) (a .i) false) (c .if2 .left)) (refl, refl)
+returns-3 c = let a = (c .before .before .before .before .args)
+    in rw (eq-eqb (getD (a .levels .now) (a .i) 0) (a .level) (c .before .before .if1 .left), not-false (getD (a .listed .now) (a .i) false) (c .if2 .left)) (refl, refl)
 
 pub list-node-spec : {M : Type 1} → statement M
 list-node-spec =

@@ -23,7 +23,15 @@ unfolding flatMap
 loop-holds c = (zero-le, refl, refl)
 
 list-level-requires : tie.Need-list-level-requires Inv-loop μ-loop
-list-level-requires c κs = let a = (c .before .before .before .before .before .before .args) in (c .before .before .before .before .before .before .pre .0, c .before .before .before .before .before .before .pre .1, c .before .before .before .before .before .before .pre .2, ap length (c .before .before .loop .inv .1) ∙ length-sets (a .entries .now) 0 (listTo (a .levels .now) (a .listed .now) (a .n) (c .before .before .loop .level)) ∙ ap length (c .before .before .before .before .before .before .pre .3), rw (c .before .before .loop .inv .2) (list-room (a .levels .now) (a .listed .now) (a .n) (c .before .before .loop .level) (c .before .before .before .before .before .before .pre .2)))
+list-level-requires c κs = let a = (c .before .before .before .before .before .before .args)
+    in (
+      c .before .before .before .before .before .before .pre .0,
+      c .before .before .before .before .before .before .pre .1,
+      c .before .before .before .before .before .before .pre .2,
+      ap length (c .before .before .loop .inv .1) ∙ length-sets (a .entries .now) 0 (listTo (a .levels .now) (a .listed .now) (a .n) (c .before .before .loop .level))
+          ∙ ap length (c .before .before .before .before .before .before .pre .3),
+      rw (c .before .before .loop .inv .2) (list-room (a .levels .now) (a .listed .now) (a .n) (c .before .before .loop .level) (c .before .before .before .before .before .before .pre .2)),
+    )
 
 add-level : tie.Need-add-level Inv-loop μ-loop
 add-level c = omega arith
@@ -32,13 +40,26 @@ loop-less : tie.Need-loop-less Inv-loop μ-loop
 loop-less c = omega arith
 
 loop-again : tie.Need-loop-again Inv-loop μ-loop
-loop-again c = let a = (c .before .before .before .before .before .before .before .before .before .args) in let s = list-step (a .levels .now) (a .listed .now) (a .n) (c .before .before .before .before .before .loop .level) (a .entries .now) (c .before .before .before .before .before .loop .entries) (c .before .before .list-level .last .1 .1 .1 .1 .0) (c .before .before .before .before .before .loop .k) (c .before .before .list-level .result) (c .before .before .before .before .before .loop .inv .1) (c .before .before .before .before .before .loop .inv .2) (c .before .before .list-level .ensures .0) (c .before .before .list-level .ensures .1) in (omega (arith, c .before .before .before .before .loop-test .taken), s .0, s .1)
+loop-again c = let a = (c .before .before .before .before .before .before .before .before .before .args) in let s = list-step (a .levels .now) (a .listed .now) (a .n)
+    (c .before .before .before .before .before .loop .level) (a .entries .now) (c .before .before .before .before .before .loop .entries) (c .before .before .list-level .last .1 .1 .1 .1 .0)
+    (c .before .before .before .before .before .loop .k) (c .before .before .list-level .result) (c .before .before .before .before .before .loop .inv .1)
+    (c .before .before .before .before .before .loop .inv .2) (c .before .before .list-level .ensures .0) (c .before .before .list-level .ensures .1)
+    in (omega (arith, c .before .before .before .before .loop-test .taken), s .0, s .1)
 
 same-length : tie.Need-same-length Inv-loop μ-loop
-same-length c = let a = (c .before .before .before .before .before .args) in ap length (c .before .loop .inv .1) ∙ length-sets (a .entries .now) 0 (listTo (a .levels .now) (a .listed .now) (a .n) (c .before .loop .level))
+same-length c = let a = (c .before .before .before .before .before .args) in ap length (c .before .loop .inv .1)
+    ∙ length-sets (a .entries .now) 0 (listTo (a .levels .now) (a .listed .now) (a .n) (c .before .loop .level))
 
 returns : tie.Need-returns Inv-loop μ-loop
-returns c = let a = (c .before .before .before .before .before .args) in let e : c .before .loop .level ≡ a .n = omega (arith, c .before .loop .inv .0, c .loop-test .left) in let short : length (listTo (a .levels .now) (a .listed .now) (a .n) (a .n)) ≤ a .n = list-short (a .levels .now) (a .listed .now) (a .n) 0 (a .n) in (rw e at (c .before .loop .inv .1) ∙ ap (λ (l : List ℕ). sets l 0 (listTo (a .levels .now) (a .listed .now) (a .n) (a .n))) (c .before .before .before .before .before .pre .3) ∙ sets-zeros (listTo (a .levels .now) (a .listed .now) (a .n) (a .n)) (omega (arith, short, c .before .before .before .before .before .pre .2)), rw e at (c .before .loop .inv .2), omega (arith, rw e at (c .before .loop .inv .2), short, c .before .before .before .before .before .pre .2))
+returns c = let a = (c .before .before .before .before .before .args) in let e : c .before .loop .level
+    ≡ a .n = omega (arith, c .before .loop .inv .0, c .loop-test .left) in let short : length (listTo (a .levels .now) (a .listed .now) (a .n) (a .n)) ≤ a .n = list-short (a .levels .now)
+    (a .listed .now) (a .n) 0
+    (a .n) in (
+      rw e at (c .before .loop .inv .1) ∙ ap (λ (l : List ℕ). sets l 0 (listTo (a .levels .now) (a .listed .now) (a .n) (a .n))) (c .before .before .before .before .before .pre .3)
+          ∙ sets-zeros (listTo (a .levels .now) (a .listed .now) (a .n) (a .n)) (omega (arith, short, c .before .before .before .before .before .pre .2)),
+      rw e at (c .before .loop .inv .2),
+      omega (arith, rw e at (c .before .loop .inv .2), short, c .before .before .before .before .before .pre .2),
+    )
 
 pub list-worked-spec : {M : Type 1} → statement M
 list-worked-spec =

@@ -14,7 +14,8 @@ use Rattle.transition.proofs.listed_nodes.Lts as lts
 use Rattle.transition.proofs.is_listed.Reads as is-listed-reads
 
 abbrev Inv-loop : tie.InvT-loop
-Inv-loop changed net listed₀ i₀ listed i = (i ≤ net .count) × (length listed ≡ 32) × ((j : ℕ) → j < i → getD listed j false ≡ listedIn net changed j) × ((j : ℕ) → i ≤ j → j < 32 → getD listed j false ≡ false)
+Inv-loop changed net listed₀ i₀ listed i = (i ≤ net .count) × (length listed ≡ 32) × ((j : ℕ) → j < i → getD listed j false ≡ listedIn net changed j)
+    × ((j : ℕ) → i ≤ j → j < 32 → getD listed j false ≡ false)
 
 abbrev μ-loop : tie.MeasureT-loop
 μ-loop changed net listed₀ i₀ listed i = net .count - i
@@ -35,10 +36,17 @@ element-copy-out-level : tie.Need-element-copy-out-level Inv-loop μ-loop
 element-copy-out-level c = omega (arith, c .before .loop-test .taken, c .before .before .before .before .pre .0 .sound .few, c .before .before .before .before .pre .0 .levels-length)
 
 is-listed-requires : tie.Need-is-listed-requires Inv-loop μ-loop
-is-listed-requires c κs = let a = (c .before .before .before .before .before .args) in λ n. let d = level-derived (a .t1) (c .before .before .before .before .before .pre .0) (c .before .before .before .before .before .pre .1) (c .before .before .before .loop .i) (c .before .before .loop-test .taken) n in (omega (arith, d .left, c .before .before .loop-test .taken, c .before .before .before .before .before .pre .0 .sound .few, c .before .before .before .before .before .pre .2), omega (arith, d .right, c .before .before .loop-test .taken, c .before .before .before .before .before .pre .0 .sound .few, c .before .before .before .before .before .pre .2))
+is-listed-requires c κs = let a = (c .before .before .before .before .before .args) in λ n. let d = level-derived (a .t1) (c .before .before .before .before .before .pre .0)
+    (c .before .before .before .before .before .pre .1) (c .before .before .before .loop .i)
+    (c .before .before .loop-test .taken) n
+    in (
+      omega (arith, d .left, c .before .before .loop-test .taken, c .before .before .before .before .before .pre .0 .sound .few, c .before .before .before .before .before .pre .2),
+      omega (arith, d .right, c .before .before .loop-test .taken, c .before .before .before .before .before .pre .0 .sound .few, c .before .before .before .before .before .pre .2),
+    )
 
 array-write-listed : tie.Need-array-write-listed Inv-loop μ-loop
-array-write-listed c = omega (arith, c .before .before .before .loop-test .taken, c .before .before .before .before .before .before .pre .0 .sound .few, c .before .before .before .before .loop .inv .1)
+array-write-listed c = omega
+    (arith, c .before .before .before .loop-test .taken, c .before .before .before .before .before .before .pre .0 .sound .few, c .before .before .before .before .loop .inv .1)
 
 add-i : tie.Need-add-i Inv-loop μ-loop
 add-i c = omega (arith, c .before .before .before .loop-test .taken, c .before .before .before .before .before .before .pre .0 .sound .few)

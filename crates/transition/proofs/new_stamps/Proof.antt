@@ -34,7 +34,8 @@ mul-stamp-of : tie.Need-mul-stamp-of Inv-loop μ-loop
 mul-stamp-of c = omega (arith, c .before .loop-test .taken, c .before .before .before .before .before .pre .0)
 
 shared-slice-read-stamp-of-2 : tie.Need-shared-slice-read-stamp-of-2 Inv-loop μ-loop
-shared-slice-read-stamp-of-2 c = omega (arith, c .before .before .loop-test .taken, c .before .before .before .before .before .before .pre .0, c .before .before .before .before .before .before .pre .1)
+shared-slice-read-stamp-of-2 c = omega
+    (arith, c .before .before .loop-test .taken, c .before .before .before .before .before .before .pre .0, c .before .before .before .before .before .before .pre .1)
 
 stamp-of-requires : tie.Need-stamp-of-requires Inv-loop μ-loop
 stamp-of-requires c κs = search needs
@@ -43,7 +44,12 @@ mul-stamps : tie.Need-mul-stamps Inv-loop μ-loop
 mul-stamps c = omega (arith, c .before .before .before .loop-test .taken, c .before .before .before .before .before .before .before .pre .0)
 
 array-write-stamps : tie.Need-array-write-stamps Inv-loop μ-loop
-array-write-stamps c = let a = (c .before .before .before .before .before .before .before .args) in let size : length (c .before .before .before .before .loop .stamps) ≡ 32 = ap length (c .before .before .before .before .loop .inv .1) ∙ padded-length 32 (stampsFrom (a .head .now) (a .changed .now) (a .number) (c .before .before .before .before .loop .i)) (rw (length-counted (λ j. cond (getD (a .changed .now) j false) (a .number) (stampAt (a .head .now) j)) 0 (c .before .before .before .before .loop .i)) (omega (arith, c .before .before .before .before .loop .inv .0, c .before .before .before .before .before .before .before .pre .0))) in omega (arith, c .before .before .before .loop-test .taken, c .before .before .before .before .before .before .before .pre .0, size)
+array-write-stamps c = let a = (c .before .before .before .before .before .before .before .args) in let size : length (c .before .before .before .before .loop .stamps)
+    ≡ 32 = ap length (c .before .before .before .before .loop .inv .1)
+    ∙ padded-length 32 (stampsFrom (a .head .now) (a .changed .now) (a .number) (c .before .before .before .before .loop .i))
+    (rw (length-counted (λ j. cond (getD (a .changed .now) j false) (a .number) (stampAt (a .head .now) j)) 0 (c .before .before .before .before .loop .i))
+    (omega (arith, c .before .before .before .before .loop .inv .0, c .before .before .before .before .before .before .before .pre .0))) in omega
+    (arith, c .before .before .before .loop-test .taken, c .before .before .before .before .before .before .before .pre .0, size)
 
 add-i : tie.Need-add-i Inv-loop μ-loop
 add-i c = omega (arith, c .before .before .before .loop-test .taken, c .before .before .before .before .before .before .before .pre .0)
@@ -52,10 +58,18 @@ loop-less : tie.Need-loop-less Inv-loop μ-loop
 loop-less c = omega arith
 
 loop-again : tie.Need-loop-again Inv-loop μ-loop
-loop-again c = let a = (c .before .before .before .before .before .before .before .args) in (omega (arith, c .before .before .before .loop-test .taken), stamps-more (a .head .now) (a .changed .now) (a .number) (c .before .before .before .before .loop .i) (c .before .before .before .before .loop .stamps) (c .stamp-of .result) (omega (arith, c .before .before .before .loop-test .taken, c .before .before .before .before .before .before .before .pre .0)) (c .before .before .before .before .loop .inv .1) (c .stamp-of .ensures))
+loop-again c = let a = (c .before .before .before .before .before .before .before .args)
+    in (
+      omega (arith, c .before .before .before .loop-test .taken),
+      stamps-more (a .head .now) (a .changed .now) (a .number) (c .before .before .before .before .loop .i)
+          (c .before .before .before .before .loop .stamps) (c .stamp-of .result)
+          (omega (arith, c .before .before .before .loop-test .taken, c .before .before .before .before .before .before .before .pre .0)) (c .before .before .before .before .loop .inv .1)
+          (c .stamp-of .ensures),
+    )
 
 returns : tie.Need-returns Inv-loop μ-loop
-returns c = let a = (c .before .before .before .before .args) in let e : c .before .loop .i ≡ a .n = omega (arith, c .before .loop .inv .0, c .loop-test .left) in rw e at (c .before .loop .inv .1)
+returns c = let a = (c .before .before .before .before .args) in let e : c .before .loop .i
+    ≡ a .n = omega (arith, c .before .loop .inv .0, c .loop-test .left) in rw e at (c .before .loop .inv .1)
 
 pub new-stamps-spec : {M : Type 1} → statement M
 new-stamps-spec =

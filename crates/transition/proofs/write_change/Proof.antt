@@ -41,7 +41,16 @@ part-write-difference-end-2 : tie.Need-part-write-difference-end-2
 part-write-difference-end-2 c = search needs
 
 write-difference-requires : tie.Need-write-difference-requires
-write-difference-requires c κs = let a = (c .before .before .before .before .before .before .before .before .args) in (c .before .before .before .before .before .before .before .before .pre .0, c .before .before .before .before .before .before .before .before .pre .3, c .before .before .before .before .before .before .before .before .pre .5, c .before .before .before .before .before .before .before .before .pre .6, place-long (a .work .now) (a .i) (c .before .before .before .before .before .before .before .before .pre .0) (c .before .before .before .before .before .before .before .before .pre .1), place-long (a .rows .now) (a .i) (c .before .before .before .before .before .before .before .before .pre .0) (c .before .before .before .before .before .before .before .before .pre .2), c .before .before .before .before .before .before .before .before .pre .8)
+write-difference-requires c κs = let a = (c .before .before .before .before .before .before .before .before .args)
+    in (
+      c .before .before .before .before .before .before .before .before .pre .0,
+      c .before .before .before .before .before .before .before .before .pre .3,
+      c .before .before .before .before .before .before .before .before .pre .5,
+      c .before .before .before .before .before .before .before .before .pre .6,
+      place-long (a .work .now) (a .i) (c .before .before .before .before .before .before .before .before .pre .0) (c .before .before .before .before .before .before .before .before .pre .1),
+      place-long (a .rows .now) (a .i) (c .before .before .before .before .before .before .before .before .pre .0) (c .before .before .before .before .before .before .before .before .pre .2),
+      c .before .before .before .before .before .before .before .before .pre .8,
+    )
 
 mul-write-difference-3 : tie.Need-mul-write-difference-3
 mul-write-difference-3 c = search needs
@@ -68,10 +77,32 @@ part-write-difference-end-4 : tie.Need-part-write-difference-end-4
 part-write-difference-end-4 c = search needs
 
 write-difference-requires-2 : tie.Need-write-difference-requires-2
-write-difference-requires-2 c κs = let a = (c .before .before .before .before .before .before .before .before .before .before .before .before .before .before .before .args) in (c .before .before .before .before .before .before .before .before .before .before .before .before .before .before .before .pre .0, c .before .before .before .before .before .before .before .before .before .before .before .before .before .before .before .pre .4, c .before .before .before .before .before .before .before .before .before .before .before .before .before .before .before .pre .6, c .before .before .before .before .before .before .before .before .before .before .before .before .before .before .before .pre .5, place-long (a .rows .now) (a .i) (c .before .before .before .before .before .before .before .before .before .before .before .before .before .before .before .pre .0) (c .before .before .before .before .before .before .before .before .before .before .before .before .before .before .before .pre .2), place-long (a .work .now) (a .i) (c .before .before .before .before .before .before .before .before .before .before .before .before .before .before .before .pre .0) (c .before .before .before .before .before .before .before .before .before .before .before .before .before .before .before .pre .1), c .before .before .before .before .before .before .before .before .before .before .before .before .before .before .before .pre .7)
+write-difference-requires-2 c κs = let a = (c .before .before .before .before .before .before .before .before .before .before .before .before .before .before .before .args)
+    in (
+      c .before .before .before .before .before .before .before .before .before .before .before .before .before .before .before .pre .0,
+      c .before .before .before .before .before .before .before .before .before .before .before .before .before .before .before .pre .4,
+      c .before .before .before .before .before .before .before .before .before .before .before .before .before .before .before .pre .6,
+      c .before .before .before .before .before .before .before .before .before .before .before .before .before .before .before .pre .5,
+      place-long (a .rows .now) (a .i) (c .before .before .before .before .before .before .before .before .before .before .before .before .before .before .before .pre .0)
+          (c .before .before .before .before .before .before .before .before .before .before .before .before .before .before .before .pre .2),
+      place-long (a .work .now) (a .i) (c .before .before .before .before .before .before .before .before .before .before .before .before .before .before .before .pre .0)
+          (c .before .before .before .before .before .before .before .before .before .before .before .before .before .before .before .pre .1),
+      c .before .before .before .before .before .before .before .before .before .before .before .before .before .before .before .pre .7,
+    )
 
 copy-run-requires : tie.Need-copy-run-requires
-copy-run-requires c κs = (omega (arith, c .before .before .before .before .before .before .before .before .before .before .before .before .before .before .before .before .before .before .before .pre .0, c .before .before .before .before .before .before .before .before .before .before .before .before .before .before .before .before .before .before .before .pre .1), omega (arith, c .before .before .before .before .before .before .before .before .before .before .before .before .before .before .before .before .before .before .before .pre .0, c .before .before .before .before .before .before .before .before .before .before .before .before .before .before .before .before .before .before .before .pre .2))
+copy-run-requires c κs = (
+  omega (
+    arith,
+    c .before .before .before .before .before .before .before .before .before .before .before .before .before .before .before .before .before .before .before .pre .0,
+    c .before .before .before .before .before .before .before .before .before .before .before .before .before .before .before .before .before .before .before .pre .1,
+  ),
+  omega (
+    arith,
+    c .before .before .before .before .before .before .before .before .before .before .before .before .before .before .before .before .before .before .before .pre .0,
+    c .before .before .before .before .before .before .before .before .before .before .before .before .before .before .before .before .before .before .before .pre .2,
+  ),
+)
 
 same-length : tie.Need-same-length
 same-length c = search needs
@@ -83,7 +114,14 @@ same-length-3 : tie.Need-same-length-3
 same-length-3 c = search needs
 
 returns : tie.Need-returns
-returns c = let a = (c .before .before .before .before .before .before .before .before .before .before .before .before .before .before .before .before .before .before .before .before .before .before .args) in λ w p q. let g = c .before .before .before .before .before .before .before .before .before .before .before .before .before .write-difference .ensures w p q in let l = c .before .before .before .before .before .before .write-difference2 .ensures w q p in record { rows-are = c .before .before .copy-run .ensures ∙ placed-from (a .work .now) (a .rows .now) (a .i) w (a .n) p; gained-are = g .0; lost-are = l .0; sizes-are = λ k. record { gained = g .1 k; lost = l .1 k } }
+returns c = let a = (c .before .before .before .before .before .before .before .before .before .before .before .before .before .before .before .before .before .before .before .before .before
+    .before .args) in λ w p q. let g = c .before .before .before .before .before .before .before .before .before .before .before .before .before .write-difference .ensures w p q in let l =
+    c .before .before .before .before .before .before .write-difference2 .ensures w q p in record {
+      rows-are = c .before .before .copy-run .ensures ∙ placed-from (a .work .now) (a .rows .now) (a .i) w (a .n) p;
+      gained-are = g .0;
+      lost-are = l .0;
+      sizes-are = λ k. record { gained = g .1 k; lost = l .1 k };
+    }
 
 pub write-change-spec : {M : Type 1} → statement M
 write-change-spec =

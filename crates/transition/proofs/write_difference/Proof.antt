@@ -15,7 +15,13 @@ slice-aggregate-difference-rows : tie.Need-slice-aggregate-difference-rows
 slice-aggregate-difference-rows c = search needs
 
 difference-rows-requires : tie.Need-difference-rows-requires
-difference-rows-requires c κs = (c .before .before .before .before .pre .2, omega (arith, c .before .before .before .before .pre .2, c .before .before .before .before .pre .4), omega (arith, c .before .before .before .before .pre .3, c .before .before .before .before .pre .5), c .before .before .before .before .pre .6, refl)
+difference-rows-requires c κs = (
+  c .before .before .before .before .pre .2,
+  omega (arith, c .before .before .before .before .pre .2, c .before .before .before .before .pre .4),
+  omega (arith, c .before .before .before .before .pre .3, c .before .before .before .before .pre .5),
+  c .before .before .before .before .pre .6,
+  refl,
+)
 
 slice-aggregate-copy-run : tie.Need-slice-aggregate-copy-run
 slice-aggregate-copy-run c = search needs
@@ -24,13 +30,16 @@ mul-copy-run : tie.Need-mul-copy-run
 mul-copy-run c = search needs
 
 copy-run-requires : tie.Need-copy-run-requires
-copy-run-requires c κs = (omega arith, omega (arith, c .before .before .before .before .before .before .before .before .pre .0, c .before .before .before .before .before .before .before .before .pre .1))
+copy-run-requires c κs =
+    (omega arith, omega (arith, c .before .before .before .before .before .before .before .before .pre .0, c .before .before .before .before .before .before .before .before .pre .1))
 
 same-length : tie.Need-same-length
 same-length c = search needs
 
 returns : tie.Need-returns
-returns c = let a = (c .before .before .before .before .before .before .before .before .before .before .before .args) in λ w p q. let f = c .before .before .before .before .before .before .difference-rows .ensures w p q in (c .before .before .copy-run .ensures ∙ ap (λ (l : List ℕ). paste (a .area .now) (a .i * 256) l 256) (f .is), f .count)
+returns c = let a = (c .before .before .before .before .before .before .before .before .before .before .before .args) in λ w p q. let f =
+    c .before .before .before .before .before .before .difference-rows .ensures w p q
+    in (c .before .before .copy-run .ensures ∙ ap (λ (l : List ℕ). paste (a .area .now) (a .i * 256) l 256) (f .is), f .count)
 
 pub write-difference-spec : {M : Type 1} → statement M
 write-difference-spec =

@@ -64,7 +64,12 @@ slice-aggregate-put-line-at-2 : tie.Need-slice-aggregate-put-line-at-2
 slice-aggregate-put-line-at-2 c = search needs
 
 add-t45 : tie.Need-add-t45
-add-t45 c = omega (arith, c .before .before .before .before .before .before .before .before .before .before .before .before .before .before .before .before .before .before .before .before .before .before .run-file .ensures .1, c .before .before .before .before .before .before .before .before .before .before .run-file2 .ensures .1)
+add-t45 c = omega (
+  arith,
+  c .before .before .before .before .before .before .before .before .before .before .before .before .before .before .before .before .before .before .before .before .before .before
+      .run-file .ensures .1,
+  c .before .before .before .before .before .before .before .before .before .before .run-file2 .ensures .1,
+)
 
 slice-aggregate-put-line-at-3 : tie.Need-slice-aggregate-put-line-at-3
 slice-aggregate-put-line-at-3 c = search needs
@@ -79,7 +84,15 @@ slice-aggregate-put-line-at-5 : tie.Need-slice-aggregate-put-line-at-5
 slice-aggregate-put-line-at-5 c = search needs
 
 add-t45-2 : tie.Need-add-t45-2
-add-t45-2 c = omega (arith, c .before .before .before .before .before .before .before .before .before .before .before .before .before .before .before .before .before .before .before .before .before .before .before .before .before .before .before .before .before .run-file .ensures .0, c .before .before .before .before .before .before .before .before .before .before .before .before .before .before .before .before .before .before .before .before .before .before .before .before .before .before .before .before .before .run-file .ensures .1, c .before .before .before .before .before .before .before .before .before .before .before .before .before .before .before .before .before .run-file2 .ensures .0, c .before .before .before .before .before .before .before .before .before .before .before .before .before .before .before .before .before .run-file2 .ensures .1)
+add-t45-2 c = omega (
+  arith,
+  c .before .before .before .before .before .before .before .before .before .before .before .before .before .before .before .before .before .before .before .before .before .before .before
+      .before .before .before .before .before .before .run-file .ensures .0,
+  c .before .before .before .before .before .before .before .before .before .before .before .before .before .before .before .before .before .before .before .before .before .before .before
+      .before .before .before .before .before .before .run-file .ensures .1,
+  c .before .before .before .before .before .before .before .before .before .before .before .before .before .before .before .before .before .run-file2 .ensures .0,
+  c .before .before .before .before .before .before .before .before .before .before .before .before .before .before .before .before .before .run-file2 .ensures .1,
+)
 
 slice-aggregate-put-line-at-6 : tie.Need-slice-aggregate-put-line-at-6
 slice-aggregate-put-line-at-6 c = search needs
@@ -91,7 +104,9 @@ array-share-prefix-text : tie.Need-array-share-prefix-text
 array-share-prefix-text c = search needs
 
 slice-aggregate-write-all : tie.Need-slice-aggregate-write-all
-slice-aggregate-write-all c = sym (length-take-le (c .before .before .put-line-at2 .result) (c .before .before .put-line-at2 .last .0) (omega (arith, c .before .before .before .before .before .before .before .before .before .put-line-at .ensures .2, c .before .before .put-line-at2 .ensures .2)))
+slice-aggregate-write-all c = sym
+    (length-take-le (c .before .before .put-line-at2 .result) (c .before .before .put-line-at2 .last .0)
+    (omega (arith, c .before .before .before .before .before .before .before .before .before .put-line-at .ensures .2, c .before .before .put-line-at2 .ensures .2)))
 
 write-all-requires : tie.Need-write-all-requires
 write-all-requires c κs = search needs

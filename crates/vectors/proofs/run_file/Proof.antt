@@ -22,7 +22,16 @@ slice-aggregate-run-vectors : tie.Need-slice-aggregate-run-vectors
 slice-aggregate-run-vectors c = search needs
 
 run-vectors-requires : tie.Need-run-vectors-requires
-run-vectors-requires c κs = (omega (arith, length-take-le (c .before .before .before .before .before .before .before .read-full .result) (c .before .before .before .before .before .before .before .read-full .last .1 .0) (omega (arith, c .before .before .before .before .before .before .before .read-full .ensures .0)), c .before .before .before .before .before .before .before .read-full .ensures .0), c .before .before .before .before .before .before .before .before .before .before .before .before .before .before .before .before .pre .0, c .before .before .before .before .before .before .before .before .before .before .before .before .before .before .before .before .pre .1)
+run-vectors-requires c κs = (
+  omega (
+    arith,
+    length-take-le (c .before .before .before .before .before .before .before .read-full .result)
+        (c .before .before .before .before .before .before .before .read-full .last .1 .0) (omega (arith, c .before .before .before .before .before .before .before .read-full .ensures .0)),
+    c .before .before .before .before .before .before .before .read-full .ensures .0,
+  ),
+  c .before .before .before .before .before .before .before .before .before .before .before .before .before .before .before .before .pre .0,
+  c .before .before .before .before .before .before .before .before .before .before .before .before .before .before .before .before .pre .1,
+)
 
 same-length : tie.Need-same-length
 same-length c = search needs
@@ -40,7 +49,17 @@ same-length-5 : tie.Need-same-length-5
 same-length-5 c = search needs
 
 returns : tie.Need-returns
-returns c = (c .before .before .before .before .before .before .before .before .before .before .run-vectors .ensures .fewer, omega (arith, c .before .before .before .before .before .before .before .before .before .before .run-vectors .ensures .few, length-take-le (c .before .before .before .before .before .before .before .before .before .before .before .before .before .before .before .before .before .before .read-full .result) (c .before .before .before .before .before .before .before .before .before .before .before .before .before .before .before .before .before .before .read-full .last .1 .0) (omega (arith, c .before .before .before .before .before .before .before .before .before .before .before .before .before .before .before .before .before .before .read-full .ensures .0)), c .before .before .before .before .before .before .before .before .before .before .before .before .before .before .before .before .before .before .read-full .ensures .0))
+returns c = (
+  c .before .before .before .before .before .before .before .before .before .before .run-vectors .ensures .fewer,
+  omega (
+    arith,
+    c .before .before .before .before .before .before .before .before .before .before .run-vectors .ensures .few,
+    length-take-le (c .before .before .before .before .before .before .before .before .before .before .before .before .before .before .before .before .before .before .read-full .result)
+        (c .before .before .before .before .before .before .before .before .before .before .before .before .before .before .before .before .before .before .read-full .last .1 .0)
+        (omega (arith, c .before .before .before .before .before .before .before .before .before .before .before .before .before .before .before .before .before .before .read-full .ensures .0)),
+    c .before .before .before .before .before .before .before .before .before .before .before .before .before .before .before .before .before .before .read-full .ensures .0,
+  ),
+)
 
 pub run-file-spec : {M : Type 1} → statement M
 run-file-spec =

@@ -33,7 +33,8 @@ shared-slice-read-if2-2 : tie.Need-shared-slice-read-if2-2 Inv-loop μ-loop
 shared-slice-read-if2-2 c = omega (arith, c .before .before .before .loop .inv .1, c .before .before .loop-test .taken)
 
 returns-2 : tie.Need-returns-2 Inv-loop μ-loop
-returns-2 c = let a = c .before .before .before .before .before .before .args in stands-not (a .text .now) (a .part .now) (a .at) (c .before .before .before .before .loop .k) (omega (arith, c .before .before .before .before .loop .inv .1, c .before .before .before .loop-test .taken)) (c .if2 .taken)
+returns-2 c = let a = c .before .before .before .before .before .before .args in stands-not (a .text .now) (a .part .now) (a .at) (c .before .before .before .before .loop .k)
+    (omega (arith, c .before .before .before .before .loop .inv .1, c .before .before .before .loop-test .taken)) (c .if2 .taken)
 
 add-k : tie.Need-add-k Inv-loop μ-loop
 add-k c = omega (arith, c .before .before .before .before .loop .inv .1, c .before .before .before .before .loop .inv .2, c .before .before .before .loop-test .taken)
@@ -42,10 +43,19 @@ loop-less : tie.Need-loop-less Inv-loop μ-loop
 loop-less c = omega (arith, c .before .before .before .loop-test .taken)
 
 loop-again : tie.Need-loop-again Inv-loop μ-loop
-loop-again c = let a = c .before .before .before .before .before .before .args in (omega (arith, c .before .before .before .loop-test .taken), c .before .before .before .before .loop .inv .1, c .before .before .before .before .loop .inv .2, stands-more (a .text .now) (a .part .now) (a .at) (c .before .before .before .before .loop .k) (omega (arith, c .before .before .before .before .loop .inv .1, c .before .before .before .loop-test .taken)) (c .before .before .before .before .loop .inv .2) (c .before .before .before .before .loop .inv .3) (c .if2 .left))
+loop-again c = let a = c .before .before .before .before .before .before .args
+    in (
+      omega (arith, c .before .before .before .loop-test .taken),
+      c .before .before .before .before .loop .inv .1,
+      c .before .before .before .before .loop .inv .2,
+      stands-more (a .text .now) (a .part .now) (a .at) (c .before .before .before .before .loop .k)
+          (omega (arith, c .before .before .before .before .loop .inv .1, c .before .before .before .loop-test .taken)) (c .before .before .before .before .loop .inv .2)
+          (c .before .before .before .before .loop .inv .3) (c .if2 .left),
+    )
 
 returns-3 : tie.Need-returns-3 Inv-loop μ-loop
-returns-3 c = let a = c .before .before .before .args in stands-all (a .text .now) (a .part .now) (a .at) (c .before .loop .k) (omega (arith, c .before .loop .inv .0, c .before .loop .inv .1, c .loop-test .left)) (c .before .loop .inv .3)
+returns-3 c = let a = c .before .before .before .args in stands-all (a .text .now) (a .part .now) (a .at) (c .before .loop .k)
+    (omega (arith, c .before .loop .inv .0, c .before .loop .inv .1, c .loop-test .left)) (c .before .loop .inv .3)
 
 pub stands-at-spec : {M : Type 1} → statement M
 stands-at-spec =

@@ -12,7 +12,11 @@ sub-if1 : tie.Need-sub-if1
 sub-if1 c = search needs
 
 returns : tie.Need-returns
-returns c = let a = c .before .before .args in (vector-short (a .packed .now) (a .at) (c .if1 .taken), record { after = omega (arith, c .before .before .pre .0); network = omega arith; batches = omega arith; text = omega arith; whole = omega (arith, c .before .before .pre .0) })
+returns c = let a = c .before .before .args
+    in (
+      vector-short (a .packed .now) (a .at) (c .if1 .taken),
+      record { after = omega (arith, c .before .before .pre .0); network = omega arith; batches = omega arith; text = omega arith; whole = omega (arith, c .before .before .pre .0) },
+    )
 
 u32-at-requires : tie.Need-u32-at-requires
 u32-at-requires c κs = search needs
@@ -57,10 +61,36 @@ add-next : tie.Need-add-next
 add-next c = search needs
 
 returns-2 : tie.Need-returns-2
-returns-2 c = let a = c .before .before .before .before .before .before .before .before .args in (vector-beyond (a .packed .now) (a .at) (c .before .before .before .before .before .u32-at .result) (c .before .before .before .before .u32-at2 .result) (c .before .u32-at3 .result) (c .before .before .before .packed-size .result) (c .before .before .packed-size2 .result) (c .before .before .before .before .before .u32-at .ensures) (c .before .before .before .before .u32-at2 .ensures) (c .before .u32-at3 .ensures) (c .before .before .before .packed-size .ensures .0) (c .before .before .packed-size2 .ensures .0) (omega (arith, c .before .before .before .before .before .before .if1 .left)) (c .if2 .taken), record { after = omega (arith, c .before .before .before .before .before .before .before .before .pre .0); network = omega arith; batches = omega arith; text = omega arith; whole = omega (arith, c .before .before .before .before .before .before .before .before .pre .0) })
+returns-2 c = let a = c .before .before .before .before .before .before .before .before .args
+    in (
+      vector-beyond (a .packed .now) (a .at) (c .before .before .before .before .before .u32-at .result) (c .before .before .before .before .u32-at2 .result) (c .before .u32-at3 .result)
+          (c .before .before .before .packed-size .result) (c .before .before .packed-size2 .result) (c .before .before .before .before .before .u32-at .ensures)
+          (c .before .before .before .before .u32-at2 .ensures) (c .before .u32-at3 .ensures) (c .before .before .before .packed-size .ensures .0) (c .before .before .packed-size2 .ensures .0)
+          (omega (arith, c .before .before .before .before .before .before .if1 .left)) (c .if2 .taken),
+      record {
+        after = omega (arith, c .before .before .before .before .before .before .before .before .pre .0);
+        network = omega arith;
+        batches = omega arith;
+        text = omega arith;
+        whole = omega (arith, c .before .before .before .before .before .before .before .before .pre .0);
+      },
+    )
 
 returns-3 : tie.Need-returns-3
-returns-3 c = let a = c .before .before .before .before .before .before .before .before .args in (vector-read (a .packed .now) (a .at) (c .before .before .before .before .before .u32-at .result) (c .before .before .before .before .u32-at2 .result) (c .before .u32-at3 .result) (c .before .before .before .packed-size .result) (c .before .before .packed-size2 .result) (c .before .before .before .before .before .u32-at .ensures) (c .before .before .before .before .u32-at2 .ensures) (c .before .u32-at3 .ensures) (c .before .before .before .packed-size .ensures .0) (c .before .before .packed-size2 .ensures .0) (omega (arith, c .before .before .before .before .before .before .if1 .left)) (c .if2 .left), record { after = omega (arith, c .before .before .before .before .before .before .before .before .pre .0); network = omega arith; batches = omega arith; text = omega arith; whole = omega (arith, c .if2 .left) })
+returns-3 c = let a = c .before .before .before .before .before .before .before .before .args
+    in (
+      vector-read (a .packed .now) (a .at) (c .before .before .before .before .before .u32-at .result) (c .before .before .before .before .u32-at2 .result) (c .before .u32-at3 .result)
+          (c .before .before .before .packed-size .result) (c .before .before .packed-size2 .result) (c .before .before .before .before .before .u32-at .ensures)
+          (c .before .before .before .before .u32-at2 .ensures) (c .before .u32-at3 .ensures) (c .before .before .before .packed-size .ensures .0) (c .before .before .packed-size2 .ensures .0)
+          (omega (arith, c .before .before .before .before .before .before .if1 .left)) (c .if2 .left),
+      record {
+        after = omega (arith, c .before .before .before .before .before .before .before .before .pre .0);
+        network = omega arith;
+        batches = omega arith;
+        text = omega arith;
+        whole = omega (arith, c .if2 .left);
+      },
+    )
 
 pub vector-at-spec : {M : Type 1} → statement M
 vector-at-spec =

@@ -29,7 +29,13 @@ loop-less : tie.Need-loop-less Inv-loop μ-loop
 loop-less c = omega arith
 
 loop-again : tie.Need-loop-again Inv-loop μ-loop
-loop-again c = let a = c .before .before .before .args in (omega arith, omega arith, zero-more (a .words .now) (a .from) (a .to) (c .before .before .loop .bits) (c .before .before .loop .k) (omega arith) (omega arith) (c .before .before .loop .inv .2))
+loop-again c = let a = c .before .before .before .args
+    in (
+      omega arith,
+      omega arith,
+      zero-more (a .words .now) (a .from) (a .to) (c .before .before .loop .bits) (c .before .before .loop .k) (omega arith) (omega arith)
+          (c .before .before .loop .inv .2),
+    )
 
 returns : tie.Need-returns Inv-loop μ-loop
 returns c = let a = c .before .before .args in zero-all (a .words .now) (a .from) (a .to) (c .before .loop .bits) (c .before .loop .k) (omega arith) (c .before .loop .inv .2)

@@ -4,7 +4,6 @@ use lib.ListN.{length, length-set, replicate}
 use lib.Seq.{paste, paste-zero}
 use Rattle.words.proofs.Runs.{clear-turn}
 use native.Mathlib.Omega.{arith}
-use borrow.Author.Needs.{needs}
 use Rattle.words.proofs.clear_run.Statement.{statement}
 use Rattle.words.proofs.clear_run.Tie as tie
 use Rattle.words.proofs.clear_run.Reads as reads
@@ -36,8 +35,13 @@ loop-less c = omega arith
 loop-again : tie.Need-loop-again Inv-loop μ-loop
 loop-again c =
     let at = c .before in
-    let a = at .before .args in
-    (omega arith, omega arith, simp length-set (at .loop .inv .2), clear-turn (a .words .now) (at .loop .words) (a .from) (a .to) (at .loop .k) (omega arith) (omega arith) (omega arith) (at .loop .inv .3))
+    let a = at .before .args in (
+      omega arith,
+      omega arith,
+      simp length-set (at .loop .inv .2),
+      clear-turn (a .words .now) (at .loop .words) (a .from) (a .to) (at .loop .k) (omega arith) (omega arith) (omega arith)
+          (at .loop .inv .3),
+    )
 
 same-length : tie.Need-same-length Inv-loop μ-loop
 same-length c = omega arith

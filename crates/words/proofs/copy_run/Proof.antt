@@ -4,7 +4,6 @@ use lib.ListN.{length, length-set, drop}
 use lib.Seq.{paste, paste-zero}
 use Rattle.words.proofs.Runs.{copy-turn}
 use native.Mathlib.Omega.{arith}
-use borrow.Author.Needs.{needs}
 use Rattle.words.proofs.copy_run.Statement.{statement}
 use Rattle.words.proofs.copy_run.Tie as tie
 use Rattle.words.proofs.copy_run.Reads as reads

@@ -1,8 +1,7 @@
-use mathlib.Core.Path.{_≡_, refl, sym, _∙_}
+use mathlib.Core.Path.{refl, sym}
 use Prim.Native.Nat.{_≤_, _-_}
 use Rattle.words.proofs.Runs.{SameTo, same-more, same-not, same-all}
 use native.Mathlib.Omega.{arith}
-use borrow.Author.Needs.{needs}
 use Rattle.words.proofs.same_words.Statement.{statement}
 use Rattle.words.proofs.same_words.Tie as tie
 use Rattle.words.proofs.same_words.Reads as reads
