@@ -8,7 +8,7 @@ use native.Mathlib.Nat.{le-refl}
 use lib.ListN.{getD, length, take}
 use lib.Seq.{take-all}
 use Rattle.coherence.specs.Held.{Derived, Places, givenAt, heldAt}
-use Rattle.algebra.specs.Places.{Fills}
+use Rattle.places.specs.Places.{Fills}
 use Rattle.model.specs.Row.{Relation, sameRow, sameRows}
 use Rattle.network.specs.declared.Slot.{Slot}
 use Rattle.rows.proofs.Words.{Wide}

@@ -8,7 +8,7 @@ use lib.ListN.{drop, getD, length, length-drop}
 use lib.Dec.{leb}
 use lib.Seq.{length-take-le}
 use borrow.Author.Tests.{leb-true}
-use Rattle.algebra.specs.Places.{Place, relationIn}
+use Rattle.places.specs.Places.{Place, relationIn}
 use Rattle.coherence.specs.Held.{Places, heldAt}
 use Rattle.model.proofs.Sets.{and-first}
 use Rattle.model.specs.Row.{ascending}

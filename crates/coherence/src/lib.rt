@@ -7,15 +7,15 @@ ghost use Rattle.model.specs.Row.{sameRows};
 ghost use Rattle.model.specs.Network.{isTable};
 ghost use Rattle.model.specs.Areas.{rowCount, coherent};
 ghost use Rattle.network.specs.Reading.{slotNode};
-ghost use Rattle.algebra.specs.Places.{Blank, Makes};
+ghost use Rattle.places.specs.Places.{Blank, Makes};
 ghost use Rattle.coherence.specs.Held.{heldAt, Places, Derived, givenAt, Checkable, slotAgrees, freshIn};
-use algebra::Made;
 use areas::COUNTS;
 use areas::PLACE;
 use evaluation::Held;
 use network::Network;
 use network::Slot;
 use nodes::Node;
+use places::Made;
 
 // The width and the count of node i's rows.
 fn held(widths: &[usize], head: &[u32], i: usize) -> Held

@@ -1,7 +1,7 @@
 // Comparisons of two fields, by their codes.
 ghost use mathlib.Core.Path.{_≡_};
 ghost use Prim.Native.Nat.{_<_};
-ghost use Rattle.model.specs.Algebra.{holdsOf};
+ghost use Rattle.model.specs.Algebra.{holdsOf, compareFields};
 ghost use Rattle.rows.specs.Rows.{orderOf};
 use rows::Order;
 
@@ -43,4 +43,17 @@ pub fn holds(code: usize, outcome: Order) -> bool
         Order::Equal => COMPARISONS[3 * code + 1] == 1,
         Order::Greater => COMPARISONS[3 * code + 2] == 1,
     }
+}
+
+// How two fields compare in a select.
+pub fn compare_values(left: u32, right: u32) -> Order
+    ensures { λ r. ⌜ orderOf r ≡ compareFields left right ⌝ }
+{
+    if left < right {
+        return Order::Less;
+    }
+    if right < left {
+        return Order::Greater;
+    }
+    Order::Equal
 }

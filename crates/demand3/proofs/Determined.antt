@@ -20,7 +20,7 @@ use Rattle.model.proofs.Sets.{and-first, and-second}
 use Rattle.model.proofs.Parts.{length-counted, counted-at}
 use Rattle.model.proofs.Fits.{Small}
 use Rattle.rows.proofs.Place.{all-below, length-held}
-use Rattle.algebra.proofs.Places.{place-is}
+use Rattle.places.proofs.Places.{place-is}
 use Rattle.areas.specs.Lent.{placeAt}
 use Rattle.areas.proofs.Good.{long-parts}
 use Rattle.coherence.proofs.Coherent.{relation-at, relations-length}

@@ -8,13 +8,16 @@ use lib.ListN.{length, take, getD, length-map}
 use lib.Dec.{ltb, eqb}
 use borrow.Author.Tests.{eqb-true, lt-ltb, ltb-true}
 use Rattle.nodes.specs.declared.Operand.{Operand}
-use Rattle.algebra.specs.Places.{Blank, Fills, JoinFits, JoinsIn, OperandBelow, OperandIn}
+use Rattle.places.specs.Places.{Blank, Fills}
+use Rattle.joins.specs.Joins.{JoinFits, JoinsIn}
+use Rattle.selections.specs.Selections.{OperandBelow, OperandIn}
 use Rattle.nodes.specs.declared.Operand.the-variants.{Column, Constant}
-use Rattle.algebra.specs.declared.Joining.{Joining}
+use Rattle.joins.specs.declared.Joining.{Joining}
 use Rattle.model.specs.Network.{columnsBelow, operandBelow, pairsBelow, isTable, nodeFits, widthOf}
 use Rattle.model.specs.Algebra.{Pair, agree, columnsOf, compareFields, differenceRows, holdsOf, intersectRows, joinOne, joinRows, projectRows, selectColumns, selectConstant, unionRows}
 use Rattle.model.proofs.Sets.{and-both, and-first, and-second}
-use Rattle.algebra.proofs.Puts.{columns-more, wide-each}
+use Rattle.joins.proofs.Rows.{columns-more}
+use Rattle.places.proofs.Puts.{wide-each}
 use Rattle.evaluation.specs.Derived.{fitsOn, evaluateOn, leftOf, rightOf}
 use Rattle.nodes.specs.Nodes.{operandOf, pairsOf}
 use Rattle.model.specs.Row.{Relation, Row, keep, member}

@@ -4,13 +4,13 @@ ghost use mathlib.Core.Bool.{true};
 ghost use Rattle.model.specs.Evaluation.{evaluateSet};
 ghost use Rattle.nodes.specs.Nodes.{operationOf};
 ghost use Rattle.network.specs.Reading.{slotNode, Shaped};
-ghost use Rattle.algebra.specs.Places.{Place, Blank, relationIn, Makes};
+ghost use Rattle.places.specs.Places.{Place, Blank, relationIn, Makes};
 ghost use Rattle.evaluation.specs.Derived.{leftOf, rightOf, evaluateOn, fitsOn};
-use algebra::Joining;
-use algebra::Made;
+use joins::Joining;
 use network::Slot;
 use nodes::Node;
 use nodes::SetOperation;
+use places::Made;
 
 // The width of the rows of a place, and how many there are.
 pub struct Held {
@@ -36,9 +36,9 @@ fn set_rows(
     let n = l.count;
     let m = r.count;
     match operation {
-        SetOperation::Union => algebra::union_rows(left, n, right, m, out),
-        SetOperation::Difference => Made::Rows(algebra::difference_rows(left, n, right, m, out)),
-        SetOperation::Intersection => Made::Rows(algebra::intersect_rows(left, n, right, m, out)),
+        SetOperation::Union => sets::union_rows(left, n, right, m, out),
+        SetOperation::Difference => Made::Rows(sets::difference_rows(left, n, right, m, out)),
+        SetOperation::Intersection => Made::Rows(sets::intersect_rows(left, n, right, m, out)),
     }
 }
 
@@ -84,9 +84,9 @@ pub fn evaluate(slot: Slot, left: &[u32], l: Held, right: &[u32], r: Held, out: 
     match node {
         Node::Table(_) => Made::Rows(0),
         Node::Select(_, column, code, operand) => {
-            Made::Rows(algebra::select_rows(left, n, column, code, operand, out))
+            Made::Rows(selections::select_rows(left, n, column, code, operand, out))
         }
-        Node::Project(_, c) => algebra::project_rows(left, n, &slot.columns, c, out),
+        Node::Project(_, c) => joins::project_rows(left, n, &slot.columns, c, out),
         Node::Join(_, _, p, c) => {
             let how = Joining {
                 split: l.width,
@@ -95,7 +95,7 @@ pub fn evaluate(slot: Slot, left: &[u32], l: Held, right: &[u32], r: Held, out: 
                 n: c,
                 columns: slot.columns,
             };
-            algebra::join_rows(left, n, right, m, how, out)
+            joins::join_rows(left, n, right, m, how, out)
         }
         Node::Set(operation, _, _) => set_rows(operation, left, l, right, r, out),
     }

@@ -9,10 +9,10 @@ use native.Mathlib.Nat.{le-refl}
 use native.Mathlib.Omega.{arith}
 use lib.Dec.{leb}
 use borrow.Author.Tests.{le-leb}
-use Rattle.algebra.specs.Places.{Place, relationIn, Fills}
+use Rattle.places.specs.Places.{Place, relationIn, Fills}
 use Rattle.model.specs.Row.{Relation, sameRows, ascending, place}
 use Rattle.coherence.proofs.Agree.{sizes-differ, places-decide}
-use Rattle.algebra.proofs.Places.{place-count, place-wide, place-few, place-is}
+use Rattle.places.proofs.Places.{place-count, place-wide, place-few, place-is}
 use Rattle.words.specs.Runs.{sameFirst}
 use Rattle.rows.proofs.Words.{Wide}
 use Rattle.model.proofs.Sets.{Ascending, and-both, ascending-true}

@@ -11,10 +11,10 @@ use Rattle.model.specs.Row.{Row, Relation}
 use Rattle.rows.specs.Rows.{words, stored, firstRows}
 use Rattle.rows.proofs.Words.{drop-zeros, words-rows, length-words, wide-rows, length-rows, Wide}
 use Rattle.model.specs.Record.{Bytes, offsets}
-use Rattle.algebra.specs.Places.{Place, relationIn, Fills}
+use Rattle.places.specs.Places.{Place, relationIn, Fills}
 use Rattle.areas.specs.Lent.{placeAt}
 use Rattle.tables.specs.Fold.{Stands, Foldable, Table, foldRows, foldAt}
-use Rattle.algebra.proofs.Places.{place-few, place-wide, rows-ascend, place-rows, stored-blank}
+use Rattle.places.proofs.Places.{place-few, place-wide, rows-ascend, place-rows, stored-blank}
 use Rattle.tables.proofs.Folds.{stands-table}
 use Rattle.model.proofs.Sets.{ascending-holds}
 use Rattle.model.specs.Areas.{padded, placeOf, layout}

@@ -8,7 +8,7 @@ use mathlib.Core.Bool.{true}
 use Rattle.propagation.specs.Propagated.{Working, presentPlace, Present, presentRows}
 use Rattle.evaluation.specs.Derived.{leftOf, rightOf, fitsOn}
 use Rattle.network.specs.Reading.{slotNode}
-use Rattle.algebra.specs.Places.{Place, relationIn}
+use Rattle.places.specs.Places.{Place, relationIn}
 use Rattle.network.specs.declared.Slot.{Slot}
 
 pub as-present : (slot : Slot) (m : Working) (l r : ℕ) (from with : List ℕ) → l ≡ leftOf (slotNode slot) → r ≡ rightOf (slotNode slot) → from ≡ presentPlace m l → with ≡ presentPlace m r →

@@ -24,7 +24,7 @@ use Rattle.states.proofs.Written.{Fitting, sized}
 use Rattle.rows.proofs.Place.{held-wide}
 use Rattle.model.specs.Areas.{layout, rowCount, tablesOf}
 use Rattle.coherence.proofs.Placed.{rows-few, held-at, place-at}
-use Rattle.algebra.proofs.Places.{place-ascending}
+use Rattle.places.proofs.Places.{place-ascending}
 use Rattle.areas.specs.Lent.{placeAt}
 use Rattle.states.proofs.Tables.{Tables, actAll-tables, all-under, first-over}
 use Rattle.model.specs.Batch.{readBatch}

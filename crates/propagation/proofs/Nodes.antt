@@ -11,11 +11,11 @@ use native.Mathlib.Omega.{arith}
 use Rattle.network.specs.declared.Slot.{Slot}
 use Rattle.model.specs.Record.{Bytes, offsets}
 use Rattle.propagation.specs.Propagated.{Working, Workable, oldRows, Present, presentRows, presentPlace, workedRows, mustWork, WorksNode, nextRows, working, Puts}
-use Rattle.algebra.specs.Places.{Place, Fills, relationIn}
+use Rattle.places.specs.Places.{Place, Fills, relationIn}
 use Rattle.areas.specs.Lent.{placeAt}
 use Rattle.model.specs.Areas.{rowCount, layout, placeOf}
 use Rattle.rows.proofs.Words.{Wide}
-use Rattle.algebra.proofs.Places.{place-wide, place-ascending, place-few, place-is}
+use Rattle.places.proofs.Places.{place-wide, place-ascending, place-few, place-is}
 use Rattle.model.proofs.Sets.{Ascending, ascending-holds, sameRows-refl}
 use Rattle.tables.specs.Fold.{foldRows}
 use Rattle.evaluation.specs.Derived.{evaluateOn, leftOf, rightOf}

@@ -16,7 +16,7 @@ use Rattle.network.specs.declared.Network.{Network}
 use Rattle.network.specs.declared.Slot.{Slot}
 use Rattle.network.specs.Reading.{slotNode, nodesOf}
 use Rattle.areas.specs.Lent.{placeAt}
-use Rattle.algebra.specs.Places.{Place, relationIn}
+use Rattle.places.specs.Places.{Place, relationIn}
 use Rattle.evaluation.specs.Derived.{leftOf, rightOf, evaluateOn}
 use Rattle.coherence.specs.Held.{heldAt, Derived, Checkable, rowsHeld}
 use Rattle.tables.specs.Fold.{Foldable, foldRows}

@@ -6,14 +6,13 @@ ghost use Prim.Native.Nat.{ℕ, _+_, _≤_, _<_};
 ghost use lib.ListN.{length, getD, replicate};
 ghost use Rattle.model.specs.Row.{sameRows};
 ghost use Rattle.model.specs.Record.{offsets};
-ghost use Rattle.algebra.specs.Places.{Place, Blank, relationIn, Makes};
+ghost use Rattle.places.specs.Places.{Place, Blank, relationIn, Makes};
 ghost use Rattle.network.specs.Reading.{slotNode, Shaped, verdictOf};
 ghost use Rattle.areas.specs.Lent.{placeAt};
 ghost use Rattle.evaluation.specs.Derived.{leftOf, rightOf, evaluateOn, fitsOn};
 ghost use Rattle.tables.specs.Fold.{Foldable, foldRows};
 ghost use Rattle.propagation.specs.Propagated.{newRows, Ready, working, Sized, Present, presentRows, inputChanged, mustWork, workedRows};
 ghost use Rattle.propagation.specs.Propagated.{nextRows, Workable, WorksNode, Puts, verdictBy, Propagates};
-use algebra::Made;
 use areas::CAPACITY;
 use areas::COUNTS;
 use areas::PLACE;
@@ -21,6 +20,7 @@ use evaluation::Held;
 use network::Network;
 use network::Slot;
 use network::Verdict;
+use places::Made;
 use rows::STRIDE;
 
 // How many words the rows of a table take at most while a batch is folded: 128 rows.

@@ -10,8 +10,8 @@ use Rattle.areas.specs.Lent.{placeAt}
 use Rattle.model.specs.Row.{Relation}
 use Rattle.model.specs.Areas.{placeOf, layout, over, areaOf}
 use Rattle.transition.specs.Written.{placed, filled}
-use Rattle.algebra.specs.Places.{Place, relationIn}
-use Rattle.algebra.proofs.Places.{place-few, place-count, place-is, place-wide}
+use Rattle.places.specs.Places.{Place, relationIn}
+use Rattle.places.proofs.Places.{place-few, place-count, place-is, place-wide}
 use Rattle.rows.proofs.Checked.{rest-zero}
 use Rattle.states.proofs.Written.{place-none, Sized, sized-tail, flat-length}
 use Rattle.model.proofs.Parts.{flat-append, flat-one}

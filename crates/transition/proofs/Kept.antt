@@ -8,11 +8,11 @@ use native.Mathlib.Omega.{arith}
 use Rattle.model.specs.Row.{Relation}
 use Rattle.model.specs.Algebra.{differenceRows}
 use Rattle.states.proofs.Changes.{difference-self}
-use Rattle.algebra.specs.Places.{Place, relationIn}
+use Rattle.places.specs.Places.{Place, relationIn}
 use Rattle.areas.specs.Lent.{placeAt}
 use Rattle.transition.specs.Written.{placed, WritesNode}
 use Rattle.model.specs.Areas.{placeOf, layout}
-use Rattle.algebra.proofs.Places.{place-is}
+use Rattle.places.proofs.Places.{place-is}
 use Rattle.transition.proofs.Filled.{placed-same}
 
 difference-none : (a b : Relation) → a ≡ b → differenceRows a b ≡ []

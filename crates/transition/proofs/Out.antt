@@ -25,11 +25,11 @@ use Rattle.model.specs.Delta.{netChanges, netChange, Change, isChanged, changeA
 use Rattle.states.proofs.Changes.{changes-length, gained-fits, lost-fits, map-at, changes-at, changed-is}
 use Rattle.model.specs.Algebra.{differenceRows}
 use Rattle.propagation.specs.Propagated.{Worked, working, oldRows}
-use Rattle.algebra.specs.Places.{Place, relationIn}
+use Rattle.places.specs.Places.{Place, relationIn}
 use Rattle.propagation.proofs.Differ.{fills-place}
 use Rattle.model.proofs.Sets.{ascending-holds}
 use Rattle.propagation.proofs.News.{same-flag}
-use Rattle.algebra.proofs.Places.{place-count}
+use Rattle.places.proofs.Places.{place-count}
 use Rattle.transition.proofs.Filled.{filled-later, filled-length, filled-more, filled-none}
 use Rattle.transition.specs.declared.Sizes.{Sizes}
 use Rattle.states.proofs.Head.{padded-length}

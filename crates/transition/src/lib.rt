@@ -13,7 +13,7 @@ ghost use Rattle.model.specs.Areas.{layout, padded, over, stateIn, rowsIn, batc
 ghost use Rattle.rows.specs.Rows.{firstRows};
 ghost use Rattle.network.specs.Reading.{nodesOf, Built, slotNode};
 ghost use Rattle.areas.specs.Lent.{lent, placeAt};
-ghost use Rattle.algebra.specs.Places.{Place, relationIn};
+ghost use Rattle.places.specs.Places.{Place, relationIn};
 ghost use Rattle.evaluation.specs.Derived.{leftOf, rightOf};
 ghost use Rattle.propagation.specs.Propagated.{inputChanged};
 ghost use Rattle.transition.specs.Written.{isOfLevel, placed, WritesNode, WritesNodes, stampsFrom, listedMarks, levelList, listTo, headFrom};
@@ -45,7 +45,7 @@ fn write_difference(
         × (r ≡ length (differenceRows (relationIn w (now (left .entry)) n) (relationIn w (now (right .entry)) m)))) ⌝ }
 {
     let mut out = [0u32; PLACE];
-    let count = algebra::difference_rows(left, n, right, m, &mut out);
+    let count = sets::difference_rows(left, n, right, m, &mut out);
     words::copy_run(&out, 0, area, i * PLACE, PLACE);
     count
 }

@@ -9,7 +9,7 @@ use Rattle.evaluation.specs.declared.Held.{Held}
 use Rattle.areas.specs.Lent.{placeAt}
 use Rattle.coherence.proofs.evaluate_held.Statement.{statement}
 use Rattle.coherence.specs.Held.{Derived, Places, heldAt}
-use Rattle.algebra.specs.Places.{Place, relationIn}
+use Rattle.places.specs.Places.{Place, relationIn}
 use Rattle.network.specs.declared.Slot.{Slot}
 use Rattle.evaluation.specs.Derived.{fitsOn, leftOf, rightOf}
 use Rattle.coherence.proofs.Placed.{held-at, place-at}

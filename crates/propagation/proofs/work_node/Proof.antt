@@ -7,7 +7,7 @@ use lib.ListN.{getD}
 use Rattle.propagation.proofs.work_node.Statement.{statement}
 use Rattle.propagation.proofs.Nodes.{kept-works, made-place, put-works}
 use Rattle.propagation.specs.Propagated.{working}
-use Rattle.algebra.proofs.Places.{place-few}
+use Rattle.places.proofs.Places.{place-few}
 use Rattle.propagation.proofs.work_node.Tie as tie
 use Rattle.propagation.proofs.work_node.Reads as reads
 use Rattle.propagation.proofs.work_node.Lts as lts

@@ -3,7 +3,7 @@ use native.Mathlib.Omega.{arith}
 use mathlib.Core.Path.{ap, _∙_}
 use lib.ListN.{length}
 use Rattle.propagation.proofs.work_table.Statement.{statement}
-use Rattle.algebra.proofs.Places.{place-few}
+use Rattle.places.proofs.Places.{place-few}
 use Rattle.areas.specs.Lent.{placeAt}
 use Rattle.propagation.proofs.Folding.{table-ready, after-over, after-fills}
 use Rattle.propagation.proofs.work_table.Tie as tie

@@ -8,7 +8,7 @@ use Rattle.transition.proofs.write_difference.Statement.{statement}
 use Rattle.transition.proofs.write_difference.Tie as tie
 use Rattle.transition.proofs.write_difference.Reads as reads
 use Rattle.transition.proofs.write_difference.Lts as lts
-use Rattle.algebra.proofs.difference_rows.Reads as difference-rows-reads
+use Rattle.sets.proofs.difference_rows.Reads as difference-rows-reads
 use Rattle.words.proofs.copy_run.Reads as copy-run-reads
 
 slice-aggregate-difference-rows : tie.Need-slice-aggregate-difference-rows

@@ -8,7 +8,7 @@ use Rattle.transition.specs.Written.{WorkedOut, WritesNodes}
 use Rattle.network.specs.Reading.{nodesOf}
 use Rattle.transition.proofs.Out.{writes-none, head-long, asks, sizes-small, writes-lengths, writes-more}
 use Rattle.model.specs.Network.{widths}
-use Rattle.algebra.proofs.Places.{place-few, rows-ascend}
+use Rattle.places.proofs.Places.{place-few, rows-ascend}
 use Rattle.areas.specs.Lent.{placeAt}
 use Rattle.model.specs.Areas.{rowCount, gainedCount, lostCount}
 use Rattle.transition.proofs.write_nodes.Tie as tie

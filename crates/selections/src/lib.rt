@@ -1,0 +1,56 @@
+// Select (kinds 2 and 3) on places.
+ghost use mathlib.Core.Path.{_≡_};
+ghost use Prim.Native.Nat.{ℕ, _+_, _*_, _≤_, _<_};
+ghost use lib.ListN.{length};
+ghost use Rattle.model.specs.Evaluation.{evaluateSelect};
+ghost use Rattle.rows.specs.Rows.{stride, rowAt};
+ghost use Rattle.nodes.specs.Nodes.{operandOf};
+ghost use Rattle.places.specs.Places.{Place, Blank, relationIn, Fills};
+ghost use Rattle.selections.specs.Selections.{passesRow, OperandBelow, Selects};
+use nodes::Operand;
+use rows::STRIDE;
+
+// Whether row i passes a select's test.
+fn passes(input: &[u32], i: usize, column: usize, code: usize, operand: Operand) -> bool
+    requires { ⌜ (i * stride + stride ≤ length (now input)) × (column < stride) × (code < 6) × OperandBelow operand ⌝ }
+    ensures { λ r. ⌜ r ≡ passesRow column code (operandOf operand) (rowAt stride (now (input .entry)) i) ⌝ }
+{
+    let at = i * STRIDE;
+    let left = input[at + column];
+    match operand {
+        Operand::Constant(value) => comparisons::holds(
+            code,
+            comparisons::compare_values(left, value),
+        ),
+        Operand::Column(other) => comparisons::holds(
+            code,
+            comparisons::compare_values(left, input[at + other]),
+        ),
+    }
+}
+
+// The rows of a place that pass a select's test, in an empty place: how many.
+pub fn select_rows(
+    input: &[u32],
+    n: usize,
+    column: usize,
+    code: usize,
+    operand: Operand,
+    out: &mut [u32],
+) -> usize
+    requires { ⌜ (n ≤ 64) × (n * stride ≤ length (now input)) × (column < stride) × (code < 6) × OperandBelow operand × Blank (now out) ⌝ }
+    ensures { λ r. ⌜ ((w : ℕ) → Place w (now (input .entry)) n → Selects w column operand →
+        Fills (evaluateSelect column code (operandOf operand) (relationIn w (now (input .entry)) n)) (now (out .exit)) r) ⌝ }
+{
+    let mut count = 0;
+    let mut i = 0;
+    while i < n {
+        let at = i;
+        i += 1;
+        if passes(input, at, column, code, operand) {
+            words::copy_run(input, at * STRIDE, out, count * STRIDE, STRIDE);
+            count += 1;
+        }
+    }
+    count
+}

@@ -1,0 +1,97 @@
+use mathlib.Core.Path.{_≡_, sym, ap, _∙_}
+use mathlib.Core.Bool.{Bool, Bool·beq}
+use Prim.Native.Nat.{_≤_, _-_}
+use lib.ListN.{length}
+use Rattle.model.specs.Row.{member}
+use Rattle.rows.specs.Rows.{firstRows}
+use Rattle.places.specs.Places.{Kept}
+use Rattle.places.proofs.Places.{kept-start, kept-no, kept-copied}
+use native.Mathlib.Omega.{arith}
+use Rattle.sets.proofs.keep_rows.Statement.{statement}
+use Rattle.sets.proofs.keep_rows.Tie as tie
+use Rattle.sets.proofs.keep_rows.Reads as reads
+use Rattle.sets.proofs.keep_rows.Lts as lts
+use Rattle.sets.proofs.contains.Reads as contains-reads
+use Rattle.words.proofs.copy_run.Reads as copy-run-reads
+
+abbrev Inv-loop : tie.InvT-loop
+Inv-loop left n right m wanted out₀ count₀ i₀ out count i = (i ≤ n) × Kept (λ x. Bool·beq (member x (firstRows right m)) wanted) left i out count
+
+abbrev μ-loop : tie.MeasureT-loop
+μ-loop left n right m wanted out₀ count₀ i₀ out count i = n - i
+
+loop-holds : tie.Need-loop-holds Inv-loop μ-loop
+loop-holds c = let a = c .before .before .before .args
+    in (omega arith, kept-start (λ x. Bool·beq (member x (firstRows (a .right .now) (a .m))) (a .wanted)) (a .left .now) (a .out .now) (c .before .before .before .pre .4))
+
+add-i : tie.Need-add-i Inv-loop μ-loop
+add-i c = omega arith
+
+contains-requires : tie.Need-contains-requires Inv-loop μ-loop
+contains-requires c κs = (omega arith, omega arith, c .before .before .before .before .before .pre .3)
+
+mul-copy-run : tie.Need-mul-copy-run Inv-loop μ-loop
+mul-copy-run c = omega arith
+
+mul-copy-run-2 : tie.Need-mul-copy-run-2 Inv-loop μ-loop
+mul-copy-run-2 c = omega (arith, c .before .before .before .before .loop .inv .1 .few)
+
+copy-run-requires : tie.Need-copy-run-requires Inv-loop μ-loop
+copy-run-requires c κs = omega (arith, c .before .before .before .before .loop .inv .1 .few, c .before .before .before .before .loop .inv .1 .size)
+
+add-count : tie.Need-add-count Inv-loop μ-loop
+add-count c = omega (arith, c .before .before .before .before .before .before .before .loop .inv .1 .few)
+
+loop-less : tie.Need-loop-less Inv-loop μ-loop
+loop-less c = omega arith
+
+loop-again : tie.Need-loop-again Inv-loop μ-loop
+loop-again c =
+    let a = c .before .before .before .before .before .before .before .before .before .before .before .args in (
+      omega arith,
+      kept-copied (λ x. Bool·beq (member x (firstRows (a .right .now) (a .m))) (a .wanted)) (a .left .now) (c .before .before .before .before .before .before .before .loop .i)
+          (c .before .before .before .before .before .before .before .loop .out) (c .before .before .copy-run .last .1 .1 .0)
+          (c .before .before .before .before .before .before .before .loop .count)
+          (ap (λ (b : Bool). Bool·beq b (a .wanted)) (sym (c .before .before .before .before .before .contains .ensures)) ∙ c .before .before .before .before .if1 .taken) (omega arith)
+          (omega arith) (c .before .before .before .before .before .before .before .loop .inv .1) (c .before .before .copy-run .ensures),
+    )
+
+loop-less-2 : tie.Need-loop-less-2 Inv-loop μ-loop
+loop-less-2 c = omega arith
+
+loop-again-2 : tie.Need-loop-again-2 Inv-loop μ-loop
+loop-again-2 c =
+    let a = c .before .before .before .before .before .before .before .args in (
+      omega arith,
+      kept-no (λ x. Bool·beq (member x (firstRows (a .right .now) (a .m))) (a .wanted)) (a .left .now) (c .before .before .before .loop .i) (c .before .before .before .loop .out)
+          (c .before .before .before .loop .count) (ap (λ (b : Bool). Bool·beq b (a .wanted)) (sym (c .before .contains .ensures)) ∙ c .if1 .left) (c .before .before .before .loop .inv .1),
+    )
+
+same-length : tie.Need-same-length Inv-loop μ-loop
+same-length c = omega (arith, c .before .loop .inv .1 .size, ap length (c .before .before .before .before .before .pre .4))
+
+returns : tie.Need-returns Inv-loop μ-loop
+returns c =
+    let a = c .before .before .before .before .before .args in
+    let e : c .before .loop .i ≡ a .n = omega arith in
+    rw (← e) (c .before .loop .inv .1)
+
+pub keep-rows-spec : {M : Type 1} → statement M
+keep-rows-spec =
+    tie.close
+    (tie.spec
+    Inv-loop
+    μ-loop
+    loop-holds
+    add-i
+    contains-requires
+    mul-copy-run
+    mul-copy-run-2
+    copy-run-requires
+    add-count
+    loop-less
+    loop-again
+    loop-less-2
+    loop-again-2
+    same-length
+    returns)
