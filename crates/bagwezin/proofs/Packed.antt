@@ -18,7 +18,7 @@ use Rattle.model.specs.Network.{levels, readNetwork, kindOf, widths, levelOf}
 use Rattle.model.proofs.Fits.{read-accepted, read-small, length-widths}
 use Rattle.rows.proofs.Place.{length-padded}
 use Rattle.model.proofs.Build.{length-build}
-use Rattle.monitor.proofs.Sizes.{size-most}
+use Rattle.reporting.proofs.Sizes.{size-most}
 
 -- ---- the two halves
 

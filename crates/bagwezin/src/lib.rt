@@ -55,7 +55,7 @@ pub extern "C" fn bagwezin_open(
         ≡ openCall (now (net .entry)) (lent (now (rows .entry)) (now (gained .entry)) (now (lost .entry)) (now (head .entry))) .areas
         ⌝ }
 {
-    let v = monitor::open(net, rows, gained, lost, head);
+    let v = opening::open(net, rows, gained, lost, head);
     pack(v.number, v.place, 0)
 }
 
@@ -78,7 +78,7 @@ pub extern "C" fn bagwezin_apply(
         r
         ⌝ }
 {
-    let v = monitor::apply(net, batch, rows, gained, lost, head);
+    let v = applying::apply(net, batch, rows, gained, lost, head);
     pack(v.number, v.place, 0)
 }
 
@@ -97,7 +97,7 @@ pub extern "C" fn bagwezin_check(
         r
         ⌝ }
 {
-    let v = monitor::check(net, rows, gained, lost, head);
+    let v = checking::check(net, rows, gained, lost, head);
     pack(v.number, v.place, v.yes as usize)
 }
 
@@ -124,7 +124,7 @@ pub extern "C" fn bagwezin_report(
         (now (out .entry)) .out
         ⌝ }
 {
-    let v = monitor::report(net, node as usize, rows, gained, lost, head, out);
+    let v = reporting::report(net, node as usize, rows, gained, lost, head, out);
     pack(v.number, v.place, v.size)
 }
 

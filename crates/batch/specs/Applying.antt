@@ -8,9 +8,8 @@ use Rattle.model.specs.Batch.{readBatch}
 use Rattle.model.specs.Areas.{Areas, layout, longEnough, goodForm, stateIn, batchNumber}
 use Rattle.model.specs.Station.{step, lastNumber}
 use Rattle.model.specs.Calls.{Result, Keeps, promiseOf}
-use Rattle.network.specs.Reading.{nodesOf, verdictOf}
+use Rattle.network.specs.Reading.{nodesOf}
 use Rattle.network.specs.declared.Network.{Network}
-use Rattle.network.specs.declared.Verdict.{Verdict}
 use Rattle.coherence.specs.Held.{Checkable}
 
 -- a network that reading accepts, and areas of good form
@@ -18,10 +17,6 @@ pub record Applicable (net : Network) (a : Areas) : Type 0 where
   pub checkable : Checkable net (a .rows) (a .head)
   pub long : longEnough layout a ≡ true
   pub form : goodForm layout (nodesOf net) a ≡ true
-
--- a verdict, with the areas that a batch leaves
-abbrev pub resultWith : Verdict → Areas → Result
-resultWith v a = record { verdict = verdictOf v; areas = a }
 
 -- refusals 9 to 14, or the next state, as far as they are settled
 abbrev pub AppliedTo : Network → Bytes → Areas → Result → Type 0

@@ -1,6 +1,7 @@
 // A batch on areas of good form: refusals 9 to 14, or the next state.
 ghost use Rattle.areas.specs.Lent.{lent};
-ghost use Rattle.batch.specs.Applying.{Applicable, AppliedTo, Unrefused, resultWith};
+ghost use Rattle.network.specs.Reading.{resultWith};
+ghost use Rattle.batch.specs.Applying.{Applicable, AppliedTo, Unrefused};
 use areas::AREA;
 use areas::NODES;
 use network::Network;

@@ -4,7 +4,7 @@ ghost use lib.ListN.{length};
 ghost use Rattle.model.specs.Text.{bytesBetween};
 ghost use Rattle.model.specs.Calls.{Applied};
 ghost use Rattle.areas.specs.Lent.{lent};
-ghost use Rattle.batch.specs.Applying.{resultWith};
+ghost use Rattle.network.specs.Reading.{resultWith};
 use areas::AREA;
 use areas::HEAD;
 use libc::STDOUT_FILENO;
@@ -34,7 +34,7 @@ fn apply_part(
         (lent (now (rows .entry)) (now (gained .entry)) (now (lost .entry)) (now (head .entry)))
         (resultWith r (lent (now (rows .exit)) (now (gained .exit)) (now (lost .exit)) (now (head .exit)))) ⌝ }
 {
-    monitor::apply(
+    applying::apply(
         &script[from..to],
         &script[start..end],
         rows,
@@ -70,7 +70,7 @@ fn main() {
         } else if kind == NETWORK {
             from = start;
             to = at;
-            let v = monitor::open(
+            let v = opening::open(
                 &input[from..to],
                 &mut rows,
                 &mut gained,
@@ -91,7 +91,7 @@ fn main() {
                 &mut lost,
                 &mut head,
             );
-            let c = monitor::check(&input[from..to], &rows, &gained, &lost, &head);
+            let c = checking::check(&input[from..to], &rows, &gained, &lost, &head);
             let k = lines::put_line(
                 &mut text,
                 b" apply",
@@ -102,7 +102,7 @@ fn main() {
             let h = lines::put_line(&mut text, b" head", &words);
             io::write_all(STDOUT_FILENO, &text[..h]);
         } else {
-            let v = monitor::report(
+            let v = reporting::report(
                 &input[from..to],
                 node,
                 &rows,

@@ -67,7 +67,7 @@ fn main() {
                 script::store(&mut head, index, value);
             }
         } else if kind == OPEN {
-            let v = monitor::open(
+            let v = opening::open(
                 &input[from..to],
                 &mut rows,
                 &mut gained,
@@ -77,11 +77,11 @@ fn main() {
             let k = lines::put_line(&mut text, b"", &[v.number, v.place]);
             io::write_all(STDOUT_FILENO, &text[..k]);
         } else if kind == CHECK {
-            let v = monitor::check(&input[from..to], &rows, &gained, &lost, &head);
+            let v = checking::check(&input[from..to], &rows, &gained, &lost, &head);
             let k = lines::put_line(&mut text, b"", &[v.number, v.place, v.yes as usize]);
             io::write_all(STDOUT_FILENO, &text[..k]);
         } else if kind == REPORT {
-            let v = monitor::report(
+            let v = reporting::report(
                 &input[from..to],
                 index,
                 &rows,
@@ -97,7 +97,7 @@ fn main() {
             let k = lines::put_line(&mut text, b"bytes", &numbers);
             io::write_all(STDOUT_FILENO, &text[..k]);
         } else if kind == SHORT_ROWS {
-            let v = monitor::open(
+            let v = opening::open(
                 &input[from..to],
                 &mut tiny,
                 &mut gained,
@@ -107,11 +107,11 @@ fn main() {
             let k = lines::put_line(&mut text, b"", &[v.number, v.place]);
             io::write_all(STDOUT_FILENO, &text[..k]);
         } else if kind == SHORT_GAINED {
-            let v = monitor::check(&input[from..to], &rows, &tiny, &lost, &head);
+            let v = checking::check(&input[from..to], &rows, &tiny, &lost, &head);
             let k = lines::put_line(&mut text, b"", &[v.number, v.place, v.yes as usize]);
             io::write_all(STDOUT_FILENO, &text[..k]);
         } else if kind == SHORT_LOST {
-            let v = monitor::report(
+            let v = reporting::report(
                 &input[from..to],
                 index,
                 &rows,
@@ -123,7 +123,7 @@ fn main() {
             let k = lines::put_line(&mut text, b"", &[v.number, v.place, v.size]);
             io::write_all(STDOUT_FILENO, &text[..k]);
         } else if kind == SHORT_HEAD {
-            let v = monitor::open(
+            let v = opening::open(
                 &input[from..to],
                 &mut rows,
                 &mut gained,
@@ -133,7 +133,7 @@ fn main() {
             let k = lines::put_line(&mut text, b"", &[v.number, v.place]);
             io::write_all(STDOUT_FILENO, &text[..k]);
         } else {
-            let v = monitor::report(
+            let v = reporting::report(
                 &input[from..to],
                 index,
                 &rows,

@@ -21,7 +21,7 @@ use Rattle.model.specs.Evaluation.{evaluate, overfull}
 use Rattle.model.specs.Station.{State, Step, applyEvents, lastNumber, limit, refusedStep, step}
 use Rattle.model.specs.Areas.{Areas, coherent, goodForm, layout, longEnough, stateIn}
 use Rattle.model.specs.Calls.{Applied, Free, Keeps, Result, applyPromise, formVerdict, free, freelyAccepted, freelyRefused, isWatched}
-use Rattle.model.specs.Calls.{openVerdict, orElse, promiseOf, readCall, reportOf, reportVerdict, resultOf, settled, unless}
+use Rattle.model.specs.Calls.{openVerdict, orElse, promiseOf, readCall, reportCall, reportIn, reportOf, resultOf, settled, unless}
 use Rattle.model.proofs.Build.{length-evaluate}
 use Rattle.model.proofs.Fits.{fault-fits, fault-shape, item-room, length-widths, most-more, read-small}
 use Rattle.model.proofs.Sets.{and-first, and-second}
@@ -308,13 +308,16 @@ module _ (net : Bytes) (b : ByteList net) (a : Areas) where
       let good : Bool = goodForm layout (readNetwork net .network .nodes) a in
       small-or (openVerdict net a) (unless good 8) open-small (small-unless good 8 (omega arith))
 
-  pub report-small : (node : ℕ) (out : Bytes) → SmallVerdict (reportVerdict net node a out)
-  unfolding reportVerdict
-  report-small node out =
-      let watched : Bool = isWatched (readNetwork net .network) node in
-      let long : Bool = leb (length (reportOf (readNetwork net .network) node a)) (length out) in
-      small-or (formVerdict net a) (orElse (unless watched 15) (unless long 16)) form-small
-      (small-or (unless watched 15) (unless long 16) (small-unless watched 15 (omega arith)) (small-unless long 16 (omega arith)))
+  pub report-small : (node : ℕ) (out : Bytes) → SmallVerdict (reportCall net node a out .verdict)
+  unfolding reportCall reportIn
+  report-small node out = go (isAccepted (formVerdict net a))
+    where
+      go : (t : Bool) → SmallVerdict (cond t (reportIn (readNetwork net .network) node a out) (record { verdict = formVerdict net a; size = 0; out = out }) .verdict)
+      go true =
+          let watched : Bool = isWatched (readNetwork net .network) node in
+          let long : Bool = leb (length (reportOf (readNetwork net .network) node a)) (length out) in
+          small-or (unless watched 15) (unless long 16) (small-unless watched 15 (omega arith)) (small-unless long 16 (omega arith))
+      go false = form-small
 
   -- what is free is small
   free-small : (n : ℕ) (r : Result) → n ≤ 32 → Free n a r → SmallVerdict (r .verdict)

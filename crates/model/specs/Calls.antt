@@ -33,6 +33,10 @@ unfoldable pub formVerdict : Bytes → Areas → Verdict
 unfolding openVerdict goodForm readNetwork
 formVerdict net a = orElse (openVerdict net a) (unless (goodForm layout (readNetwork net .network .nodes) a) 8)
 
+-- 1 to 8, then what a call answers for the network that was read; where they refuse, what it answers with that verdict
+abbrev pub afterForm : {A : Type 0} → Bytes → Areas → (Network → A) → (Verdict → A) → A
+afterForm net a answer refusal = cond (isAccepted (formVerdict net a)) (answer (readNetwork net .network)) (refusal (formVerdict net a))
+
 -- ---- the reader: 2 to 7
 
 -- "the node count and each node's kind, width and level (0 past the last node)"
@@ -89,9 +93,8 @@ promiseOf nodes a st = cond (coherent layout nodes a || within 9 13 (st .verdict
 unfoldable pub applyPromise : Bytes → Bytes → Areas → Promise
 unfolding formVerdict promiseOf stateIn step readNetwork
 applyPromise net batch a =
-    let nodes : List Node = readNetwork net .network .nodes in
-    let promise : Promise = promiseOf nodes a (step nodes (stateIn layout nodes a) batch) in
-    cond (isAccepted (formVerdict net a)) promise (settled (record { verdict = formVerdict net a; areas = a }))
+    afterForm net a (λ n. promiseOf (n .nodes) a (step (n .nodes) (stateIn layout (n .nodes) a) batch))
+    (λ v. settled (record { verdict = v; areas = a }))
 
 -- the free part: "the choice between acceptance and 14, 14's place, and the words after acceptance.
 -- There the outcome is one of these two, 14 writes nothing, and no word past the named ones changes".
@@ -160,12 +163,6 @@ isWatched net node = ltb node (length (net .nodes)) && not (eqb (signOf net node
 abbrev pub reportRule : Network → ℕ → ℕ → ℕ → Verdict
 reportRule net node size lent = orElse (unless (isWatched net node) 15) (unless (leb size lent) 16)
 
--- 1 to 8, then 15, then 16
-unfoldable pub reportVerdict : Bytes → ℕ → Areas → Bytes → Verdict
-unfolding formVerdict reportOf readNetwork
-reportVerdict net node a out =
-    orElse (formVerdict net a) (reportRule (readNetwork net .network) node (length (reportOf (readNetwork net .network) node a)) (length out))
-
 -- a verdict, the report's length (0 beside a refusal), and the lent bytes afterwards
 pub record ReportAnswer : Type 0 where
   pub verdict : Verdict
@@ -176,9 +173,16 @@ pub record ReportAnswer : Type 0 where
 abbrev pub writtenTo : Bytes → Bytes → Bytes
 writtenTo out text = text ++ drop (length text) out
 
--- "A report is for one watched node"; a refusal writes nothing
+-- 15, then 16, then the report, for a network and areas that 1 to 8 let pass; a refusal writes nothing
+unfoldable pub reportIn : Network → ℕ → Areas → Bytes → ReportAnswer
+unfolding reportOf
+reportIn net node a out =
+    let v : Verdict = reportRule net node (length (reportOf net node a)) (length out) in
+    let text : Bytes = cond (isAccepted v) (reportOf net node a) [] in
+    record { verdict = v; size = length text; out = writtenTo out text }
+
+-- "A report is for one watched node": 1 to 8, then 15 and 16; a refusal writes nothing
 unfoldable pub reportCall : Bytes → ℕ → Areas → Bytes → ReportAnswer
-unfolding reportVerdict reportOf readNetwork
+unfolding formVerdict reportIn readNetwork
 reportCall net node a out =
-    let text : Bytes = cond (isAccepted (reportVerdict net node a out)) (reportOf (readNetwork net .network) node a) [] in
-    record { verdict = reportVerdict net node a out; size = length text; out = writtenTo out text }
+    afterForm net a (λ n. reportIn n node a out) (λ v. record { verdict = v; size = 0; out = out })

@@ -7,7 +7,8 @@ use Rattle.model.specs.Record as modelRecord
 use Rattle.model.specs.Record.{Bytes}
 use Rattle.model.specs.Network as model
 use Rattle.model.specs.Network.{Item, readNetwork}
-use Rattle.model.specs.Calls.{ReadAnswer}
+use Rattle.model.specs.Areas.{Areas}
+use Rattle.model.specs.Calls.{ReadAnswer, Result}
 use Rattle.nodes.specs.Nodes.{nodeOf, NodeFits, Narrow}
 use Rattle.nodes.specs.declared.Node.{Node}
 use Rattle.nodes.specs.declared.Node.the-variants.{Table, Select, Project, Join, Set}
@@ -40,6 +41,10 @@ networkOf net = record { nodes = nodesOf net; signs = take (net .count) (net .si
 -- the order's number and place
 abbrev pub verdictOf : Verdict → modelRecord.Verdict
 verdictOf v = record { number = v .number; place = v .place }
+
+-- a verdict, with the areas that a call leaves
+abbrev pub resultWith : Verdict → Areas → Result
+resultWith v a = record { verdict = verdictOf v; areas = a }
 
 -- the model's reading
 abbrev pub readingOf : Reading → model.Reading

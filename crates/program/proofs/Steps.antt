@@ -23,8 +23,8 @@ use Rattle.network.specs.declared.Reading.{Reading}
 use Rattle.areas.specs.Lent.{lent}
 use Rattle.areas.proofs.Good.{long-parts}
 use Rattle.coherence.proofs.Coherent.{nodes-count}
-use Rattle.monitor.specs.Promises.{Changes}
-use Rattle.monitor.proofs.Checks.{changes-good}
+use Rattle.admission.specs.Admission.{Changes}
+use Rattle.admission.proofs.Admitted.{changes-good}
 use Rattle.station_text.specs.Lines.{Put, PutIfRoom, linesIn}
 use Rattle.station_text.specs.Pieces.{piecesOn}
 use Rattle.program.specs.declared.Said.{Said}

@@ -90,7 +90,7 @@ fn begin(
             stage: Stage::End,
         };
     }
-    let opened = monitor::open(net, rows, gained, lost, head);
+    let opened = opening::open(net, rows, gained, lost, head);
     if opened.number != 0 {
         let size = station_text::put_refused(out, opened.number, opened.place);
         return Said {
@@ -120,7 +120,7 @@ fn apply(
         (lent (now (rows .entry)) (now (gained .entry)) (now (lost .entry)) (now (head .entry)))
         (lent (now (rows .exit)) (now (gained .exit)) (now (lost .exit)) (now (head .exit))) (now (out .entry)) (now (out .exit)) r ⌝ }
 {
-    let verdict = monitor::apply(net, batch, rows, gained, lost, head);
+    let verdict = applying::apply(net, batch, rows, gained, lost, head);
     if verdict.number != 0 {
         let size = station_text::put_refused(out, verdict.number, verdict.place);
         return Said {

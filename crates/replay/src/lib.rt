@@ -2,7 +2,7 @@
 ghost use Prim.Native.Nat.{_+_, _<_};
 ghost use Rattle.model.specs.Text.{pieces};
 ghost use Rattle.areas.specs.Lent.{lent};
-ghost use Rattle.batch.specs.Applying.{resultWith};
+ghost use Rattle.network.specs.Reading.{resultWith};
 ghost use Rattle.replay.specs.Replayed.{Reaches, Replayed, callsOf};
 use network::Verdict;
 use station_text::Piece;
@@ -24,7 +24,7 @@ fn replay_batches(
         let from = start;
         match station_text::next_piece(file, from) {
             Piece::Batch(end) => {
-                monitor::apply(net, &file[from..end], rows, gained, lost, head);
+                applying::apply(net, &file[from..end], rows, gained, lost, head);
                 start = end + 4;
             }
             Piece::Broken(_) => {
@@ -53,7 +53,7 @@ pub fn replay(
         (lent (now (rows .entry)) (now (gained .entry)) (now (lost .entry)) (now (head .entry)))
         (resultWith r (lent (now (rows .exit)) (now (gained .exit)) (now (lost .exit)) (now (head .exit)))) ⌝ }
 {
-    let verdict = monitor::open(net, rows, gained, lost, head);
+    let verdict = opening::open(net, rows, gained, lost, head);
     if verdict.number != 0 {
         return verdict;
     }

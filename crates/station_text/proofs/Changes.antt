@@ -17,8 +17,8 @@ use Rattle.rows.proofs.Place.{fields-split}
 use Rattle.network.specs.declared.Network.{Network}
 use Rattle.network.specs.Reading.{Built}
 use Rattle.reports.proofs.Bytes.{held-more}
-use Rattle.monitor.specs.Promises.{changeIn}
-use Rattle.monitor.proofs.Reported.{change-at}
+use Rattle.admission.specs.Admission.{changeIn}
+use Rattle.admission.proofs.Changes.{change-at}
 use Rattle.station_text.specs.Lines.{Put, watchLines, linesIn}
 
 -- one field more of a row

@@ -8,7 +8,7 @@ ghost use lib.Seq.{sets};
 ghost use Rattle.model.specs.Areas.{layout, fields, heldIn, padded};
 ghost use Rattle.model.specs.Text.{isMark, line, batchWord, changeLines, refusedLine};
 ghost use Rattle.network.specs.Reading.{Built};
-ghost use Rattle.monitor.specs.Promises.{Changes};
+ghost use Rattle.admission.specs.Admission.{Changes};
 ghost use Rattle.station_text.specs.Pieces.{Next};
 ghost use Rattle.station_text.specs.Lines.{Put, PutIfRoom, batchRoom, linesIn, nodeRoom, refusedRoom, watchLines};
 use areas::GAINED;

@@ -10,7 +10,7 @@ use Rattle.bagwezin.proofs.bagwezin_check.Tie as tie
 use Rattle.bagwezin.proofs.bagwezin_check.Reads as reads
 use Rattle.bagwezin.proofs.bagwezin_check.Lts as lts
 use Rattle.bagwezin.proofs.pack.Reads as pack-reads
-use Rattle.monitor.proofs.check.Reads as check-reads
+use Rattle.checking.proofs.check.Reads as check-reads
 
 check-requires : tie.Need-check-requires
 check-requires c κs = search needs

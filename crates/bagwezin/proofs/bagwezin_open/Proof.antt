@@ -10,7 +10,7 @@ use Rattle.bagwezin.proofs.bagwezin_open.Tie as tie
 use Rattle.bagwezin.proofs.bagwezin_open.Reads as reads
 use Rattle.bagwezin.proofs.bagwezin_open.Lts as lts
 use Rattle.bagwezin.proofs.pack.Reads as pack-reads
-use Rattle.monitor.proofs.open.Reads as open-reads
+use Rattle.opening.proofs.open.Reads as open-reads
 
 open-requires : tie.Need-open-requires
 open-requires c κs = search needs

@@ -10,7 +10,7 @@ use Rattle.bagwezin.proofs.bagwezin_report.Tie as tie
 use Rattle.bagwezin.proofs.bagwezin_report.Reads as reads
 use Rattle.bagwezin.proofs.bagwezin_report.Lts as lts
 use Rattle.bagwezin.proofs.pack.Reads as pack-reads
-use Rattle.monitor.proofs.report.Reads as report-reads
+use Rattle.reporting.proofs.report.Reads as report-reads
 
 report-requires : tie.Need-report-requires
 report-requires c κs = search needs

@@ -13,9 +13,9 @@ use Rattle.io.proofs.large_buffer.Reads as large-buffer-reads
 use Rattle.io.proofs.read_full.Reads as read-full-reads
 use Rattle.io.proofs.write_all.Reads as write-all-reads
 use Rattle.lines.proofs.put_line.Reads as put-line-reads
-use Rattle.monitor.proofs.check.Reads as check-reads
-use Rattle.monitor.proofs.open.Reads as open-reads
-use Rattle.monitor.proofs.report.Reads as report-reads
+use Rattle.checking.proofs.check.Reads as check-reads
+use Rattle.opening.proofs.open.Reads as open-reads
+use Rattle.reporting.proofs.report.Reads as report-reads
 use Rattle.script.proofs.operation_at.Reads as operation-at-reads
 use Rattle.script.proofs.spread.Reads as spread-reads
 use Rattle.script.proofs.widen.Reads as widen-reads

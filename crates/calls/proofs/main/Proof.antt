@@ -15,9 +15,9 @@ use Rattle.io.proofs.large_buffer.Reads as large-buffer-reads
 use Rattle.io.proofs.read_full.Reads as read-full-reads
 use Rattle.io.proofs.write_all.Reads as write-all-reads
 use Rattle.lines.proofs.put_line.Reads as put-line-reads
-use Rattle.monitor.proofs.check.Reads as check-reads
-use Rattle.monitor.proofs.open.Reads as open-reads
-use Rattle.monitor.proofs.report.Reads as report-reads
+use Rattle.checking.proofs.check.Reads as check-reads
+use Rattle.opening.proofs.open.Reads as open-reads
+use Rattle.reporting.proofs.report.Reads as report-reads
 
 abbrev Inv-loop : tie.InvT-loop
 Inv-loop input n text₀ out₀ small₀ numbers₀ rows₀ gained₀ lost₀ head₀ tiny₀ from₀ to₀ at₀ t38 t39 t40 t41 t42 t43 t44 t45 t46 text out small numbers rows gained lost head tiny from to at =

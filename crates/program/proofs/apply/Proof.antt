@@ -1,13 +1,13 @@
 use borrow.Author.Needs.{needs}
 use Rattle.program.proofs.Steps.{accepted-batch, applied-head, refused-batch}
 use native.Mathlib.Omega.{arith}
-use Rattle.batch.specs.Applying.{resultWith}
+use Rattle.network.specs.Reading.{resultWith}
 use Rattle.areas.specs.Lent.{lent}
 use Rattle.program.proofs.apply.Statement.{statement}
 use Rattle.program.proofs.apply.Tie as tie
 use Rattle.program.proofs.apply.Reads as reads
 use Rattle.program.proofs.apply.Lts as lts
-use Rattle.monitor.proofs.apply.Reads as apply-reads
+use Rattle.applying.proofs.apply.Reads as apply-reads
 use Rattle.station_text.proofs.put_batch.Reads as put-batch-reads
 use Rattle.station_text.proofs.put_refused.Reads as put-refused-reads
 

@@ -6,7 +6,7 @@ use Rattle.network.specs.Reading.{verdictOf}
 use Rattle.replay.proofs.replay.Tie as tie
 use Rattle.replay.proofs.replay.Reads as reads
 use Rattle.replay.proofs.replay.Lts as lts
-use Rattle.monitor.proofs.open.Reads as open-reads
+use Rattle.opening.proofs.open.Reads as open-reads
 use Rattle.replay.proofs.replay_batches.Reads as replay-batches-reads
 
 open-requires : tie.Need-open-requires

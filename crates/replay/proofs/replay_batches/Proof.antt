@@ -6,12 +6,12 @@ use native.Mathlib.Omega.{arith}
 use Rattle.replay.proofs.replay_batches.Statement.{statement}
 use Rattle.replay.proofs.Replaying.{Replaying, replay-start, replay-more, replay-done, replay-end}
 use Rattle.areas.specs.Lent.{lent}
-use Rattle.batch.specs.Applying.{resultWith}
+use Rattle.network.specs.Reading.{resultWith}
 use Rattle.replay.specs.Replayed.{callsOf}
 use Rattle.replay.proofs.replay_batches.Tie as tie
 use Rattle.replay.proofs.replay_batches.Reads as reads
 use Rattle.replay.proofs.replay_batches.Lts as lts
-use Rattle.monitor.proofs.apply.Reads as apply-reads
+use Rattle.applying.proofs.apply.Reads as apply-reads
 use Rattle.station_text.proofs.next_piece.Reads as next-piece-reads
 
 abbrev Inv-loop : tie.InvT-loop

@@ -1,0 +1,25 @@
+// The checks that every call on opened areas makes first: refusals 1 to 8.
+ghost use Rattle.areas.specs.Lent.{lent};
+ghost use Rattle.admission.specs.Admission.{Admits};
+use network::Reading;
+
+// Reads the network and judges the areas: refusals 1 to 8.
+pub fn read_areas(net: &[u8], rows: &[u32], gained: &[u32], lost: &[u32], head: &[u32]) -> Reading
+    ensures { λ r. ⌜ Admits (now (net .entry))
+        (lent (now (rows .entry)) (now (gained .entry)) (now (lost .entry)) (now (head .entry))) r ⌝ }
+{
+    if !areas::long_enough(rows, gained, lost, head) {
+        return network::refused_reading(1, 0);
+    }
+    let reading = network::read_network(net);
+    let verdict = reading.verdict;
+    if verdict.number != 0 {
+        return reading;
+    }
+    let network = reading.network;
+    let count = network.count;
+    if !areas::good_form(&network.widths, count, rows, gained, lost, head) {
+        return network::refused_reading(8, 0);
+    }
+    reading
+}

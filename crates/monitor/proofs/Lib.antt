@@ -1,4 +1,0 @@
-pub mod Forms
-pub mod Checks
-pub mod Reported
-pub mod Sizes
