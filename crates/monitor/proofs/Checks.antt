@@ -18,7 +18,6 @@ use Rattle.areas.proofs.Good.{long-parts}
 use Rattle.model.specs.Calls.{checkCall, formVerdict, Applied, applyPromise, Keeps, promiseOf, settled, Result}
 use Rattle.areas.specs.Lent.{lent}
 use Rattle.model.proofs.Fits.{read-fits, length-widths}
-use Rattle.transition.proofs.Out.{head-long}
 use Rattle.model.specs.Station.{step}
 use Rattle.batch.specs.Applying.{Applicable, AppliedTo}
 use Rattle.states.proofs.Fitted.{form-parts, place-good, few-at}
