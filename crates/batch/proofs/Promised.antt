@@ -9,8 +9,8 @@ use native.Mathlib.Omega.{arith}
 use lib.Seq.{drop-at}
 use borrow.Author.Tests.{eq-eqb, ne-eqb}
 use Rattle.model.specs.Network.{Node, within, AllFit, widths}
-use Rattle.model.specs.Areas.{Areas, holding, layout, coherent, over, stateIn, batchNumber, rowsIn, tablesOf, goodForm, sameRelations, stampAt, headOf, KeepsRest, areaOf}
-use Rattle.model.specs.Station.{Step, State, limit, refusedStep, advance, step, lastNumber, applyEvents}
+use Rattle.model.specs.Areas.{Areas, holding, holdingRows, layout, coherent, over, stateIn, batchNumber, rowsIn, tablesOf, goodForm, sameRelations, stampAt, headOf, KeepsRest, areaOf}
+use Rattle.model.specs.Station.{Step, State, limit, refusedStep, advance, advanceRows, step, lastNumber, applyEvents}
 use Rattle.model.specs.Record.{isAccepted, refused, accepted, Bytes, Verdict}
 use Rattle.model.specs.Calls.{resultOf, promiseOf, settled, free, Result, Keeps, Free, freelyRefused, freelyAccepted}
 use Rattle.model.specs.Row.{Relation, numbersBelow}
@@ -20,7 +20,8 @@ use Rattle.areas.specs.Lent.{lent}
 use Rattle.network.specs.Reading.{nodesOf}
 use Rattle.model.specs.Batch.{readBatch}
 use Rattle.states.proofs.Batches.{batch-within}
-use Rattle.propagation.specs.Propagated.{Ready, tablesAfter, newRows, WorkedTo, working, limitVerdict}
+use Rattle.propagation.specs.Propagated.{Ready, tablesAfter, newRows, limitVerdict}
+use Rattle.working.specs.Working.{WorkedTo, working}
 use Rattle.coherence.specs.Held.{rowsHeld}
 use Rattle.model.specs.Evaluation.{overfull, evaluate}
 use Rattle.evaluation.proofs.Fresh.{same-eq}
@@ -29,11 +30,12 @@ use Rattle.model.proofs.Sets.{and-second}
 use Rattle.propagation.proofs.News.{new-fresh}
 use Rattle.coherence.proofs.Coherent.{nodes-count, rows-length}
 use Rattle.states.proofs.Tables.{all-under}
-use Rattle.states.proofs.Written.{Fitting, area-length}
+use Rattle.states.specs.Fitting.{Fitting}
+use Rattle.states.proofs.Written.{area-length}
 use Rattle.propagation.proofs.Network.{new-fits, new-many as news-many}
-use Rattle.transition.specs.Written.{WorkedOut, nextState, holdingRows}
+use Rattle.changes.specs.Written.{WorkedOut}
 use Rattle.areas.proofs.Good.{long-parts}
-use Rattle.transition.proofs.Out.{changes-count, gained-fit, lost-fit}
+use Rattle.changes.proofs.Out.{changes-count, gained-fit, lost-fit}
 use Rattle.model.proofs.Parts.{length-counted}
 use Rattle.states.proofs.Changes.{stamps-length}
 use Rattle.states.proofs.Head.{head-size, head-length}
@@ -193,7 +195,7 @@ module _ (net : Network) (bs : Bytes) (rows gained lost head : List ℕ) (can : 
       worked-out = record { built = can .checkable .built; long = can .long; form = can .form; new = newRows net rows head bs; worked = to; fits = fits }
 
       abbrev next : State
-      next = nextState (nodesOf net) s (tablesAfter net rows head bs) (rowsIn layout (nodesOf net) (lent rows gained lost head)) (newRows net rows head bs)
+      next = advanceRows (nodesOf net) s (tablesAfter net rows head bs) (rowsIn layout (nodesOf net) (lent rows gained lost head)) (newRows net rows head bs)
 
       under : overfull 0 (newRows net rows head bs) ≡ []
       under = all-under 0 (newRows net rows head bs) (λ i h. to .worked i (rw new-many at h) .few)
@@ -220,7 +222,7 @@ module _ (net : Network) (bs : Bytes) (rows gained lost head : List ℕ) (can : 
           (omega (arith, few, worked-few (nodesOf net) (next .changes), nodes-count net (can .checkable .built)))
 
       -- no word past the named ones
-      keeps-rest : KeepsRest layout (lent rows gained lost head) (holdingRows (newRows net rows head bs) next (lent rows gained lost head))
+      keeps-rest : KeepsRest layout (lent rows gained lost head) (holdingRows layout (newRows net rows head bs) next (lent rows gained lost head))
       keeps-rest =
           let r : length (areaOf layout (newRows net rows head bs)) ≡ 8192 = area-length (widths (nodesOf net)) (newRows net rows head bs) fits in
           let g : length (areaOf layout (map (λ c. c .gained) (next .changes))) ≡ 8192 = area-length (widths (nodesOf net)) (map (λ c. c .gained) (next .changes))
@@ -239,26 +241,26 @@ module _ (net : Network) (bs : Bytes) (rows gained lost head : List ℕ) (can : 
           }
 
       -- from coherent areas they hold the plain station's next state
-      held : coherent layout (nodesOf net) (lent rows gained lost head) ≡ true → holdingRows (newRows net rows head bs) next (lent rows gained lost head)
+      held : coherent layout (nodesOf net) (lent rows gained lost head) ≡ true → holdingRows layout (newRows net rows head bs) next (lent rows gained lost head)
           ≡ holding layout (nodesOf net) (advance (nodesOf net) s (tablesAfter net rows head bs)) (lent rows gained lost head)
       unfolding holding advance stateIn rowsIn
       held c =
-          ap₂ {A = List Relation} {B = List Relation} {C = Areas} (λ x y. holdingRows y (nextState (nodesOf net) s (tablesAfter net rows head bs) x y) a) (old-fresh c) (now-fresh c)
+          ap₂ {A = List Relation} {B = List Relation} {C = Areas} (λ x y. holdingRows layout y (advanceRows (nodesOf net) s (tablesAfter net rows head bs) x y) a) (old-fresh c) (now-fresh c)
 
-      pub accepted-kept : (v : Verdict) (after : Areas) → v ≡ accepted → after ≡ holdingRows (newRows net rows head bs) next (lent rows gained lost head) →
+      pub accepted-kept : (v : Verdict) (after : Areas) → v ≡ accepted → after ≡ holdingRows layout (newRows net rows head bs) next (lent rows gained lost head) →
           AppliedTo net bs (lent rows gained lost head) (record { verdict = v; areas = after })
       accepted-kept v after f e = rw (f, e) (go (coherent layout (nodesOf net) a) refl)
         where
           go : (t : Bool) → coherent layout (nodesOf net) a ≡ t →
-              AppliedTo net bs (lent rows gained lost head) (record { verdict = accepted; areas = holdingRows (newRows net rows head bs) next (lent rows gained lost head) })
+              AppliedTo net bs (lent rows gained lost head) (record { verdict = accepted; areas = holdingRows layout (newRows net rows head bs) next (lent rows gained lost head) })
           go true c =
               let list : overfull 0 (evaluate (nodesOf net) (tablesAfter net rows head bs)) ≡ [] = ap (overfull 0) (sym (now-fresh c)) ∙ under in
               let is : st ≡ record { verdict = accepted; state = advance (nodesOf net) s (tablesAfter net rows head bs) } = step-is
               ∙ ap (limit (nodesOf net) s (tablesAfter net rows head bs)) list ∙ limit-under (nodesOf net) s (tablesAfter net rows head bs) in
               settles (nodesOf net) (lent rows gained lost head) st true c refl
-              (record { verdict = accepted; areas = holdingRows (newRows net rows head bs) next (lent rows gained lost head) })
+              (record { verdict = accepted; areas = holdingRows layout (newRows net rows head bs) next (lent rows gained lost head) })
               (ap (λ (x : Areas). record { verdict = accepted; areas = x }) (held c)
               ∙ sym (ap (resultOf (nodesOf net) (lent rows gained lost head)) is ∙ result-accepted (nodesOf net) (lent rows gained lost head)
               (record { verdict = accepted; state = advance (nodesOf net) s (tablesAfter net rows head bs) }) refl))
           go false c = frees (nodesOf net) (lent rows gained lost head) st c number-free
-              (record { verdict = accepted; areas = holdingRows (newRows net rows head bs) next (lent rows gained lost head) }) (freelyAccepted refl keeps-rest)
+              (record { verdict = accepted; areas = holdingRows layout (newRows net rows head bs) next (lent rows gained lost head) }) (freelyAccepted refl keeps-rest)

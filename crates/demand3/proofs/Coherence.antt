@@ -12,7 +12,7 @@ use Rattle.model.specs.Network.{Node, widths}
 use Rattle.rows.proofs.Place.{all-below}
 use Rattle.model.specs.Areas.{Areas, batchNumber, changesIn, coherent, gainedCount, goodArea, goodForm, goodStamps, goodWorked, layout, lostCount, relationsIn, rowCount, rowsIn}
 use Rattle.model.specs.Areas.{sameRelations, stampAt, stateIn, tablesOf, workedAt, workedCount}
-use Rattle.states.proofs.Written.{Fitting}
+use Rattle.states.specs.Fitting.{Fitting}
 use Rattle.demand3.proofs.Holds.{Proper}
 use Rattle.model.specs.Row.{allOf, numbersBelow}
 use Rattle.model.proofs.Fits.{Small, length-widths}

@@ -15,7 +15,8 @@ use Rattle.rows.proofs.Place.{below-all}
 use Rattle.model.specs.Areas.{Areas, batchNumber, changesIn, gainedCount, goodArea, goodForm, goodStamps, goodWorked, headOf, holding, layout, longEnough, lostCount, padded}
 use Rattle.model.specs.Areas.{rowCount, rowsIn, stampAt, tablesOf, workedAt, workedCount, HoldsState, coherent, sameRelations, stateIn, over, areaOf}
 use Rattle.model.specs.Delta.{Change}
-use Rattle.states.proofs.Written.{Fitting, written-back, written-good, written-long, area-length}
+use Rattle.states.specs.Fitting.{Fitting}
+use Rattle.states.proofs.Written.{written-back, written-good, written-long, area-length}
 use Rattle.model.specs.Row.{Relation, allOf, countFrom, numbersBelow}
 use Rattle.model.specs.Station.{State}
 use Rattle.model.proofs.Sets.{and-both}

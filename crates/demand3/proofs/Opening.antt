@@ -11,7 +11,8 @@ use Rattle.model.specs.Network.{Node, AllFit, widths, nodeAt, isTable, Operand,
 use Rattle.model.specs.Network.{table, union}
 use Rattle.model.specs.Areas.{Areas, areaOf, cleared, headOf, holding, layout, over, padded, tablesOf}
 use Rattle.model.specs.Delta.{Change, noChange}
-use Rattle.states.proofs.Written.{Fitting, flat-none}
+use Rattle.states.specs.Fitting.{Fitting}
+use Rattle.states.proofs.Written.{flat-none}
 use Rattle.demand3.proofs.Holds.{Proper}
 use Rattle.model.specs.Row.{Relation}
 use Rattle.model.proofs.Fits.{Small, length-widths}

@@ -10,7 +10,7 @@ use Rattle.model.specs.Network.{Node, AllFit, widths, nodeAt, isTable}
 use Rattle.model.proofs.Sets.{Ascending, ascending-holds, ascending-true}
 use Rattle.model.specs.Record.{Bytes, isAccepted, refused}
 use Rattle.model.specs.Delta.{netChanges}
-use Rattle.states.proofs.Written.{Fitting}
+use Rattle.states.specs.Fitting.{Fitting}
 use Rattle.demand3.proofs.Holds.{Proper}
 use Rattle.model.specs.Row.{Relation}
 use Rattle.model.specs.Station.{State, Step, advance, applyEvents, lastNumber, limit, refusedStep, step}

@@ -230,17 +230,20 @@ headOf rels s =
 abbrev pub over : List ℕ → List ℕ → List ℕ
 over words before = words ++ drop (length words) before
 
--- the areas with a state in all their named words
-unfoldable pub holding : Layout → List Node → State → Areas → Areas
-unfolding areaOf headOf evaluate
-holding L nodes s before =
-    let rels : List Relation = evaluate nodes (s .tables) in
+-- the areas with a state in all their named words, given each node's rows
+abbrev pub holdingRows : Layout → List Relation → State → Areas → Areas
+holdingRows L rels s before =
     record {
       rows = over (areaOf L rels) (before .rows);
       gained = over (areaOf L (map (λ c. c .gained) (s .changes))) (before .gained);
       lost = over (areaOf L (map (λ c. c .lost) (s .changes))) (before .lost);
       head = over (headOf rels s) (before .head);
     }
+
+-- the areas with a state in all their named words: each node's rows are its fresh evaluation
+unfoldable pub holding : Layout → List Node → State → Areas → Areas
+unfolding areaOf headOf evaluate
+holding L nodes s before = holdingRows L (evaluate nodes (s .tables)) s before
 
 -- "Opening sets all named words to 0"
 unfoldable pub cleared : Layout → Areas → Areas

@@ -54,11 +54,10 @@ unfoldable pub workedList : List Node → List Change → List ℕ
 unfolding workedAtLevel flatMap
 workedList nodes changes = flatMap (workedAtLevel nodes changes) (numbersBelow (length nodes))
 
--- the state after an accepted batch whose events leave these tables
-unfoldable pub advance : List Node → State → List Relation → State
-unfolding evaluate netChanges zipWith workedList
-advance nodes s copy =
-    let changes : List Change = netChanges (evaluate nodes (s .tables)) (evaluate nodes copy) in
+-- the state after an accepted batch whose events leave these tables, from each node's rows before and after
+abbrev pub advanceRows : List Node → State → List Relation → List Relation → List Relation → State
+advanceRows nodes s copy old new =
+    let changes : List Change = netChanges old new in
     record {
       tables = copy;
       number = s .number + 1;
@@ -66,6 +65,11 @@ advance nodes s copy =
       changes = changes;
       worked = workedList nodes changes;
     }
+
+-- the state after an accepted batch whose events leave these tables: each node's rows are its fresh evaluation
+unfoldable pub advance : List Node → State → List Relation → State
+unfolding evaluate netChanges zipWith workedList
+advance nodes s copy = advanceRows nodes s copy (evaluate nodes (s .tables)) (evaluate nodes copy)
 
 -- what the plain station says of a batch, and its state afterwards
 pub record Step : Type 0 where

@@ -11,8 +11,9 @@ use native.Mathlib.Nat.{le-refl, not-suc-le-zero, zero-add}
 use Rattle.model.specs.Network.{Node, AllFit, widths, nodeAt, isTable, table}
 use Rattle.network.specs.declared.Network.{Network}
 use Rattle.model.specs.Record.{Bytes, Verdict, refused, offsets}
-use Rattle.propagation.specs.Propagated.{Ready, tablesAfter, newRows, Working, working, Worked, Present, presentRows, presentPlace, changedIn, WorkedTo, Workable, inputChanged}
-use Rattle.propagation.specs.Propagated.{nextRows, WorksNode, limitVerdict, Propagates}
+use Rattle.propagation.specs.Propagated.{Ready, tablesAfter, newRows, changedIn, limitVerdict, Propagates}
+use Rattle.working.specs.Working.{Working, working, Worked, Present, presentRows, presentPlace, WorkedTo, Workable, nextRows, WorksNode}
+use Rattle.worklist.specs.Listed.{inputChanged}
 use Rattle.propagation.specs.declared.Propagated.the-variants.{All, Over}
 use Rattle.network.specs.Reading.{nodesOf, Built, noSlot, slotNode}
 use Rattle.model.specs.Row.{Relation, ascending, sameRows, place}
@@ -20,7 +21,8 @@ use Rattle.coherence.specs.Held.{rowsHeld, Places, heldAt, Derived}
 use Rattle.coherence.proofs.Coherent.{nodes-count, rows-held, width-is, rows-length, slot-node, level-derived, level-table, narrow-widths}
 use Rattle.model.proofs.Fits.{length-widths}
 use Rattle.model.specs.Evaluation.{rowsAt, overfull}
-use Rattle.states.proofs.Written.{Fitting, sized}
+use Rattle.states.specs.Fitting.{Fitting}
+use Rattle.states.proofs.Written.{sized}
 use Rattle.rows.proofs.Place.{held-wide}
 use Rattle.model.specs.Areas.{layout, rowCount, tablesOf}
 use Rattle.coherence.proofs.Placed.{rows-few, held-at, place-at}
@@ -33,7 +35,7 @@ use Rattle.states.proofs.Fitted.{tables-fit, only-length}
 use Rattle.rows.proofs.Words.{Wide}
 use Rattle.propagation.proofs.News.{new-wide, new-asc, new-table, new-derived, new-length}
 use Rattle.model.proofs.Sets.{Ascending, ascending-true}
-use Rattle.propagation.proofs.Differ.{fills-place}
+use Rattle.working.proofs.Differ.{fills-place}
 use Rattle.network.specs.declared.Slot.{Slot}
 use Rattle.tables.proofs.Acts.{accepted-folds, acts-fold}
 use Rattle.evaluation.specs.Derived.{leftOf, rightOf, evaluateOn}

@@ -1,5 +1,5 @@
 -- The rows that propagation gives: node by node, their form, and that from coherent rows they are the fresh evaluation. Assumes nothing.
-use mathlib.Core.Bool.{not, false, Bool, true, true≢false, cond, _||_}
+use mathlib.Core.Bool.{false, Bool, true, cond, _||_}
 use mathlib.Core.Path.{_≡_, refl, _∙_, ap, sym, ap₂}
 use mathlib.Core.List.{List, []}
 use lib.ListN.{length, take, getD}
@@ -7,26 +7,20 @@ use Prim.Native.Nat.{ℕ, _<_, _≤_, zero, suc}
 use lib.Seq.{length-take-le, getD-take, ext-getD}
 use native.Mathlib.Omega.{arith}
 use native.Mathlib.Nat.{not-suc-le-zero, le-refl}
-use Rattle.model.specs.Row.{Relation, sameRows}
-use Rattle.model.proofs.Sets.{sameRows-eq, Ascending, ascending-holds}
+use Rattle.model.specs.Row.{Relation}
+use Rattle.model.proofs.Sets.{Ascending, ascending-holds}
 use Rattle.model.specs.Network.{Node, AllFit, nodeAt, isTable, widths}
 use Rattle.propagation.specs.Propagated.{propagated, nextOf, changedIn}
 use Rattle.model.proofs.Build.{length-build, build-at, length-evaluate}
 use Rattle.model.specs.Evaluation.{rowsAt, evaluate}
 use Rattle.evaluation.specs.Derived.{leftOf, rightOf, evaluateOn}
 use Rattle.evaluation.proofs.Fresh.{givenBy, inputs-before, width-at, columns-fit, fresh-derived, fresh-table}
-use Rattle.states.proofs.Written.{Fitting}
+use Rattle.states.specs.Fitting.{Fitting}
 use Rattle.states.proofs.Tables.{Tables, on-asc}
 use Rattle.rows.proofs.Words.{Wide}
 use Rattle.model.proofs.Fits.{length-widths}
 use Rattle.evaluation.proofs.Inside.{on-wide}
-
-pub same-flag : (a b : Relation) → not (sameRows a b) ≡ false → a ≡ b
-same-flag a b e = sameRows-eq a b (go (sameRows a b) e)
-  where
-    go : (t : Bool) → not t ≡ false → t ≡ true
-    go true f = refl
-    go false f = absurd (true≢false f)
+use Rattle.working.proofs.Differ.{same-flag}
 
 module _ (nodes : List Node) (fit : AllFit nodes) (old copy : List Relation) where
   pub new-length : length (propagated nodes old copy) ≡ length nodes

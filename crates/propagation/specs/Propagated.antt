@@ -1,29 +1,24 @@
 -- The nodes' rows after a batch, as they are worked out: document 000's propagation, with a node's own kind in place of its differentials.
 use mathlib.Core.Path.{_≡_}
-use mathlib.Core.Bool.{Bool, true, false, not, _||_, cond}
+use mathlib.Core.Bool.{Bool, true, not, _||_, cond}
 use mathlib.Core.List.{List, [], _∷_}
-use Prim.Native.Nat.{ℕ, _≤_, _<_}
-use lib.Dec.{eqb}
-use lib.ListN.{getD, length, set}
+use Prim.Native.Nat.{ℕ}
+use lib.ListN.{length}
 use Rattle.model.specs.Row.{Relation, sameRows}
-use Rattle.model.specs.Record.{Bytes, Verdict, accepted, refused, isAccepted, offsets}
+use Rattle.model.specs.Record.{Bytes, Verdict, accepted, refused, isAccepted}
 use Rattle.model.specs.Network.{Node, build, isTable}
 use Rattle.model.specs.Evaluation.{rowsAt, overfull}
 use Rattle.model.specs.Batch.{readBatch, actAll}
-use Rattle.model.specs.Areas.{layout, placeOf, rowCount, tablesOf}
-use Rattle.nodes.specs.Nodes.{Narrow}
+use Rattle.model.specs.Areas.{tablesOf}
 use Rattle.network.specs.declared.Network.{Network}
-use Rattle.network.specs.declared.Slot.{Slot}
-use Rattle.network.specs.Reading.{slotNode, nodesOf}
-use Rattle.areas.specs.Lent.{placeAt}
-use Rattle.places.specs.Places.{Place, relationIn}
+use Rattle.network.specs.Reading.{nodesOf}
 use Rattle.evaluation.specs.Derived.{leftOf, rightOf, evaluateOn}
-use Rattle.coherence.specs.Held.{heldAt, Derived, Checkable, rowsHeld}
-use Rattle.tables.specs.Fold.{Foldable, foldRows}
+use Rattle.coherence.specs.Held.{Checkable, rowsHeld}
+use Rattle.working.specs.Working.{Working, WorkedTo}
 use Rattle.propagation.specs.declared.Propagated.{Propagated}
 use Rattle.propagation.specs.declared.Propagated.the-variants.{All, Over}
 
--- ---- of a whole network
+-- ---- the rows
 
 -- node j's rows are others than before
 abbrev pub changedIn : List Relation → List Relation → ℕ → Bool
@@ -54,111 +49,7 @@ pub record Ready (net : Network) (rows head : List ℕ) (bs : Bytes) : Type 0 wh
   pub checkable : Checkable net rows head
   pub accepts : isAccepted (readBatch (nodesOf net) bs .verdict) ≡ true
 
--- ---- in words
-
--- what the working of nodes reads and writes: the nodes' widths, the rows area, and for each node worked so far
--- its new rows in a place of its own, where they are others than before, their count, and whether they are
-pub record Working : Type 0 where
-  pub widths : List ℕ
-  pub rows : List ℕ
-  pub work : List ℕ
-  pub counts : List ℕ
-  pub changed : List Bool
-
-abbrev pub working : List ℕ → List ℕ → List ℕ → List ℕ → List Bool → Working
-working widths rows work counts changed = record { widths = widths; rows = rows; work = work; counts = counts; changed = changed }
-
--- each of these has its size
-pub record Sized (m : Working) : Type 0 where
-  pub widths : length (m .widths) ≡ 32
-  pub narrow : Narrow (m .widths)
-  pub rows : 8192 ≤ length (m .rows)
-  pub work : length (m .work) ≡ 8192
-  pub counts : length (m .counts) ≡ 32
-  pub changed : length (m .changed) ≡ 32
-
--- the place of node j's present rows: its own where they changed, else that of the rows area
-abbrev pub presentPlace : Working → ℕ → List ℕ
-presentPlace m j = placeAt (cond (getD (m .changed) j false) (m .work) (m .rows)) j
-
--- node j's present rows
-abbrev pub presentRows : Working → ℕ → Relation
-presentRows m j = relationIn (getD (m .widths) j 0) (presentPlace m j) (getD (m .counts) j 0)
-
--- they are of good form
-abbrev pub Present : Working → ℕ → Type 0
-Present m j = Place (getD (m .widths) j 0) (presentPlace m j) (getD (m .counts) j 0)
-
--- node i's old rows
-abbrev pub oldRows : List ℕ → Working → ℕ → Relation
-oldRows head m i = heldAt (m .widths) head (m .rows) i
-
--- a derived node has an input that changed
-abbrev pub inputChanged : Slot → List Bool → Bool
-inputChanged slot changed = getD changed (leftOf (slotNode slot)) false || getD changed (rightOf (slotNode slot)) false
-
--- what working node i's record, of a level, gives: a table's rows after its events, or what a derived node's kind gives from its inputs' present rows
-abbrev pub workedRows : Slot → ℕ → Bytes → List ℕ → Working → ℕ → Relation
-workedRows slot level bs head m i =
-    cond (eqb level 0) (foldRows bs i (getD (m .widths) i 0) (offsets bs) (oldRows head m i))
-    (evaluateOn (slotNode slot) (presentRows m (leftOf (slotNode slot))) (presentRows m (rightOf (slotNode slot))))
-
--- node i must be worked: it is a table, or an input changed
-abbrev pub mustWork : Slot → ℕ → List Bool → Bool
-mustWork slot level changed = eqb level 0 || inputChanged slot changed
-
--- node i's new rows
-abbrev pub nextRows : Slot → ℕ → Bytes → List ℕ → Working → ℕ → Relation
-nextRows slot level bs head m i = cond (mustWork slot level (m .changed)) (workedRows slot level bs head m i) (oldRows head m i)
-
--- a node that can be worked, number i of a level
-pub record Workable (slot : Slot) (level : ℕ) (bs : Bytes) (head : List ℕ) (m : Working) (i : ℕ) : Type 0 where
-  pub sized : Sized m
-  pub inside : i < 32
-  pub head-long : 162 ≤ length head
-  pub old : Place (getD (m .widths) i 0) (placeAt (m .rows) i) (rowCount head i)
-  pub old-is : relationIn (getD (m .widths) i 0) (placeAt (m .rows) i) (rowCount head i) ≡ oldRows head m i
-  pub unchanged : getD (m .changed) i false ≡ false
-  pub table : level ≡ 0 → Foldable bs i (getD (m .widths) i 0)
-  pub derived : (level ≡ 0 → ⊥) → Derived slot (m .widths) i
-  pub left : (level ≡ 0 → ⊥) → Present m (leftOf (slotNode slot))
-  pub right : (level ≡ 0 → ⊥) → Present m (rightOf (slotNode slot))
-
--- node i's new rows are there, with their count, and whether they are others than the old ones
-pub record Worked (head : List ℕ) (m : Working) (new : Relation) (i : ℕ) : Type 0 where
-  pub count : getD (m .counts) i 0 ≡ length new
-  pub few : length new ≤ 64
-  pub changed : getD (m .changed) i false ≡ not (sameRows new (oldRows head m i))
-  pub place : presentPlace m i ≡ placeOf layout new
-
--- nothing is written but for node i
-pub record KeepsOthers (m after : Working) (i : ℕ) : Type 0 where
-  pub sized : Sized after
-  pub counts : (j : ℕ) → (j ≡ i → ⊥) → getD (after .counts) j 0 ≡ getD (m .counts) j 0
-  pub changed : (j : ℕ) → (j ≡ i → ⊥) → getD (after .changed) j false ≡ getD (m .changed) j false
-  pub work : (j : ℕ) → j < 32 → (j ≡ i → ⊥) → placeAt (after .work) j ≡ placeAt (m .work) j
-
--- rows of a place put as node i's new ones
-pub record Puts (old : Relation) (new : Relation) (out : List ℕ) (n : ℕ) (m after : Working) (i : ℕ) : Type 0 where
-  pub counts : after .counts ≡ set (m .counts) i n
-  pub changed : after .changed ≡ set (m .changed) i (not (sameRows new old))
-  pub place : presentPlace after i ≡ out
-  pub work-long : length (after .work) ≡ 8192
-  pub work : (j : ℕ) → j < 32 → (j ≡ i → ⊥) → placeAt (after .work) j ≡ placeAt (m .work) j
-
--- a node is worked: its new rows are there, or they are more than 64
-abbrev pub WorksNode : List ℕ → Relation → Working → Working → ℕ → Bool → Type 0
-WorksNode head new m after i true = Worked head after new i × KeepsOthers m after i
-WorksNode head new m after i false = 64 < length new
-
--- ---- all nodes
-
--- the first n nodes are worked
-pub record WorkedTo (head : List ℕ) (new : List Relation) (m : Working) (n : ℕ) : Type 0 where
-  pub sized : Sized m
-  pub worked : (j : ℕ) → j < n → Worked head m (rowsAt new j) j
-  pub unchanged : (j : ℕ) → n ≤ j → getD (m .changed) j false ≡ false
-  pub uncounted : (j : ℕ) → n ≤ j → getD (m .counts) j 0 ≡ 0
+-- ---- the answer
 
 -- the order's number and place of each case: 14 at the node named
 abbrev pub verdictBy : Propagated → Verdict

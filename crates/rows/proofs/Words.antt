@@ -13,6 +13,7 @@ use Rattle.model.specs.Row.{Row, andThen, order, keep, keepIf, place, insertRow
 use Rattle.model.specs.Areas.{fields}
 use Rattle.model.proofs.Order.{lt-compare, gt-compare, eq-compare}
 use Rattle.rows.specs.Rows.{rowAt, rowsFrom, words, stored}
+pub use Rattle.rows.specs.Rows.{Wide}
 
 -- ---- comparing field by field
 
@@ -99,11 +100,6 @@ gap-turn b k to s t p h f e =
 pub words-append : (a b : List Row) → words (a ++ b) ≡ words a ++ words b
 words-append [] b = refl
 words-append (r ∷ a) b = rw (words-append a b) (sym (append-assoc r (words a) (words b)))
-
--- every row has w fields
-abbrev pub Wide : ℕ → List Row → Type 0
-Wide w [] = Unit {0}
-Wide w (r ∷ l) = (length r ≡ w) × Wide w l
 
 pub length-fields : (w : ℕ) (s : List ℕ) (at : ℕ) → length (fields w s at) ≡ w
 unfolding fields

@@ -8,7 +8,7 @@ use native.Mathlib.Nat.{le-of-suc-le-suc, le-refl, le-trans, not-suc-le-zero}
 use lib.ListN.{getD, length, length-map}
 use Rattle.model.proofs.Sets.{Ascending, ascending-holds, ascending-true, member-keep, ext, sameRows-refl, sameRows-eq}
 use Rattle.model.specs.Delta.{Change, changeAt, isChanged, netChange, netChanges, noChange}
-use Rattle.states.proofs.Written.{Fitting}
+use Rattle.states.specs.Fitting.{Fitting}
 use Rattle.model.specs.Row.{Relation, Row, keep, keepIf, member, sameRow, isEmpty, sameRows}
 use Rattle.model.specs.Station.{stampOf}
 use Rattle.rows.proofs.Words.{Wide, wide-keep}

@@ -11,7 +11,8 @@ use borrow.Author.Tests.{leb-true, lt-ltb, le-ltb}
 use Rattle.model.specs.Network.{Node, isTable, widths, nodeAt}
 use Rattle.rows.proofs.Place.{all-below, held-wide, length-held, place-words}
 use Rattle.model.specs.Areas.{emptyPlace, goodArea, goodPlace, heldIn, layout, relationsIn, tablesOf, unusedZero, Areas, goodForm, rowCount, gainedCount, lostCount, goodStamps, goodWorked}
-use Rattle.states.proofs.Written.{Fitting, place-none}
+use Rattle.states.specs.Fitting.{Fitting}
+use Rattle.states.proofs.Written.{place-none}
 use Rattle.model.specs.Row.{Relation, ascending}
 use Rattle.model.proofs.Sets.{and-first, and-second, Ascending, ascending-holds}
 use Rattle.model.specs.Delta.{Change}

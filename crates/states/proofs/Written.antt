@@ -1,5 +1,4 @@
 -- Relations written into an area are read back, and the area is of good form. Assumes nothing.
--- relations that fit into an area: one for each width
 use mathlib.Core.Bool.{_&&_, Bool, cond, false, true}
 use mathlib.Core.List.{_++_, List, [], append-assoc, flatMap, map, _∷_}
 use mathlib.Core.Path.{ap, ap₂, refl, sym, _∙_, _≡_}
@@ -12,19 +11,11 @@ use lib.Dec.{leb, ltb}
 use borrow.Author.Tests.{le-leb, ltb-false, ltb-true}
 use Rattle.rows.proofs.Place.{below-all, place-clean, place-reads}
 use Rattle.model.specs.Row.{Relation, ascending, numbersBelow}
-use Rattle.rows.proofs.Words.{Wide}
+use Rattle.states.specs.Fitting.{Fitting}
 use Rattle.model.proofs.Sets.{and-both}
 use Rattle.model.specs.Areas.{areaOf, emptyPlace, goodArea, goodPlace, heldIn, layout, over, placeOf, relationsIn, unusedZero}
 use Rattle.rows.proofs.Checked.{place-length}
 use Rattle.model.proofs.Parts.{length-counted, counted-at}
-
-pub record Fitting (ws : List ℕ) (rels : List Relation) : Type 0 where
-  pub size : length rels ≡ length ws
-  pub few : length ws ≤ 32
-  pub narrow : (i : ℕ) → getD ws i 0 ≤ 4
-  pub wide : (i : ℕ) → i < length ws → Wide (getD ws i 0) (getD rels i [])
-  pub small : (i : ℕ) → i < length ws → length (getD rels i []) ≤ 64
-  pub asc : (i : ℕ) → i < length ws → ascending (getD rels i []) ≡ true
 
 -- ---- places one after the other
 

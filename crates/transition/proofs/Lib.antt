@@ -1,5 +1,2 @@
-pub mod Filled
-pub mod Kept
-pub mod Out
-pub mod Listing
+pub mod Head
 pub mod Next

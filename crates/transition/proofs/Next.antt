@@ -1,70 +1,33 @@
 -- The words written are those of the next state. Assumes nothing.
--- ---- lists
-use Prim.Native.Nat.{ℕ, _≤_, _<_, _+_, zero, suc}
-use mathlib.Core.Bool.{Bool, _||_, false, true, true≢false, cond, _&&_}
-use mathlib.Core.Path.{_≡_, refl, ap₂, sym, _∙_, ap}
-use mathlib.Core.List.{List, flatMap, _∷_, _++_, map, zipWith, []}
+use Prim.Native.Nat.{ℕ, _≤_, _<_, _+_}
+use mathlib.Core.Bool.{Bool, false, true, cond}
+use mathlib.Core.Path.{_≡_, sym, _∙_, ap}
+use mathlib.Core.List.{List, _∷_, _++_, map, zipWith, []}
 use native.Mathlib.Nat.{le-refl, zero-add}
-use native.Mathlib.Omega.{arith}
 use lib.ListN.{length, take, length-map, getD}
 use lib.Seq.{ext-getD, getD-take, length-take-le, take-all}
-use lib.Dec.{eqb}
-use borrow.Author.Tests.{eqb-true, eqb-false}
-use Rattle.model.specs.Row.{keep, countFrom, keepIf, someOf, Relation, numbersBelow}
-use Rattle.model.specs.Network.{table, Node, isTable, inputsOf, select, project, join, setOperation, AllFit, levels, nodeAt, widths}
-use Rattle.evaluation.specs.Derived.{leftOf, rightOf}
+use Rattle.model.specs.Row.{Relation, numbersBelow}
+use Rattle.model.specs.Network.{AllFit, levels, widths}
 use Rattle.network.specs.declared.Network.{Network}
-use Rattle.transition.specs.Written.{WorkedOut, stampsFrom, listedIn, listTo, levelList, isOfLevel, filled, WritesNodes, headFrom, holdingRows, nextState, gainedOf, lostOf}
-use Rattle.network.specs.Reading.{nodesOf, Built, slotNode, noSlot}
-use Rattle.model.specs.Areas.{Areas, rowsIn, layout, padded, stampAt, goodArea, over, areaOf, batchNumber, stateIn, headOf, rowCount, gainedCount, lostCount, goodStamps, goodWorked}
+use Rattle.changes.specs.Written.{WorkedOut, filled, WritesNodes, gainedOf, lostOf}
+use Rattle.transition.specs.Head.{stampsFrom, headFrom}
+use Rattle.worklist.specs.Listed.{listedIn, listTo}
+use Rattle.worklist.proofs.Worked.{worked-are}
+use Rattle.network.specs.Reading.{nodesOf, Built}
+use Rattle.model.specs.Areas.{Areas, holdingRows, rowsIn, layout, padded, stampAt, goodArea, over, areaOf, batchNumber, stateIn, headOf, rowCount, gainedCount, lostCount, goodStamps, goodWorked}
 use Rattle.areas.specs.Lent.{lent}
-use Rattle.model.specs.Delta.{Change, netChanges, changeAt, isChanged}
-use Rattle.coherence.proofs.Coherent.{nodes-count, slot-node, level-table, level-derived}
-use Rattle.transition.proofs.Out.{size, changes-count, flag-is, gained-fit, lost-fit}
+use Rattle.model.specs.Delta.{Change, netChanges, changeAt}
+use Rattle.coherence.proofs.Coherent.{nodes-count}
+use Rattle.changes.proofs.Out.{size, changes-count, flag-is, gained-fit, lost-fit}
 use Rattle.network.proofs.Kept.{ends-padded}
 use Rattle.states.proofs.Changes.{lengths-at, map-twice, stamps-length, stamps-at}
-use Rattle.model.specs.Station.{stampOf, hasChangedInput, workedList, workedAtLevel}
+use Rattle.model.specs.Station.{stampOf, workedList, advanceRows}
 use Rattle.model.proofs.Parts.{length-counted, counted-at}
-use Rattle.propagation.specs.Propagated.{inputChanged}
-use Rattle.coherence.specs.Held.{Derived}
-use Rattle.states.proofs.Written.{Fitting, sized}
-use Rattle.transition.proofs.Filled.{filled-all}
+use Rattle.states.specs.Fitting.{Fitting}
+use Rattle.states.proofs.Written.{sized}
+use Rattle.changes.proofs.Filled.{filled-all}
 use Rattle.states.proofs.Fitted.{area-empty, form-parts}
 use Rattle.areas.proofs.Good.{long-parts}
-
-keep-same : (p q : ℕ → Bool) (from n : ℕ) → ((i : ℕ) → from ≤ i → i < from + n → p i ≡ q i) → keep p (countFrom from n) ≡ keep q (countFrom from n)
-keep-same p q from zero h = refl
-keep-same p q from (suc n) h =
-    ap₂ {A = Bool} {B = List ℕ} {C = List ℕ} (λ t l. keepIf t from l) (h from (le-refl from) (omega arith)) (keep-same p q (suc from) n (λ i a b. h i (omega arith) (omega arith)))
-
-flat-same : (f g : ℕ → List ℕ) (l : List ℕ) → ((x : ℕ) → f x ≡ g x) → flatMap f l ≡ flatMap g l
-unfolding flatMap
-flat-same f g [] h = refl
-flat-same f g (x ∷ l) h = ap₂ {A = List ℕ} {B = List ℕ} {C = List ℕ} (λ a b. a ++ b) (h x) (flat-same f g l h)
-
-or-self : (t : Bool) → (t || false) ≡ (t || t)
-or-self true = refl
-or-self false = refl
-
-or-none : (s t : Bool) → (s || (t || false)) ≡ (s || t)
-or-none true t = refl
-or-none false true = refl
-or-none false false = refl
-
--- a derived node's inputs are its first and its second
-inputs-some : (n : Node) (p : ℕ → Bool) → isTable n ≡ false → someOf p (inputsOf n) ≡ (p (leftOf n) || p (rightOf n))
-inputs-some (table w) p e = absurd (true≢false e)
-inputs-some (select i c k o) p e = or-self (p i)
-inputs-some (project i columns) p e = or-self (p i)
-inputs-some (join l r pairs columns) p e = or-none (p l) (p r)
-inputs-some (setOperation o l r) p e = or-none (p l) (p r)
-
-inputs-none : (n : Node) (p : ℕ → Bool) → isTable n ≡ true → someOf p (inputsOf n) ≡ false
-inputs-none (table w) p e = refl
-inputs-none (select i c k o) p e = absurd (true≢false (sym e))
-inputs-none (project i columns) p e = absurd (true≢false (sym e))
-inputs-none (join l r pairs columns) p e = absurd (true≢false (sym e))
-inputs-none (setOperation o l r) p e = absurd (true≢false (sym e))
 
 module _ (net : Network) (rows gained lost head work counts : List ℕ) (changed : List Bool) (o : WorkedOut net rows gained lost head work counts changed) (fit : AllFit (nodesOf net)) where
   abbrev before : Areas
@@ -128,45 +91,6 @@ module _ (net : Network) (rows gained lost head work counts : List ℕ) (changed
       ∙ ap (stampOf number (changeAt (netChanges old (o .new)) i)) (sym (counted-at 0 (stampAt head) 0 (length (nodesOf net)) i (rw many k) ∙ ap (stampAt head) (zero-add i)))
       ∙ sym (stamps-at number (netChanges old (o .new)) (map (stampAt head) (numbersBelow (length (nodesOf net)))) i same (rw changes-many k)))
 
-  -- ---- the worked list
-
-  level-is : (i : ℕ) → i < net .count → getD (levels (nodesOf net)) i 0 ≡ getD (net .levels) i 0
-  level-is i h = ap (λ (l : List ℕ). getD l i 0) (sym (b .sound .levels)) ∙ getD-take (net .count) (net .levels) i 0 h
-
-  listed-is : (i : ℕ) → i < net .count → listedIn net changed i ≡ hasChangedInput (nodesOf net) (netChanges old (o .new)) i
-  listed-is i h = go (eqb (getD (net .levels) i 0) 0) refl
-    where
-      p : ℕ → Bool
-      p j = isChanged (changeAt (netChanges old (o .new)) j)
-
-      node : nodeAt (nodesOf net) i ≡ slotNode (getD (net .slots) i noSlot)
-      node = slot-node net b i h
-
-      go : (t : Bool) → eqb (getD (net .levels) i 0) 0 ≡ t → cond t false (inputChanged (getD (net .slots) i noSlot) changed) ≡ someOf (λ j. isChanged (changeAt (netChanges old (o .new)) j))
-          (inputsOf (nodeAt (nodesOf net) i))
-      go true e = sym (inputs-none (nodeAt (nodesOf net) i) (λ j. isChanged (changeAt (netChanges old (o .new)) j))
-          (ap isTable node ∙ level-table net b fit i h (eqb-true (getD (net .levels) i 0) 0 e)))
-      go false e =
-          let d : Derived (getD (net .slots) i noSlot) (net .widths) i = level-derived net b fit i h (eqb-false (getD (net .levels) i 0) 0 e) in
-          ap₂ {A = Bool} {B = Bool} {C = Bool} (λ x y. x || y)
-          (flag-is net rows gained lost head work counts changed o (leftOf (slotNode (getD (net .slots) i noSlot))) (omega (arith, h, d .left)))
-          (flag-is net rows gained lost head work counts changed o (rightOf (slotNode (getD (net .slots) i noSlot))) (omega (arith, h, d .right)))
-          ∙ ap (λ (n : Node). isChanged (changeAt (netChanges old (o .new)) (leftOf n)) || isChanged (changeAt (netChanges old (o .new)) (rightOf n))) (sym node)
-          ∙ sym (inputs-some (nodeAt (nodesOf net) i) (λ j. isChanged (changeAt (netChanges old (o .new)) j)) (ap isTable node ∙ d .derived))
-
-  worked-are : (listed : List Bool) → ((i : ℕ) → i < net .count → getD listed i false ≡ listedIn net changed i) → listTo (net .levels) listed (net .count) (net .count)
-      ≡ workedList (nodesOf net) (netChanges old (o .new))
-  unfolding workedList workedAtLevel
-  worked-are listed f =
-      flat-same (levelList (net .levels) listed (net .count)) (workedAtLevel (nodesOf net) (netChanges old (o .new))) (numbersBelow (net .count))
-      (λ level.
-      keep-same (isOfLevel (net .levels) listed level) (λ i. eqb (getD (levels (nodesOf net)) i 0) level && hasChangedInput (nodesOf net) (netChanges old (o .new)) i) 0 (net .count)
-      (λ i a h.
-      let k : i < net .count = omega arith in
-      ap₂ {A = ℕ} {B = Bool} {C = Bool} (λ x t. eqb x level && t) (sym (level-is i k)) (f i k ∙ listed-is i k))
-      ∙ ap (λ (n : ℕ). keep (λ i. eqb (getD (levels (nodesOf net)) i 0) level && hasChangedInput (nodesOf net) (netChanges old (o .new)) i) (numbersBelow n)) (sym many))
-      ∙ ap (λ (n : ℕ). flatMap (workedAtLevel (nodesOf net) (netChanges old (o .new))) (numbersBelow n)) (sym many)
-
   -- ---- all words
 
   area-are : (rels : List Relation) (area after : List ℕ) (count : ℕ → ℕ) → Fitting (widths (nodesOf net)) rels → 8192 ≤ length area → goodArea layout (widths (nodesOf net)) count area
@@ -184,7 +108,7 @@ module _ (net : Network) (rows gained lost head work counts : List ℕ) (changed
       ((i : ℕ) → i < net .count → getD listed i false ≡ listedIn net changed i) → entries ≡ padded 32 (listTo (net .levels) listed (net .count) (net .count)) →
       k ≡ length (listTo (net .levels) listed (net .count) (net .count)) →
       head′ ≡ over (headFrom number counts stamps gains losses k entries) head →
-      lent rows′ gained′ lost′ head′ ≡ holdingRows (o .new) (nextState (nodesOf net) (stateIn layout (nodesOf net) (lent rows gained lost head)) copy old (o .new))
+      lent rows′ gained′ lost′ head′ ≡ holdingRows layout (o .new) (advanceRows (nodesOf net) (stateIn layout (nodesOf net) (lent rows gained lost head)) copy old (o .new))
       (lent rows gained lost head)
   unfolding headOf stateIn
   state-written rows′ gained′ lost′ head′ gains losses stamps entries listed number k copy en w es fl ee ek eh =
@@ -197,9 +121,9 @@ module _ (net : Network) (rows gained lost head work counts : List ℕ) (changed
       (gained-fit net rows gained lost head work counts changed o) (longs .1) (parts .1) (w .gained-are) in
       let l : lost′ ≡ over (areaOf layout (lostOf old (o .new))) lost = area-are (lostOf old (o .new)) lost lost′ (lostCount head) (lost-fit net rows gained lost head work counts changed o)
       (longs .2) (parts .2) (w .lost-are) in
-      let list : listTo (net .levels) listed (net .count) (net .count) ≡ workedList (nodesOf net) (netChanges old (o .new)) = worked-are listed fl in
+      let list : listTo (net .levels) listed (net .count) (net .count) ≡ workedList (nodesOf net) (netChanges old (o .new)) = worked-are net b fit (netChanges old (o .new)) changed (flag-is net rows gained lost head work counts changed o) listed fl in
       let words : headFrom number counts stamps gains losses k entries
-      ≡ headOf (o .new) (nextState (nodesOf net) (stateIn layout (nodesOf net) (lent rows gained lost head)) copy old (o .new)) =
+      ≡ headOf (o .new) (advanceRows (nodesOf net) (stateIn layout (nodesOf net) (lent rows gained lost head)) copy old (o .new)) =
       λ j.
       (en j ∷ [])
       ++ counts-are j

@@ -4,12 +4,13 @@ use mathlib.Core.Path.{ap, _≡_}
 use lib.ListN.{length}
 use borrow.Author.Tests.{not-true, not-false}
 use Rattle.propagation.proofs.propagate.Statement.{statement}
-use Rattle.propagation.specs.Propagated.{WorkedTo, newRows, working}
+use Rattle.working.specs.Working.{WorkedTo, working}
+use Rattle.propagation.specs.Propagated.{newRows}
 use Rattle.propagation.proofs.Network.{new-many, worked-none, can-work, next-is, worked-more, propagates-over, propagates-all}
 use Rattle.propagation.proofs.propagate.Tie as tie
 use Rattle.propagation.proofs.propagate.Reads as reads
 use Rattle.propagation.proofs.propagate.Lts as lts
-use Rattle.propagation.proofs.work_node.Reads as work-node-reads
+use Rattle.working.proofs.work_node.Reads as work-node-reads
 
 abbrev Inv-loop : tie.InvT-loop
 Inv-loop bytes rows head work₀ counts₀ changed₀ net count i₀ work counts changed i = (i ≤ net .count)

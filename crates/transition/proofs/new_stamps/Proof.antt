@@ -6,10 +6,10 @@ use lib.ListN.{length, getD}
 use mathlib.Core.Bool.{cond, false}
 use Rattle.transition.proofs.new_stamps.Statement.{statement}
 use Rattle.model.specs.Areas.{padded, stampAt}
-use Rattle.transition.specs.Written.{stampsFrom}
+use Rattle.transition.specs.Head.{stampsFrom}
 use Rattle.states.proofs.Head.{padded-length}
 use Rattle.model.proofs.Parts.{length-counted}
-use Rattle.transition.proofs.Listing.{stamps-more}
+use Rattle.transition.proofs.Head.{stamps-more}
 use Rattle.transition.proofs.new_stamps.Tie as tie
 use Rattle.transition.proofs.new_stamps.Reads as reads
 use Rattle.transition.proofs.new_stamps.Lts as lts

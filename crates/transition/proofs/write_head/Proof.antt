@@ -2,7 +2,7 @@ use borrow.Author.Needs.{needs}
 use native.Mathlib.Omega.{arith}
 use lib.ListN.{length-set}
 use Rattle.transition.proofs.write_head.Statement.{statement}
-use Rattle.transition.proofs.Listing.{head-written}
+use Rattle.transition.proofs.Head.{head-written}
 use Rattle.transition.proofs.write_head.Tie as tie
 use Rattle.transition.proofs.write_head.Reads as reads
 use Rattle.transition.proofs.write_head.Lts as lts

@@ -6,9 +6,10 @@ use lib.ListN.{length, getD}
 use Prim.Native.Nat.{_≤_, _+_}
 use mathlib.Core.Bool.{cond, false}
 use Rattle.transition.proofs.write_state.Statement.{statement}
-use Rattle.transition.proofs.Out.{head-long, writes-lengths}
-use Rattle.transition.specs.Written.{listTo, listedIn, stampsFrom}
-use Rattle.transition.proofs.Listing.{marks-length, marks-listed}
+use Rattle.changes.proofs.Out.{head-long, writes-lengths}
+use Rattle.worklist.specs.Listed.{listTo, listedIn}
+use Rattle.transition.specs.Head.{stampsFrom}
+use Rattle.worklist.proofs.Listing.{marks-length, marks-listed}
 use Rattle.states.proofs.Head.{padded-length}
 use Rattle.model.proofs.Parts.{length-counted}
 use Rattle.model.specs.Areas.{stampAt}
@@ -16,11 +17,11 @@ use Rattle.transition.proofs.Next.{state-written}
 use Rattle.transition.proofs.write_state.Tie as tie
 use Rattle.transition.proofs.write_state.Reads as reads
 use Rattle.transition.proofs.write_state.Lts as lts
-use Rattle.transition.proofs.list_worked.Reads as list-worked-reads
-use Rattle.transition.proofs.listed_nodes.Reads as listed-nodes-reads
+use Rattle.worklist.proofs.list_worked.Reads as list-worked-reads
+use Rattle.worklist.proofs.listed_nodes.Reads as listed-nodes-reads
 use Rattle.transition.proofs.new_stamps.Reads as new-stamps-reads
 use Rattle.transition.proofs.write_head.Reads as write-head-reads
-use Rattle.transition.proofs.write_nodes.Reads as write-nodes-reads
+use Rattle.changes.proofs.write_nodes.Reads as write-nodes-reads
 
 slice-read-number : tie.Need-slice-read-number
 slice-read-number c = let a = (c .before .before .before .before .before .before .before .before .args) in let long = head-long (a .net) (a .rows .now) (a .gained .now) (a .lost .now)

@@ -1,0 +1,292 @@
+-- What is known of the areas and of the new rows when the writing begins, and after each node. Assumes nothing.
+-- one element more of a list of lengths
+use mathlib.Core.List.{List, map, _++_, _∷_, []}
+use Prim.Native.Nat.{ℕ, _<_, _+_, suc, _≤_}
+use lib.ListN.{length, take, getD, set, length-map, replicate}
+use mathlib.Core.Path.{_≡_, ap, _∙_, refl, ap₂, sym}
+use native.Mathlib.Omega.{arith}
+use lib.Seq.{take-suc, length-take-le}
+use mathlib.Core.Bool.{Bool, true, cond, false, not}
+use native.Mathlib.Nat.{le-refl}
+use Rattle.model.specs.Row.{Relation, sameRows}
+use Rattle.model.specs.Areas.{padded, Areas, rowsIn, layout, goodArea, rowCount, gainedCount, lostCount, goodStamps, goodWorked, heldIn}
+use Rattle.rows.proofs.Padding.{padded-more}
+use Rattle.model.specs.Network.{widths}
+use Rattle.network.specs.declared.Network.{Network}
+use Rattle.changes.specs.Written.{WorkedOut, gainedOf, lostOf, WritesNodes, filled, WritesNode, placed}
+use Rattle.areas.specs.Lent.{lent, placeAt}
+use Rattle.network.specs.Reading.{nodesOf, Built}
+use Rattle.areas.proofs.Good.{long-parts}
+use Rattle.model.proofs.Fits.{length-widths}
+use Rattle.coherence.proofs.Coherent.{nodes-count, width-is, relation-at}
+use Rattle.states.proofs.Fitted.{form-parts, area-fits, area-place}
+use Rattle.states.specs.Fitting.{Fitting}
+use Rattle.states.proofs.Written.{sized}
+use Rattle.model.specs.Delta.{netChanges, netChange, Change, isChanged, changeAt}
+use Rattle.states.proofs.Changes.{changes-length, gained-fits, lost-fits, map-at, changes-at, changed-is}
+use Rattle.model.specs.Algebra.{differenceRows}
+use Rattle.working.specs.Working.{Worked, working, oldRows}
+use Rattle.places.specs.Places.{Place, relationIn}
+use Rattle.working.proofs.Differ.{fills-place, same-flag}
+use Rattle.model.proofs.Sets.{ascending-holds}
+use Rattle.places.proofs.Places.{place-count}
+use Rattle.changes.proofs.Filled.{filled-later, filled-length, filled-more, filled-none}
+use Rattle.changes.specs.declared.Sizes.{Sizes}
+use Rattle.states.proofs.Head.{padded-length}
+
+lengths-more : (rels : List Relation) (i : ℕ) → i < length rels → map length (take (i + 1) rels) ≡ map length (take i rels) ++ (length (getD rels i []) ∷ [])
+lengths-more rels i h = let e : i + 1 ≡ suc i = omega arith in ap (λ (k : ℕ). map length (take k rels)) e ∙ ap (map length) (take-suc rels i [] h) ∙ map-snoc (take i rels) (getD rels i [])
+  where
+    map-snoc : (l : List Relation) (r : Relation) → map length (l ++ (r ∷ [])) ≡ map length l ++ (length r ∷ [])
+    map-snoc [] r = refl
+    map-snoc (x ∷ l) r = ap (λ (m : List ℕ). length x ∷ m) (map-snoc l r)
+
+-- a count set in an array of 32
+sizes-more : (rels : List Relation) (i : ℕ) (array : List ℕ) (x : ℕ) → i < length rels → length rels ≤ 32 → array ≡ padded 32 (map length (take i rels)) → x ≡ length (getD rels i []) →
+    set array i x ≡ padded 32 (map length (take (i + 1) rels))
+sizes-more rels i array x h few e f =
+    let size : length (map length (take i rels)) ≡ i = length-map (take i rels) length ∙ length-take-le i rels (omega arith) in
+    ap₂ {A = List ℕ} {B = ℕ} {C = List ℕ} (λ a y. set a i y) e f ∙ padded-more 32 (map length (take i rels)) (length (getD rels i [])) i size (omega arith)
+    ∙ ap (padded 32) (sym (lengths-more rels i h))
+
+module _ (net : Network) (rows gained lost head work counts : List ℕ) (changed : List Bool) (o : WorkedOut net rows gained lost head work counts changed) where
+  abbrev a : Areas
+  a = lent rows gained lost head
+
+  abbrev ws : List ℕ
+  ws = widths (nodesOf net)
+
+  abbrev old : List Relation
+  old = rowsIn layout (nodesOf net) (lent rows gained lost head)
+
+  b : Built net
+  b = o .built
+
+  longs : (8192 ≤ length rows) × (8192 ≤ length gained) × (8192 ≤ length lost) × (162 ≤ length head)
+  longs = long-parts rows gained lost head (o .long)
+
+  pub head-long : 162 ≤ length head
+  head-long = longs .3
+
+  pub size : length (widths (nodesOf net)) ≡ net .count
+  size = length-widths (nodesOf net) ∙ nodes-count net b
+
+  pub few-nodes : net .count ≤ 32
+  few-nodes = b .sound .few
+
+  few : length (widths (nodesOf net)) ≤ 32
+  few = rw size few-nodes
+
+  narrow : (i : ℕ) → getD (widths (nodesOf net)) i 0 ≤ 4
+  narrow = o .fits .narrow
+
+  inside : (i : ℕ) → i < net .count → i < length (widths (nodesOf net))
+  inside i h = rw size h
+
+  parts : (goodArea layout (widths (nodesOf net)) (rowCount head) rows ≡ true) × (goodArea layout (widths (nodesOf net)) (gainedCount head) gained ≡ true)
+      × (goodArea layout (widths (nodesOf net)) (lostCount head) lost ≡ true) × (goodStamps (length (nodesOf net)) head ≡ true) × (goodWorked (length (nodesOf net)) head ≡ true)
+  parts = form-parts (nodesOf net) (lent rows gained lost head) (o .form)
+
+  pub old-fits : Fitting (widths (nodesOf net)) old
+  unfolding rowsIn
+  old-fits = area-fits (widths (nodesOf net)) few narrow (rowCount head) rows (parts .0)
+
+  pub changes-count : length (netChanges old (o .new)) ≡ net .count
+  changes-count = changes-length old (o .new) (old-fits .size ∙ sym (o .fits .size)) ∙ old-fits .size ∙ size
+
+  pub gained-fit : Fitting (widths (nodesOf net)) (gainedOf old (o .new))
+  gained-fit = gained-fits (widths (nodesOf net)) old (o .new) old-fits (o .fits)
+
+  pub lost-fit : Fitting (widths (nodesOf net)) (lostOf old (o .new))
+  lost-fit = lost-fits (widths (nodesOf net)) old (o .new) old-fits (o .fits)
+
+  gained-at : (i : ℕ) → i < net .count → getD (gainedOf old (o .new)) i [] ≡ differenceRows (getD (o .new) i []) (getD old i [])
+  unfolding netChange
+  gained-at i h = map-at (λ c. c .gained) (netChanges old (o .new)) i (rw changes-count h)
+      ∙ ap (λ (c : Change). c .gained) (changes-at old (o .new) i (old-fits .size ∙ sym (o .fits .size)) (rw (old-fits .size ∙ size) h))
+
+  lost-at : (i : ℕ) → i < net .count → getD (lostOf old (o .new)) i [] ≡ differenceRows (getD old i []) (getD (o .new) i [])
+  unfolding netChange
+  lost-at i h = map-at (λ c. c .lost) (netChanges old (o .new)) i (rw changes-count h)
+      ∙ ap (λ (c : Change). c .lost) (changes-at old (o .new) i (old-fits .size ∙ sym (o .fits .size)) (rw (old-fits .size ∙ size) h))
+
+  -- ---- one node
+
+  module _ (i : ℕ) (h : i < net .count) where
+    w : ℕ
+    w = getD (net .widths) i 0
+
+    width : getD (widths (nodesOf net)) i 0 ≡ getD (net .widths) i 0
+    width = width-is net b i h
+
+    ready : Worked head (working (net .widths) rows work counts changed) (getD (o .new) i []) i
+    ready = o .worked .worked i h
+
+    rows-place : Place (getD (widths (nodesOf net)) i 0) (placeAt rows i) (rowCount head i)
+        × (relationIn (getD (widths (nodesOf net)) i 0) (placeAt rows i) (rowCount head i) ≡ getD old i [])
+    unfolding rowsIn
+    rows-place = area-place (widths (nodesOf net)) few narrow (rowCount head) rows (parts .0) (longs .0) i (inside i h)
+
+    gained-place : Place (getD (widths (nodesOf net)) i 0) (placeAt gained i) (gainedCount head i)
+    gained-place = area-place (widths (nodesOf net)) few narrow (gainedCount head) gained (parts .1) (longs .1) i (inside i h) .0
+
+    lost-place : Place (getD (widths (nodesOf net)) i 0) (placeAt lost i) (lostCount head i)
+    lost-place = area-place (widths (nodesOf net)) few narrow (lostCount head) lost (parts .2) (longs .2) i (inside i h) .0
+
+    new-place : Place (getD (widths (nodesOf net)) i 0) (placeAt (cond (getD changed i false) work rows) i) (getD counts i 0)
+        × (relationIn (getD (widths (nodesOf net)) i 0) (placeAt (cond (getD changed i false) work rows) i) (getD counts i 0) ≡ getD (o .new) i [])
+    new-place =
+        fills-place (getD (widths (nodesOf net)) i 0) (getD (o .new) i []) (placeAt (cond (getD changed i false) work rows) i) (getD counts i 0) (narrow i) (o .fits .wide i (inside i h))
+        (ascending-holds (getD (o .new) i []) (o .fits .asc i (inside i h)))
+        (record { count = ready .count; few = rw (ready .count) (ready .few); is = ready .place })
+
+    old-same : oldRows head (working (net .widths) rows work counts changed) i ≡ getD old i []
+    unfolding rowsIn
+    old-same = ap (λ (x : ℕ). heldIn layout x (rowCount head i) rows i) (sym width) ∙ sym (relation-at (widths (nodesOf net)) (rowCount head) rows i (inside i h))
+
+    -- a node is marked as changed exactly if its change is nonempty
+    pub flag-is : getD changed i false ≡ isChanged (changeAt (netChanges old (o .new)) i)
+    flag-is =
+        ready .changed
+        ∙ ap (λ (r : Relation). not (sameRows (getD (o .new) i []) r)) old-same
+        ∙ sym (changed-is (getD old i []) (getD (o .new) i []) (ascending-holds (getD old i []) (old-fits .asc i (inside i h)))
+        (ascending-holds (getD (o .new) i []) (o .fits .asc i (inside i h))))
+        ∙ ap isChanged (sym (changes-at old (o .new) i (old-fits .size ∙ sym (o .fits .size)) (rw (old-fits .size ∙ size) h)))
+
+    kept-count : getD changed i false ≡ false → getD counts i 0 ≡ rowCount head i
+    kept-count e =
+        let same : getD (o .new) i [] ≡ getD old i [] = same-flag (getD (o .new) i []) (getD old i [])
+        (ap (λ (r : Relation). not (sameRows (getD (o .new) i []) r)) (sym old-same) ∙ sym (ready .changed) ∙ e) in
+        ready .count ∙ ap length same ∙ ap length (sym (rows-place .1)) ∙ place-count (getD (widths (nodesOf net)) i 0) (placeAt rows i) (rowCount head i) (rows-place .0)
+
+    -- ---- while the places before it are written
+
+    module _ (rows′ gained′ lost′ gains losses : List ℕ) (k : WritesNodes (nodesOf net) (o .new) rows gained lost head rows′ gained′ lost′ gains losses i) where
+      before : (rels : List Relation) → Fitting (widths (nodesOf net)) rels → i ≤ length rels
+      before rels f = omega (arith, f .size, size, h)
+
+      later : (rels : List Relation) (area area′ : List ℕ) → Fitting (widths (nodesOf net)) rels → area′ ≡ filled rels i area → placeAt area′ i ≡ placeAt area i
+      later rels area area′ f e = ap (λ (l : List ℕ). placeAt l i) e ∙ filled-later rels area (sized (widths (nodesOf net)) rels f) i (before rels f) i (le-refl i)
+
+      long-still : (rels : List Relation) (area area′ : List ℕ) → Fitting (widths (nodesOf net)) rels → 8192 ≤ length area → area′ ≡ filled rels i area → 8192 ≤ length area′
+      long-still rels area area′ f l e = rw (ap length e ∙ filled-length rels area (sized (widths (nodesOf net)) rels f) i (before rels f) (omega (arith, h, few-nodes, l))) l
+
+      rows-still : placeAt rows′ i ≡ placeAt rows i
+      rows-still = later (o .new) rows rows′ (o .fits) (k .rows-are)
+
+      gained-still : placeAt gained′ i ≡ placeAt gained i
+      gained-still = later (gainedOf old (o .new)) gained gained′ gained-fit (k .gained-are)
+
+      lost-still : placeAt lost′ i ≡ placeAt lost i
+      lost-still = later (lostOf old (o .new)) lost lost′ lost-fit (k .lost-are)
+
+      present-still : placeAt (cond (getD changed i false) work rows′) i ≡ placeAt (cond (getD changed i false) work rows) i
+      present-still = go (getD changed i false)
+        where
+          go : (t : Bool) → placeAt (cond t work rows′) i ≡ placeAt (cond t work rows) i
+          go true = refl
+          go false = rows-still
+
+      -- what writing the node asks
+      pub record Asks : Type 0 where
+        pub rows-long : 8192 ≤ length rows′
+        pub gained-long : 8192 ≤ length gained′
+        pub lost-long : 8192 ≤ length lost′
+        pub work-long : 8192 ≤ length work
+        pub new-at : Place (getD (widths (nodesOf net)) i 0) (placeAt (cond (getD changed i false) work rows′) i) (getD counts i 0)
+        pub old-at : Place (getD (widths (nodesOf net)) i 0) (placeAt rows′ i) (rowCount head i)
+        pub gained-at′ : Place (getD (widths (nodesOf net)) i 0) (placeAt gained′ i) (gainedCount head i)
+        pub lost-at′ : Place (getD (widths (nodesOf net)) i 0) (placeAt lost′ i) (lostCount head i)
+        pub kept : getD changed i false ≡ false → getD counts i 0 ≡ rowCount head i
+
+      pub asks : Asks
+      asks =
+          record {
+            rows-long = long-still (o .new) rows rows′ (o .fits) (longs .0) (k .rows-are);
+            gained-long = long-still (gainedOf old (o .new)) gained gained′ gained-fit (longs .1) (k .gained-are);
+            lost-long = long-still (lostOf old (o .new)) lost lost′ lost-fit (longs .2) (k .lost-are);
+            work-long = omega (arith, o .worked .sized .work);
+            new-at = rw present-still (new-place .0);
+            old-at = rw rows-still (rows-place .0);
+            gained-at′ = rw gained-still gained-place;
+            lost-at′ = rw lost-still lost-place;
+            kept = kept-count;
+          }
+
+      was : relationIn (getD (widths (nodesOf net)) i 0) (placeAt rows′ i) (rowCount head i) ≡ getD old i []
+      was = ap (λ (s : List ℕ). relationIn (getD (widths (nodesOf net)) i 0) s (rowCount head i)) rows-still ∙ rows-place .1
+
+      is : relationIn (getD (widths (nodesOf net)) i 0) (placeAt (cond (getD changed i false) work rows′) i) (getD counts i 0) ≡ getD (o .new) i []
+      is = ap (λ (s : List ℕ). relationIn (getD (widths (nodesOf net)) i 0) s (getD counts i 0)) present-still ∙ new-place .1
+
+      gained-is : differenceRows (relationIn (getD (widths (nodesOf net)) i 0) (placeAt (cond (getD changed i false) work rows′) i) (getD counts i 0))
+          (relationIn (getD (widths (nodesOf net)) i 0) (placeAt rows′ i) (rowCount head i)) ≡ getD (gainedOf old (o .new)) i []
+      gained-is = ap₂ {A = Relation} {B = Relation} {C = Relation} (λ x y. differenceRows x y) is was ∙ sym (gained-at i h)
+
+      lost-is : differenceRows (relationIn (getD (widths (nodesOf net)) i 0) (placeAt rows′ i) (rowCount head i))
+          (relationIn (getD (widths (nodesOf net)) i 0) (placeAt (cond (getD changed i false) work rows′) i) (getD counts i 0)) ≡ getD (lostOf old (o .new)) i []
+      lost-is = ap₂ {A = Relation} {B = Relation} {C = Relation} (λ x y. differenceRows x y) was is ∙ sym (lost-at i h)
+
+      -- the sizes of a change are those of places
+      pub sizes-small : (rows″ gained″ lost″ : List ℕ) (sizes : Sizes) → WritesNode (relationIn (getD (widths (nodesOf net)) i 0) (placeAt rows′ i) (rowCount head i))
+          (relationIn (getD (widths (nodesOf net)) i 0) (placeAt (cond (getD changed i false) work rows′) i) (getD counts i 0)) rows′ gained′ lost′ rows″ gained″ lost″ i sizes →
+          (sizes .gained ≤ 64) × (sizes .lost ≤ 64)
+      sizes-small rows″ gained″ lost″ sizes n =
+          let g : sizes .gained ≡ length (getD (gainedOf old (o .new)) i []) = ap (λ (x : Sizes). x .gained) (n .sizes-are) ∙ ap length gained-is in
+          let l : sizes .lost ≡ length (getD (lostOf old (o .new)) i []) = ap (λ (x : Sizes). x .lost) (n .sizes-are) ∙ ap length lost-is in
+          (omega (arith, g, gained-fit .small i (inside i h)), omega (arith, l, lost-fit .small i (inside i h)))
+
+      -- one node more
+      pub writes-more : (rows″ gained″ lost″ : List ℕ) (sizes : Sizes) →
+          WritesNode (relationIn (getD (widths (nodesOf net)) i 0) (placeAt rows′ i) (rowCount head i))
+          (relationIn (getD (widths (nodesOf net)) i 0) (placeAt (cond (getD changed i false) work rows′) i) (getD counts i 0)) rows′ gained′ lost′ rows″ gained″ lost″ i sizes →
+          WritesNodes (nodesOf net) (o .new) rows gained lost head rows″ gained″ lost″ (set gains i (sizes .gained)) (set losses i (sizes .lost)) (i + 1)
+      writes-more rows″ gained″ lost″ sizes n =
+          record {
+            rows-are = n .rows-are ∙ ap₂ {A = List ℕ} {B = Relation} {C = List ℕ} (λ s r. placed s i r) (k .rows-are) is
+                ∙ filled-more (o .new) rows (sized (widths (nodesOf net)) (o .new) (o .fits)) i (below (o .new) (o .fits));
+            gained-are = n .gained-are ∙ ap₂ {A = List ℕ} {B = Relation} {C = List ℕ} (λ s r. placed s i r) (k .gained-are) gained-is
+                ∙ filled-more (gainedOf old (o .new)) gained (sized (widths (nodesOf net)) (gainedOf old (o .new)) gained-fit) i (below (gainedOf old (o .new)) gained-fit);
+            lost-are = n .lost-are ∙ ap₂ {A = List ℕ} {B = Relation} {C = List ℕ} (λ s r. placed s i r) (k .lost-are) lost-is
+                ∙ filled-more (lostOf old (o .new)) lost (sized (widths (nodesOf net)) (lostOf old (o .new)) lost-fit) i (below (lostOf old (o .new)) lost-fit);
+            gains-are = sizes-more (gainedOf old (o .new)) i gains (sizes .gained) (below (gainedOf old (o .new)) gained-fit) (short (gainedOf old (o .new)) gained-fit) (k .gains-are)
+                (ap (λ (x : Sizes). x .gained) (n .sizes-are) ∙ ap length gained-is);
+            losses-are = sizes-more (lostOf old (o .new)) i losses (sizes .lost) (below (lostOf old (o .new)) lost-fit) (short (lostOf old (o .new)) lost-fit) (k .losses-are)
+                (ap (λ (x : Sizes). x .lost) (n .sizes-are) ∙ ap length lost-is);
+          }
+        where
+          below : (rels : List Relation) → Fitting (widths (nodesOf net)) rels → i < length rels
+          below rels f = omega (arith, f .size, size, h)
+
+          short : (rels : List Relation) → Fitting (widths (nodesOf net)) rels → length rels ≤ 32
+          short rels f = omega (arith, f .size, f .few)
+
+  -- nothing written yet
+  pub writes-none : WritesNodes (nodesOf net) (o .new) rows gained lost head rows gained lost (replicate 32 0) (replicate 32 0) 0
+  writes-none =
+      record {
+        rows-are = filled-none (o .new) rows (sized (widths (nodesOf net)) (o .new) (o .fits));
+        gained-are = filled-none (gainedOf old (o .new)) gained (sized (widths (nodesOf net)) (gainedOf old (o .new)) gained-fit);
+        lost-are = filled-none (lostOf old (o .new)) lost (sized (widths (nodesOf net)) (lostOf old (o .new)) lost-fit);
+        gains-are = refl;
+        losses-are = refl;
+      }
+
+  -- the lengths stay
+  pub writes-lengths : (rows′ gained′ lost′ gains losses : List ℕ) (i : ℕ) → i ≤ net .count → WritesNodes (nodesOf net) (o .new) rows gained lost head rows′ gained′ lost′ gains losses i →
+      (length rows′ ≡ length rows) × (length gained′ ≡ length gained) × (length lost′ ≡ length lost) × (length gains ≡ 32) × (length losses ≡ 32)
+  writes-lengths rows′ gained′ lost′ gains losses i h k = (
+    area (o .new) rows rows′ (o .fits) (longs .0) (k .rows-are),
+    area (gainedOf old (o .new)) gained gained′ gained-fit (longs .1) (k .gained-are),
+    area (lostOf old (o .new)) lost lost′ lost-fit (longs .2) (k .lost-are),
+    array (gainedOf old (o .new)) gains gained-fit (k .gains-are),
+    array (lostOf old (o .new)) losses lost-fit
+        (k .losses-are),
+  )
+    where
+      area : (rels : List Relation) (x y : List ℕ) → Fitting (widths (nodesOf net)) rels → 8192 ≤ length x → y ≡ filled rels i x → length y ≡ length x
+      area rels x y f l e = ap length e ∙ filled-length rels x (sized (widths (nodesOf net)) rels f) i (omega (arith, f .size, size, h)) (omega (arith, h, few-nodes, l))
+
+      array : (rels : List Relation) (x : List ℕ) → Fitting (widths (nodesOf net)) rels → x ≡ padded 32 (map length (take i rels)) → length x ≡ 32
+      array rels x f e = ap length e
+          ∙ padded-length 32 (map length (take i rels)) (rw (length-map (take i rels) length, length-take-le i rels (omega (arith, f .size, size, h))) (omega (arith, h, few-nodes)))

@@ -1,0 +1,76 @@
+-- The head's words, stamp by stamp and list by list. Assumes nothing.
+use Prim.Native.Nat.{ℕ, suc, _+_, _≤_, _<_}
+use mathlib.Core.Path.{_≡_, ap, sym, _∙_, refl, ap₂}
+use mathlib.Core.List.{_++_, _∷_, List, map, []}
+use native.Mathlib.Omega.{arith}
+use mathlib.Core.Bool.{Bool, false, cond}
+use lib.ListN.{length, length-append, getD, set, drop, take}
+use lib.Seq.{paste, drop-append-add, drop-drop, take-at, take-all, drop-cons, set-at, append-snoc}
+use Rattle.model.specs.Row.{numbersBelow}
+use Rattle.model.specs.Areas.{padded, stampAt, over}
+use Rattle.model.proofs.Parts.{length-counted}
+use Rattle.rows.proofs.Padding.{padded-more}
+use Rattle.worklist.proofs.Listing.{numbers-more}
+use Rattle.transition.specs.Head.{stampsFrom, headFrom}
+
+-- ---- stamps
+
+-- one stamp more
+pub stamps-more : (head : List ℕ) (changed : List Bool) (number i : ℕ) (stamps : List ℕ) (x : ℕ) → i < 32 → stamps ≡ padded 32 (stampsFrom head changed number i) →
+    x ≡ cond (getD changed i false) number (stampAt head i) → set stamps i x ≡ padded 32 (stampsFrom head changed number (i + 1))
+stamps-more head changed number i stamps x h e f =
+    ap₂ {A = List ℕ} {B = ℕ} {C = List ℕ} (λ s y. set s i y) e f
+    ∙ padded-more 32 (stampsFrom head changed number i) (cond (getD changed i false) number (stampAt head i)) i
+    (length-counted (λ j. cond (getD changed j false) number (stampAt head j)) 0 i) h
+    ∙ ap (padded 32) (sym
+    (ap (map (λ j. cond (getD changed j false) number (stampAt head j))) (numbers-more i) ∙ map-snoc (λ j. cond (getD changed j false) number (stampAt head j)) (numbersBelow i) i))
+  where
+    map-snoc : (f : ℕ → ℕ) (l : List ℕ) (y : ℕ) → map f (l ++ (y ∷ [])) ≡ map f l ++ (f y ∷ [])
+    map-snoc f [] y = refl
+    map-snoc f (z ∷ l) y = ap (λ (m : List ℕ). f z ∷ m) (map-snoc f l y)
+
+-- ---- words written one after the other
+
+-- a run of words put where the words before it end
+pub over-more : (done xs h : List ℕ) (at n : ℕ) → length done ≡ at → length xs ≡ n → at + n ≤ length h → paste (over done h) at (drop 0 xs) n ≡ over (done ++ xs) h
+over-more done xs h at n d x fits =
+    let past : drop (at + n) (done ++ drop (length done) h) ≡ drop (length (done ++ xs)) h =
+    ap (λ (k : ℕ). drop (k + n) (done ++ drop (length done) h)) (sym d) ∙ drop-append-add done (drop (length done) h) n ∙ drop-drop n (length done) h
+    ∙ ap (λ (k : ℕ). drop k h) (ap (λ (k : ℕ). length done + k) (sym x) ∙ sym (length-append done xs)) in
+    ap₂ {A = List ℕ} {B = List ℕ} {C = List ℕ} (λ a b. a ++ take n xs ++ b) (take-at done (drop (length done) h) at d) past
+    ∙ ap (λ (l : List ℕ). done ++ l ++ drop (length (done ++ xs)) h) (take-all n xs (omega (arith, x)))
+
+-- one word put there
+pub over-one : (done h : List ℕ) (at x : ℕ) → length done ≡ at → at < length h → set (over done h) at x ≡ over (done ++ (x ∷ [])) h
+over-one done h at x d fits =
+    let cons : drop (length done) h ≡ getD h (length done) 0 ∷ drop (suc (length done)) h = drop-cons h (length done) 0 (rw d fits) in
+    ap (λ (l : List ℕ). set (done ++ l) at x) cons
+    ∙ set-at done (getD h (length done) 0) (drop (suc (length done)) h) x at d
+    ∙ sym (append-snoc done x (drop (suc (length done)) h))
+    ∙ ap (λ (k : ℕ). done ++ (x ∷ []) ++ drop k h) (let e : suc (length done) ≡ length (done ++ (x ∷ [])) = omega (arith, length-append done (x ∷ [])) in e)
+
+-- all of the head's words
+pub head-written : (h counts stamps gains losses entries h1 h2 h3 h4 h5 : List ℕ) (number k : ℕ) → 162 ≤ length h → length counts ≡ 32 → length stamps ≡ 32 → length gains ≡ 32 →
+    length losses ≡ 32 → length entries ≡ 32 →
+    h1 ≡ paste (set h 0 number) 1 (drop 0 counts) 32 → h2 ≡ paste h1 33 (drop 0 stamps) 32 → h3 ≡ paste h2 65 (drop 0 gains) 32 → h4 ≡ paste h3 97 (drop 0 losses) 32 →
+    h5 ≡ paste (set h4 129 k) 130 (drop 0 entries) 32 →
+    h5 ≡ over (headFrom number counts stamps gains losses k entries) h
+head-written h counts stamps gains losses entries h1 h2 h3 h4 h5 number k long lc ls lg ll le e1 e2 e3 e4 e5 =
+    let d1 : List ℕ = (number ∷ []) ++ counts in
+    let n1 : length ((number ∷ []) ++ counts) ≡ 33 = omega (arith, length-append (number ∷ []) counts, lc) in
+    let n2 : length ((number ∷ []) ++ counts ++ stamps) ≡ 65 = omega (arith, length-append ((number ∷ []) ++ counts) stamps, n1, ls) in
+    let n3 : length ((number ∷ []) ++ counts ++ stamps ++ gains) ≡ 97 = omega (arith, length-append ((number ∷ []) ++ counts ++ stamps) gains, n2, lg) in
+    let n4 : length ((number ∷ []) ++ counts ++ stamps ++ gains ++ losses) ≡ 129 = omega (arith, length-append ((number ∷ []) ++ counts ++ stamps ++ gains) losses, n3, ll) in
+    let n5 : length ((number ∷ []) ++ counts ++ stamps ++ gains ++ losses ++ (k ∷ []))
+    ≡ 130 = omega (arith, length-append ((number ∷ []) ++ counts ++ stamps ++ gains ++ losses) (k ∷ []), n4) in
+    let s0 : set h 0 number ≡ over (number ∷ []) h = over-one [] h 0 number refl (omega arith) in
+    let s1 : h1 ≡ over ((number ∷ []) ++ counts) h = e1 ∙ ap (λ (l : List ℕ). paste l 1 (drop 0 counts) 32) s0 ∙ over-more (number ∷ []) counts h 1 32 refl lc (omega arith) in
+    let s2 : h2 ≡ over ((number ∷ []) ++ counts ++ stamps) h = e2 ∙ ap (λ (l : List ℕ). paste l 33 (drop 0 stamps) 32) s1
+    ∙ over-more ((number ∷ []) ++ counts) stamps h 33 32 n1 ls (omega arith) in
+    let s3 : h3 ≡ over ((number ∷ []) ++ counts ++ stamps ++ gains) h = e3 ∙ ap (λ (l : List ℕ). paste l 65 (drop 0 gains) 32) s2
+    ∙ over-more ((number ∷ []) ++ counts ++ stamps) gains h 65 32 n2 lg (omega arith) in
+    let s4 : h4 ≡ over ((number ∷ []) ++ counts ++ stamps ++ gains ++ losses) h = e4 ∙ ap (λ (l : List ℕ). paste l 97 (drop 0 losses) 32) s3
+    ∙ over-more ((number ∷ []) ++ counts ++ stamps ++ gains) losses h 97 32 n3 ll (omega arith) in
+    let s5 : set h4 129 k ≡ over ((number ∷ []) ++ counts ++ stamps ++ gains ++ losses ++ (k ∷ [])) h = ap (λ (l : List ℕ). set l 129 k) s4
+    ∙ over-one ((number ∷ []) ++ counts ++ stamps ++ gains ++ losses) h 129 k n4 (omega arith) in
+    e5 ∙ ap (λ (l : List ℕ). paste l 130 (drop 0 entries) 32) s5 ∙ over-more ((number ∷ []) ++ counts ++ stamps ++ gains ++ losses ++ (k ∷ [])) entries h 130 32 n5 le (omega arith)

@@ -1,0 +1,4 @@
+pub mod Folding
+pub mod Inputs
+pub mod Differ
+pub mod Nodes

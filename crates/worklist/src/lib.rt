@@ -1,0 +1,120 @@
+// The derived nodes with an input that changed, and their list by level, then number.
+ghost use mathlib.Core.Path.{_≡_};
+ghost use mathlib.Core.Bool.{false, cond};
+ghost use mathlib.Core.List.{[]};
+ghost use Prim.Native.Nat.{_+_, _≤_, _<_};
+ghost use lib.Dec.{eqb};
+ghost use lib.ListN.{length, replicate};
+ghost use lib.Seq.{sets};
+ghost use Rattle.model.specs.Row.{keepIf};
+ghost use Rattle.model.specs.Network.{AllFit};
+ghost use Rattle.model.specs.Areas.{padded};
+ghost use Rattle.network.specs.Reading.{nodesOf, Built, slotNode};
+ghost use Rattle.evaluation.specs.Derived.{leftOf, rightOf};
+ghost use Rattle.worklist.specs.Listed.{inputChanged, listedMarks, isOfLevel, levelList, listTo};
+use areas::NODES;
+use network::Network;
+use network::Slot;
+
+// Whether a derived node has an input that changed.
+pub fn input_changed(slot: Slot, changed: &[bool]) -> bool
+    requires { ⌜ (leftOf (slotNode slot) < length (now changed)) × (rightOf (slotNode slot) < length (now changed)) ⌝ }
+    ensures { λ r. ⌜ r ≡ inputChanged slot (now (changed .entry)) ⌝ }
+{
+    let l = evaluation::left_of(slot);
+    if changed[l] {
+        return true;
+    }
+    let r = evaluation::right_of(slot);
+    changed[r]
+}
+
+// Whether node i is derived and has an input that changed.
+fn is_listed(slot: Slot, level: usize, changed: &[bool]) -> bool
+    requires { ⌜ ((level ≡ 0 → ⊥) → (leftOf (slotNode slot) < length (now changed)) × (rightOf (slotNode slot) < length (now changed))) ⌝ }
+    ensures { λ r. ⌜ r ≡ cond (eqb level 0) false (inputChanged slot (now (changed .entry))) ⌝ }
+{
+    if level == 0 {
+        return false;
+    }
+    input_changed(slot, changed)
+}
+
+// For each node whether it is derived and has an input that changed; past the last node none is.
+pub fn listed_nodes(net: Network, changed: &[bool]) -> [bool; NODES]
+    requires { ⌜ Built net × AllFit (nodesOf net) × (length (now changed) ≡ 32) ⌝ }
+    ensures { λ r. ⌜ r ≡ listedMarks net (now (changed .entry)) ⌝ }
+{
+    let mut listed = [false; NODES];
+    let mut i = 0;
+    while i < net.count {
+        let slot = net.slots[i];
+        let level = net.levels[i];
+        listed[i] = is_listed(slot, level, changed);
+        i += 1;
+    }
+    listed
+}
+
+// Node i put behind k entries, if it is listed and of a level: how many entries there are then.
+fn list_node(
+    levels: &[usize],
+    listed: &[bool],
+    i: usize,
+    level: usize,
+    entries: &mut [u32],
+    k: usize,
+) -> usize
+    requires { ⌜ (i < length (now levels)) × (i < length (now listed)) × (i < 32) × (length (now entries) ≡ 32)
+        × (k + length (keepIf (isOfLevel (now levels) (now listed) level i) i []) ≤ 32) ⌝ }
+    ensures { λ r. ⌜ (now (entries .exit)
+        ≡ sets (now (entries .entry)) k (keepIf (isOfLevel (now (levels .entry)) (now (listed .entry)) level i) i []))
+        × (r ≡ k + length (keepIf (isOfLevel (now (levels .entry)) (now (listed .entry)) level i) i [])) ⌝ }
+{
+    if levels[i] != level {
+        return k;
+    }
+    if !listed[i] {
+        return k;
+    }
+    entries[k] = i as u32;
+    k + 1
+}
+
+// The listed nodes of a level, of the first n, put behind k entries: how many entries there are then.
+fn list_level(
+    levels: &[usize],
+    listed: &[bool],
+    n: usize,
+    level: usize,
+    entries: &mut [u32],
+    k: usize,
+) -> usize
+    requires { ⌜ (n ≤ length (now levels)) × (n ≤ length (now listed)) × (n ≤ 32) × (length (now entries) ≡ 32)
+        × (k + length (levelList (now levels) (now listed) n level) ≤ 32) ⌝ }
+    ensures { λ r. ⌜ (now (entries .exit) ≡ sets (now (entries .entry)) k (levelList (now (levels .entry)) (now (listed .entry)) n level))
+        × (r ≡ k + length (levelList (now (levels .entry)) (now (listed .entry)) n level)) ⌝ }
+{
+    let mut end = k;
+    let mut i = 0;
+    while i < n {
+        end = list_node(levels, listed, i, level, entries, end);
+        i += 1;
+    }
+    end
+}
+
+// The listed nodes by level, then number, put in an array of zeros: how many.
+pub fn list_worked(levels: &[usize], listed: &[bool], n: usize, entries: &mut [u32]) -> usize
+    requires { ⌜ (n ≤ length (now levels)) × (n ≤ length (now listed)) × (n ≤ 32) × (now entries ≡ replicate 32 0) ⌝ }
+    ensures { λ r. ⌜ (now (entries .exit) ≡ padded 32 (listTo (now (levels .entry)) (now (listed .entry)) n n))
+        × (r ≡ length (listTo (now (levels .entry)) (now (listed .entry)) n n)) × (r ≤ 32) ⌝ }
+{
+    let mut k = 0;
+    let mut level = 0;
+    while level < n {
+        k = list_level(levels, listed, n, level, entries, k);
+        level += 1;
+    }
+    k
+}
