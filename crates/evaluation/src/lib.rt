@@ -5,7 +5,7 @@ ghost use Rattle.model.specs.Evaluation.{evaluateSet};
 ghost use Rattle.nodes.specs.Nodes.{operationOf};
 ghost use Rattle.network.specs.Reading.{slotNode, Shaped};
 ghost use Rattle.algebra.specs.Places.{Place, Blank, relationIn, Makes};
-ghost use Rattle.evaluation.specs.Derived.{leftOf, rightOf, evaluateOn, fitsOn};
+ghost use Rattle.model.specs.Network.{leftOf, rightOf, evaluateOn, fitsOn};
 use algebra::Joining;
 use algebra::Made;
 use network::Slot;

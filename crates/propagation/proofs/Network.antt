@@ -36,7 +36,7 @@ use Rattle.model.proofs.Sets.{Ascending, ascending-true}
 use Rattle.propagation.proofs.Differ.{fills-place}
 use Rattle.network.specs.declared.Slot.{Slot}
 use Rattle.tables.proofs.Acts.{accepted-folds, acts-fold}
-use Rattle.evaluation.specs.Derived.{leftOf, rightOf, evaluateOn}
+use Rattle.model.specs.Network.{leftOf, rightOf, evaluateOn}
 use Rattle.tables.specs.Fold.{foldRows}
 use Rattle.evaluation.proofs.Fresh.{tables-at}
 

@@ -13,10 +13,11 @@ use Rattle.model.specs.Network.{Node, AllFit, nodeAt, isTable, widths}
 use Rattle.propagation.specs.Propagated.{propagated, nextOf, changedIn}
 use Rattle.model.proofs.Build.{length-build, build-at, length-evaluate}
 use Rattle.model.specs.Evaluation.{rowsAt, evaluate}
-use Rattle.evaluation.specs.Derived.{leftOf, rightOf, evaluateOn}
+use Rattle.model.specs.Network.{leftOf, rightOf, evaluateOn}
 use Rattle.evaluation.proofs.Fresh.{givenBy, inputs-before, width-at, columns-fit, fresh-derived, fresh-table}
 use Rattle.states.proofs.Written.{Fitting}
-use Rattle.states.proofs.Tables.{Tables, on-asc}
+use Rattle.states.proofs.Tables.{Tables}
+use Rattle.model.proofs.ByKind.{on-asc}
 use Rattle.rows.proofs.Words.{Wide}
 use Rattle.model.proofs.Fits.{length-widths}
 use Rattle.evaluation.proofs.Inside.{on-wide}

@@ -17,7 +17,7 @@ use Rattle.network.specs.declared.Slot.{Slot}
 use Rattle.network.specs.Reading.{slotNode, nodesOf}
 use Rattle.areas.specs.Lent.{placeAt}
 use Rattle.algebra.specs.Places.{Place, relationIn}
-use Rattle.evaluation.specs.Derived.{leftOf, rightOf, evaluateOn}
+use Rattle.model.specs.Network.{leftOf, rightOf, evaluateOn}
 use Rattle.coherence.specs.Held.{heldAt, Derived, Checkable, rowsHeld}
 use Rattle.tables.specs.Fold.{Foldable, foldRows}
 use Rattle.propagation.specs.declared.Propagated.{Propagated}

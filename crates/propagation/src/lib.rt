@@ -9,7 +9,7 @@ ghost use Rattle.model.specs.Record.{offsets};
 ghost use Rattle.algebra.specs.Places.{Place, Blank, relationIn, Makes};
 ghost use Rattle.network.specs.Reading.{slotNode, Shaped, verdictOf};
 ghost use Rattle.areas.specs.Lent.{placeAt};
-ghost use Rattle.evaluation.specs.Derived.{leftOf, rightOf, evaluateOn, fitsOn};
+ghost use Rattle.model.specs.Network.{leftOf, rightOf, evaluateOn, fitsOn};
 ghost use Rattle.tables.specs.Fold.{Foldable, foldRows};
 ghost use Rattle.propagation.specs.Propagated.{newRows, Ready, working, Sized, Present, presentRows, inputChanged, mustWork, workedRows};
 ghost use Rattle.propagation.specs.Propagated.{nextRows, Workable, WorksNode, Puts, verdictBy, Propagates};

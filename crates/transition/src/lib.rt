@@ -14,7 +14,7 @@ ghost use Rattle.rows.specs.Rows.{firstRows};
 ghost use Rattle.network.specs.Reading.{nodesOf, Built, slotNode};
 ghost use Rattle.areas.specs.Lent.{lent, placeAt};
 ghost use Rattle.algebra.specs.Places.{Place, relationIn};
-ghost use Rattle.evaluation.specs.Derived.{leftOf, rightOf};
+ghost use Rattle.model.specs.Network.{leftOf, rightOf};
 ghost use Rattle.propagation.specs.Propagated.{inputChanged};
 ghost use Rattle.transition.specs.Written.{isOfLevel, placed, WritesNode, WritesNodes, stampsFrom, listedMarks, levelList, listTo, headFrom};
 ghost use Rattle.transition.specs.Written.{nextState, holdingRows, WorkedOut};

@@ -3,7 +3,7 @@ use lib.ListN.{take}
 use borrow.Author.Needs.{needs}
 use Rattle.evaluation.proofs.evaluate.Statement.{statement}
 use Rattle.algebra.proofs.Puts.{columns-more}
-use Rattle.evaluation.specs.Derived.{evaluateOn}
+use Rattle.model.specs.Network.{evaluateOn}
 use Rattle.model.specs.Evaluation.{evaluateSet}
 use Rattle.evaluation.proofs.Inside.{fills-none, join-fits, join-inside, operand-narrow, project-inside, select-inside, set-inside}
 use Rattle.model.specs.Algebra.{joinRows, projectRows}
