@@ -11,14 +11,13 @@ use Rattle.coherence.specs.Held.{Derived, Places, givenAt, heldAt}
 use Rattle.places.specs.Places.{Fills}
 use Rattle.model.specs.Row.{Relation, sameRow, sameRows}
 use Rattle.network.specs.declared.Slot.{Slot}
-use Rattle.rows.proofs.Words.{Wide}
+use Rattle.rows.specs.Rows.{Wide, firstRows}
 use Rattle.rows.proofs.Checked.{bool-same, placed-rows, place-length}
-use Rattle.rows.specs.Rows.{firstRows}
 use Rattle.words.specs.Runs.{sameFirst}
 use Rattle.rows.proofs.Place.{held-wide, length-held}
 use Rattle.model.specs.Areas.{layout, placeOf, rowCount}
-use Rattle.evaluation.specs.Derived.{leftOf, rightOf}
-use Rattle.evaluation.proofs.Inside.{on-wide, width-on}
+use Rattle.model.specs.Network.{leftOf, rightOf}
+use Rattle.evaluation.proofs.Inside.{on-wide}
 use Rattle.coherence.proofs.Placed.{rows-few, words-at}
 use Rattle.areas.specs.Lent.{placeAt}
 use Rattle.model.proofs.Order.{sameRow-eq, sameRow-refl}
@@ -81,7 +80,7 @@ module _ (slot : Slot) (ws rows head : List ℕ) (i : ℕ) (p : Places ws (i + 1
 
   wide-given : Wide (getD ws i 0) (givenAt slot ws head rows)
   wide-given =
-      rw (d .width ∙ width-on (slotNode slot) ws (d .derived))
+      rw (d .width)
       (on-wide (getD ws (leftOf (slotNode slot)) 0) (getD ws (rightOf (slotNode slot)) 0) (slotNode slot) (heldAt ws head rows (leftOf (slotNode slot)))
       (heldAt ws head rows (rightOf (slotNode slot))) (d .derived) (d .fits)
       (held-wide layout (getD ws (leftOf (slotNode slot)) 0) (rowCount head (leftOf (slotNode slot))) rows (leftOf (slotNode slot)))

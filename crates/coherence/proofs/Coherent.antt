@@ -20,11 +20,10 @@ use Rattle.network.specs.declared.Slot.{Slot}
 use Rattle.evaluation.proofs.Fresh.{agreesAt, columns-fit, fresh-checked, inputs-before, width-at}
 use Rattle.rows.proofs.Checked.{bool-same}
 use Rattle.model.proofs.Build.{build-at}
-use Rattle.evaluation.specs.Derived.{fitsOn, leftOf, rightOf}
+use Rattle.model.specs.Network.{fitsOn, leftOf, rightOf, widthOn}
 use Rattle.model.specs.Areas.{heldIn, layout, relationsIn, rowCount}
 use Rattle.model.proofs.Fits.{length-widths}
 use Rattle.model.specs.Evaluation.{rowsAt}
-use Rattle.evaluation.proofs.Inside.{width-on, widthOn}
 use Rattle.model.proofs.Parts.{length-counted, counted-at}
 
 all-same : (p q : ℕ → Bool) (n : ℕ) → ((j : ℕ) → j < n → p j ≡ q j) → allOf p (numbersBelow n) ≡ allOf q (numbersBelow n)
@@ -104,8 +103,7 @@ module _ (net : Network) (b : Built net) (fit : AllFit (nodesOf net)) where
         width =
             sym (width-is net b i h)
             ∙ width
-            ∙ ap (λ (x : ℕ). widthOn x (slotNode (getD (net .slots) i noSlot))) (width-is net b (leftOf (slotNode (getD (net .slots) i noSlot))) (omega arith))
-            ∙ sym (width-on (slotNode (getD (net .slots) i noSlot)) (net .widths) e);
+            ∙ ap (λ (x : ℕ). widthOn x (slotNode (getD (net .slots) i noSlot))) (width-is net b (leftOf (slotNode (getD (net .slots) i noSlot))) (omega arith));
       }
 
   pub level-table : (i : ℕ) → i < net .count → getD (net .levels) i 0 ≡ 0 → isTable (slotNode (getD (net .slots) i noSlot)) ≡ true

@@ -10,7 +10,7 @@ use Rattle.nodes.specs.Nodes.{Narrow}
 use Rattle.network.specs.Reading.{slotNode, Shaped, nodesOf, Built}
 use Rattle.network.specs.declared.Slot.{Slot}
 use Rattle.network.specs.declared.Network.{Network}
-use Rattle.evaluation.specs.Derived.{leftOf, rightOf, evaluateOn, fitsOn}
+use Rattle.model.specs.Network.{leftOf, rightOf, evaluateOn, fitsOn}
 use Rattle.model.specs.Evaluation.{evaluate}
 use Rattle.model.specs.Network as model
 

@@ -9,11 +9,11 @@ use lib.Dec.{ltb}
 use lib.ListN.{getD, length, take, List·getD-eq-default}
 use lib.Seq.{getD-take, length-take-le}
 use borrow.Author.Tests.{ltb-true, ltb-false}
-use Rattle.model.specs.Network.{Node, AllFit, nodeAt, isTable, inputsOf, build, join, project, select, setOperation, table, highest, levelOf, levels}
+use Rattle.model.specs.Network.{Node, AllFit, nodeAt, isTable, inputsOf, build, table, levelOf, levels}
 use Rattle.model.specs.Areas.{Areas, batchNumber, changesIn, holding, layout, rowsIn, stampAt, stateIn, tablesOf}
 use Rattle.model.specs.Batch.{Event, actAll, foldChanges}
 use Rattle.model.specs.Delta.{Change, changeAt, isChanged, netChange, netChanges, noChange}
-use Rattle.model.specs.Row.{Relation, allOf, sameRows}
+use Rattle.model.specs.Row.{Relation, allOf, sameRows, isEmpty}
 use Rattle.model.specs.Station.{State, advance, stampOf, hasChangedInput, workedList}
 use Rattle.model.specs.Evaluation.{builtOn, evaluate, rowsAt}
 use Rattle.model.proofs.Build.{build-at, length-build, length-evaluate}
@@ -21,7 +21,8 @@ use Rattle.model.proofs.Delta.{change-disjoint}
 use Rattle.model.proofs.Folded.{folds}
 use Rattle.model.proofs.Fits.{length-widths}
 use Rattle.model.proofs.Sets.{Ascending, and-first, and-second, ascending-holds, sameRows-eq}
-use Rattle.evaluation.specs.Derived.{evaluateOn, leftOf, rightOf}
+use Rattle.model.specs.Network.{Inputs, evaluateOn, firstOf, lastOf, leftOf, listed, noInput, oneInput, rightOf, twoInputs, usesOf}
+use Rattle.model.proofs.Inputs.{inputs-high}
 use Rattle.evaluation.proofs.Fresh.{fresh-derived, fresh-table, inputs-before}
 use Rattle.states.proofs.Changes.{changed-is, changes-at, changes-length, no-change, stamps-at}
 use Rattle.states.proofs.Worked.{isOn, worked-is}
@@ -55,14 +56,15 @@ module _ (nodes : List Node) (fit : AllFit nodes) (old new : List Relation) wher
       (length-take-le i (build (λ n done. cond (isTable n) (length done ∷ []) (flatMap (λ j. getD done j []) (inputsOf n))) nodes)
       (rw (length-build (λ n done. cond (isTable n) (length done ∷ []) (flatMap (λ j. getD done j []) (inputsOf n))) nodes) (omega arith)))
 
+  listed-each : (u : Inputs) (p : ℕ → Type 0) (f : ℕ → List ℕ) → isEmpty (listed u) ≡ false → Each p (flatMap f (listed u)) → Each p (f (firstOf u)) × Each p (f (lastOf u))
+  unfolding flatMap
+  listed-each noInput p f e h = absurd (true≢false e)
+  listed-each (oneInput i) p f e h = (each-append p (f i) [] h .0, each-append p (f i) [] h .0)
+  listed-each (twoInputs l r) p f e h = (each-append p (f l) (f r ++ []) h .0, each-append p (f r) [] (each-append p (f l) (f r ++ []) h .1) .0)
+
   -- both inputs of a derived node are among its inputs
   inputs-each : (n : Node) (p : ℕ → Type 0) (f : ℕ → List ℕ) → isTable n ≡ false → Each p (flatMap f (inputsOf n)) → Each p (f (leftOf n)) × Each p (f (rightOf n))
-  unfolding flatMap
-  inputs-each (table w) p f e h = absurd (true≢false e)
-  inputs-each (select i c k o) p f e h = (each-append p (f i) [] h .0, each-append p (f i) [] h .0)
-  inputs-each (project i columns) p f e h = (each-append p (f i) [] h .0, each-append p (f i) [] h .0)
-  inputs-each (join l r pairs columns) p f e h = (each-append p (f l) (f r ++ []) h .0, each-append p (f r) [] (each-append p (f l) (f r ++ []) h .1) .0)
-  inputs-each (setOperation o l r) p f e h = (each-append p (f l) (f r ++ []) h .0, each-append p (f r) [] (each-append p (f l) (f r ++ []) h .1) .0)
+  inputs-each n p f e h = listed-each (usesOf n) p f e h
 
   same-to : (k : ℕ) → k ≤ length nodes → (i : ℕ) → i < k → Each Same (getD (builtOn nodes) i []) → rowsAt (evaluate nodes old) i ≡ rowsAt (evaluate nodes new) i
   same-to zero g i h e = absurd (not-suc-le-zero h)
@@ -96,13 +98,6 @@ module _ (nodes : List Node) (fit : AllFit nodes) (old new : List Relation) wher
 
 -- ---- the worked list
 
-two-high : (levels : List ℕ) (n : Node) (i : ℕ) → isTable n ≡ false → getD levels (leftOf n) 0 < i → getD levels (rightOf n) 0 < i → highest levels (inputsOf n) < i
-two-high levels (table w) i e l r = absurd (true≢false e)
-two-high levels (select j c k o) i e l r = omega arith
-two-high levels (project j columns) i e l r = omega arith
-two-high levels (join x y pairs columns) i e l r = omega arith
-two-high levels (setOperation o x y) i e l r = omega arith
-
 module _ (nodes : List Node) (fit : AllFit nodes) where
   low-to : (k : ℕ) → k ≤ length nodes → (i : ℕ) → i < k → getD (levels nodes) i 0 ≤ i
   unfolding levels
@@ -120,7 +115,7 @@ module _ (nodes : List Node) (fit : AllFit nodes) where
           (omega (arith, b .0, ih (leftOf (nodeAt nodes i)) (omega (arith, b .0)))) in
           let r : getD (take i (build levelOf nodes)) (rightOf (nodeAt nodes i)) 0 < i = rw (getD-take i (build levelOf nodes) (rightOf (nodeAt nodes i)) 0 (b .1))
           (omega (arith, b .1, ih (rightOf (nodeAt nodes i)) (omega (arith, b .1)))) in
-          rw (build-at levelOf i nodes 0 inside, e) (two-high (take i (build levelOf nodes)) (nodeAt nodes i) i e l r)
+          rw (build-at levelOf i nodes 0 inside, e) (inputs-high (take i (build levelOf nodes)) (nodeAt nodes i) i l r)
 
   -- the worked list is just the derived nodes with a changed input: a table has no input
   worked-on : (changes : List Change) (i : ℕ) → i < length nodes → isOn i (workedList nodes changes) ≡ hasChangedInput nodes changes i

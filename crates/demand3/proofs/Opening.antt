@@ -1,5 +1,5 @@
 -- Opening: the areas hold the opened plain station's state. Assumes nothing.
-use mathlib.Core.List.{_++_, List, [], flatMap, map, zipWith, _∷_}
+use mathlib.Core.List.{_++_, List, [], map, zipWith, _∷_}
 use mathlib.Core.Bool.{Bool, cond, false, true}
 use mathlib.Core.Path.{ap, ap₂, refl, sym, _∙_, _≡_}
 use Prim.Native.Nat.{_*_, _+_, _-_, _<_, suc, zero, zero-le, ℕ, _≤_}
@@ -7,8 +7,7 @@ use native.Mathlib.Omega.{arith}
 use native.Mathlib.Nat.{le-refl, not-suc-le-zero}
 use lib.Seq.{ext-getD}
 use lib.ListN.{getD, length, length-replicate, replicate, replicate-append-replicate}
-use Rattle.model.specs.Network.{Node, AllFit, widths, nodeAt, isTable, Operand, SetOperation, column, constant, difference, intersection, join, project, select, setOperation}
-use Rattle.model.specs.Network.{table, union}
+use Rattle.model.specs.Network.{Node, AllFit, widths, nodeAt, isTable}
 use Rattle.model.specs.Areas.{Areas, areaOf, cleared, headOf, holding, layout, over, padded, tablesOf}
 use Rattle.model.specs.Delta.{Change, noChange}
 use Rattle.states.specs.Fitting.{Fitting}
@@ -16,11 +15,11 @@ use Rattle.states.proofs.Written.{flat-none}
 use Rattle.demand3.proofs.Holds.{Proper}
 use Rattle.model.specs.Row.{Relation}
 use Rattle.model.proofs.Fits.{Small, length-widths}
-use Rattle.model.specs.Algebra.{differenceRows, intersectRows, joinRows, projectRows, selectColumns, selectConstant, unionRows}
-use Rattle.model.specs.Evaluation.{evaluate, evaluateSelect, evaluateSet, rowsAt}
-use Rattle.evaluation.specs.Derived.{evaluateOn, leftOf, rightOf}
+use Rattle.model.specs.Evaluation.{evaluate, rowsAt}
+use Rattle.model.specs.Network.{evaluateOn, leftOf, rightOf}
 use Rattle.evaluation.proofs.Fresh.{fresh-derived, fresh-table, inputs-before}
 use Rattle.model.proofs.Build.{length-evaluate}
+use Rattle.model.proofs.ByKind.{on-none}
 use Rattle.model.specs.Station.{opened}
 use Rattle.states.proofs.Worked.{worked-few, worked-low}
 
@@ -30,25 +29,6 @@ none-at (suc n) zero = refl
 none-at (suc n) (suc i) = none-at n i
 
 -- ---- an evaluation of empty tables is empty
-
-select-none : (c k : ℕ) (o : Operand) → evaluateSelect c k o [] ≡ []
-unfolding evaluateSelect selectConstant selectColumns
-select-none c k (constant v) = refl
-select-none c k (column x) = refl
-
-set-none : (o : SetOperation) → evaluateSet o [] [] ≡ []
-unfolding evaluateSet unionRows differenceRows intersectRows
-set-none union = refl
-set-none difference = refl
-set-none intersection = refl
-
-on-none : (n : Node) → evaluateOn n [] [] ≡ []
-unfolding evaluateOn projectRows joinRows flatMap
-on-none (table w) = refl
-on-none (select i c k o) = select-none c k o
-on-none (project i columns) = refl
-on-none (join l r pairs columns) = refl
-on-none (setOperation o l r) = set-none o
 
 module _ (nodes : List Node) (fit : AllFit nodes) where
   none-to : (k : ℕ) → k ≤ length nodes → (i : ℕ) → i < k → rowsAt (evaluate nodes (replicate (length nodes) [])) i ≡ []

@@ -15,7 +15,7 @@ use Rattle.demand3.proofs.Holds.{Proper}
 use Rattle.model.specs.Row.{Relation}
 use Rattle.model.specs.Station.{State, Step, advance, applyEvents, lastNumber, limit, refusedStep, step}
 use Rattle.states.proofs.Tables.{Tables, actAll-tables, fresh-asc, fresh-wide, none-over}
-use Rattle.rows.proofs.Words.{Wide}
+use Rattle.rows.specs.Rows.{Wide}
 use Rattle.model.specs.Batch.{actAll, readBatch}
 use Rattle.states.proofs.Batches.{batch-good, batch-high}
 use Rattle.model.specs.Evaluation.{evaluate, overfull, rowsAt}

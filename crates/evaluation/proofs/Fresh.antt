@@ -9,14 +9,14 @@ use native.Mathlib.Nat.{le-of-suc-le-suc, le-refl, not-suc-le-zero, zero-add}
 use lib.Seq.{ext-getD, getD-take, length-take-le}
 use lib.ListN.{getD, length, take}
 use Rattle.rows.proofs.Place.{all-below, below-all}
-use Rattle.model.specs.Network.{Node, nodeAt, isTable, AllFit, join, project, select, setOperation, table, widths, build, widthOf}
+use Rattle.model.specs.Network.{Node, nodeAt, isTable, AllFit, widths, build, widthOf, widthOn}
 use Rattle.model.specs.Row.{Relation, allOf, numbersBelow, sameRows}
 use Rattle.model.proofs.Sets.{and-both, and-first, and-second, sameRows-eq, sameRows-refl}
 use Rattle.rows.proofs.Checked.{bool-same}
-use Rattle.model.specs.Evaluation.{evaluate, evaluateNode, rowsAt}
+use Rattle.model.specs.Evaluation.{evaluate, rowsAt}
 use Rattle.model.proofs.Build.{evaluate-at, length-evaluate, build-at}
-use Rattle.evaluation.specs.Derived.{evaluateOn, fitsOn, leftOf, rightOf}
-use Rattle.evaluation.proofs.Inside.{inputs-fit, on-inputs, width-on, widthOn}
+use Rattle.model.specs.Network.{evaluateOn, fitsOn, leftOf, rightOf}
+use Rattle.model.proofs.Inputs.{inputs-fit, on-inputs, table-own}
 use Rattle.model.proofs.Fits.{length-widths}
 use Rattle.model.specs.Areas.{sameRelations, tablesOf}
 
@@ -42,14 +42,6 @@ tables-at (n ∷ nodes) (r ∷ rels) zero e h = refl
 tables-at (n ∷ nodes) (r ∷ rels) (suc j) e h = tables-at nodes rels j (omega arith) (le-of-suc-le-suc h)
 
 -- ---- one node
-
-table-own : (n : Node) (own : Relation) (rels : List Relation) → isTable n ≡ true → evaluateNode n own rels ≡ own
-unfolding evaluateNode
-table-own (table w) own rels e = refl
-table-own (select i c k o) own rels e = absurd (true≢false (sym e))
-table-own (project i columns) own rels e = absurd (true≢false (sym e))
-table-own (join l r pairs columns) own rels e = absurd (true≢false (sym e))
-table-own (setOperation o l r) own rels e = absurd (true≢false (sym e))
 
 -- what node j's kind gives from its inputs' rows
 abbrev pub givenBy : List Node → List Relation → ℕ → Relation
@@ -77,7 +69,6 @@ module _ (nodes : List Node) (fit : AllFit nodes) where
   unfolding widths
   width-at j h e =
       build-at widthOf j nodes 0 h
-      ∙ width-on (nodeAt nodes j) (take j (build widthOf nodes)) e
       ∙ ap (λ (x : ℕ). widthOn x (nodeAt nodes j)) (getD-take j (build widthOf nodes) (leftOf (nodeAt nodes j)) 0 (inputs-before j h e .0))
 
   module _ (tables : List Relation) where

@@ -5,7 +5,7 @@ use mathlib.Core.Path.{refl, _≡_}
 use Prim.Native.Nat.{_+_, _<_, zero-le, ℕ, _≤_}
 use native.Mathlib.Omega.{arith}
 use lib.ListN.{length, take, getD, length-map}
-use lib.Dec.{ltb, eqb}
+use lib.Dec.{ltb}
 use borrow.Author.Tests.{eqb-true, lt-ltb, ltb-true}
 use Rattle.nodes.specs.declared.Operand.{Operand}
 use Rattle.places.specs.Places.{Blank, Fills}
@@ -13,17 +13,16 @@ use Rattle.joins.specs.Joins.{JoinFits, JoinsIn}
 use Rattle.selections.specs.Selections.{OperandBelow, OperandIn}
 use Rattle.nodes.specs.declared.Operand.the-variants.{Column, Constant}
 use Rattle.joins.specs.declared.Joining.{Joining}
-use Rattle.model.specs.Network.{columnsBelow, operandBelow, pairsBelow, isTable, nodeFits, widthOf}
+use Rattle.model.specs.Network.{columnsBelow, operandBelow, pairsBelow, isTable, fitsOn, evaluateOn, widthOn, evaluateSelect, evaluateSet}
 use Rattle.model.specs.Algebra.{Pair, agree, columnsOf, compareFields, differenceRows, holdsOf, intersectRows, joinOne, joinRows, projectRows, selectColumns, selectConstant, unionRows}
 use Rattle.model.proofs.Sets.{and-both, and-first, and-second}
 use Rattle.joins.proofs.Rows.{columns-more}
 use Rattle.places.proofs.Puts.{wide-each}
-use Rattle.evaluation.specs.Derived.{fitsOn, evaluateOn, leftOf, rightOf}
 use Rattle.nodes.specs.Nodes.{operandOf, pairsOf}
 use Rattle.model.specs.Row.{Relation, Row, keep, member}
-use Rattle.model.specs.Evaluation.{evaluateNode, rowsAt, evaluateSelect, evaluateSet}
 use Rattle.model.specs.Areas.{placeOf}
-use Rattle.rows.proofs.Words.{Wide, wide-keep}
+use Rattle.rows.specs.Rows.{Wide}
+use Rattle.rows.proofs.Words.{wide-keep}
 use Rattle.rows.proofs.Place.{wide-append}
 use Rattle.rows.proofs.Padding.{wide-setOf}
 use Rattle.model.specs.Network as model
@@ -87,69 +86,7 @@ pub fills-none : (out : List ℕ) → Blank out → Fills [] out 0
 unfolding placeOf flatMap
 fills-none out e = record { count = refl; few = zero-le; is = e }
 
--- ---- a node of a network, from the rows and the widths of the nodes before it
-
-pub on-inputs : (n : model.Node) (own : Relation) (rels : List Relation) → isTable n ≡ false → evaluateNode n own rels ≡ evaluateOn n (rowsAt rels (leftOf n)) (rowsAt rels (rightOf n))
-unfolding evaluateNode evaluateOn
-on-inputs (model.table w) own rels e = absurd (true≢false e)
-on-inputs (model.select i c k o) own rels e = refl
-on-inputs (model.project i columns) own rels e = refl
-on-inputs (model.join l r pairs columns) own rels e = refl
-on-inputs (model.setOperation o l r) own rels e = refl
-
--- the inputs come before the node, and it fits their widths
-pub inputs-fit : (ws : List ℕ) (n : model.Node) → isTable n ≡ false → nodeFits ws n ≡ true → (leftOf n < length ws) × (rightOf n < length ws)
-    × (fitsOn (getD ws (leftOf n) 0) (getD ws (rightOf n) 0) n ≡ true)
-unfolding nodeFits fitsOn
-inputs-fit ws (model.table w) e f = absurd (true≢false e)
-inputs-fit ws (model.select i c k o) e f =
-    let v : ℕ = getD ws i 0 in
-    let f2 : (ltb i (length ws) && ltb c v && ltb k 6) ≡ true = and-first (ltb i (length ws) && ltb c v && ltb k 6) (operandBelow v o) f in
-    let f1 : (ltb i (length ws) && ltb c v) ≡ true = and-first (ltb i (length ws) && ltb c v) (ltb k 6) f2 in
-    let h : i < length ws = ltb-true i (length ws) (and-first (ltb i (length ws)) (ltb c v) f1) in (
-      h,
-      h,
-      and-both (ltb c v && ltb k 6) (operandBelow v o)
-          (and-both (ltb c v) (ltb k 6) (and-second (ltb i (length ws)) (ltb c v) f1) (and-second (ltb i (length ws) && ltb c v) (ltb k 6) f2))
-          (and-second (ltb i (length ws) && ltb c v && ltb k 6) (operandBelow v o) f),
-    )
-inputs-fit ws (model.project i columns) e f =
-    let h : i < length ws = ltb-true i (length ws) (and-first (ltb i (length ws)) (columnsBelow (getD ws i 0) columns) f) in
-    (h, h, and-second (ltb i (length ws)) (columnsBelow (getD ws i 0) columns) f)
-inputs-fit ws (model.join l r pairs columns) e f =
-    let v : ℕ = getD ws l 0 in
-    let w : ℕ = getD ws r 0 in
-    let f2 : (ltb l (length ws) && ltb r (length ws) && pairsBelow v w pairs) ≡ true = and-first (ltb l (length ws) && ltb r (length ws) && pairsBelow v w pairs)
-    (columnsBelow (v + w) columns) f in
-    let f1 : (ltb l (length ws) && ltb r (length ws)) ≡ true = and-first (ltb l (length ws) && ltb r (length ws)) (pairsBelow v w pairs) f2 in (
-      ltb-true l (length ws) (and-first (ltb l (length ws)) (ltb r (length ws)) f1),
-      ltb-true r (length ws) (and-second (ltb l (length ws)) (ltb r (length ws)) f1),
-      and-both (pairsBelow v w pairs) (columnsBelow (v + w) columns) (and-second (ltb l (length ws) && ltb r (length ws)) (pairsBelow v w pairs) f2)
-          (and-second (ltb l (length ws) && ltb r (length ws) && pairsBelow v w pairs) (columnsBelow (v + w) columns) f),
-    )
-inputs-fit ws (model.setOperation o l r) e f =
-    let f1 : (ltb l (length ws) && ltb r (length ws)) ≡ true = and-first (ltb l (length ws) && ltb r (length ws)) (eqb (getD ws l 0) (getD ws r 0)) f in (
-      ltb-true l (length ws) (and-first (ltb l (length ws)) (ltb r (length ws)) f1),
-      ltb-true r (length ws) (and-second (ltb l (length ws)) (ltb r (length ws)) f1),
-      and-second (ltb l (length ws) && ltb r (length ws)) (eqb (getD ws l 0) (getD ws r 0)) f,
-    )
-
 -- ---- widths
-
--- the width of a derived node's rows, given that of its first input
-abbrev pub widthOn : ℕ → model.Node → ℕ
-widthOn v (model.table w) = w
-widthOn v (model.select i c k o) = v
-widthOn v (model.project i columns) = length columns
-widthOn v (model.join l r pairs columns) = length columns
-widthOn v (model.setOperation o l r) = v
-
-pub width-on : (n : model.Node) (ws : List ℕ) → isTable n ≡ false → widthOf n ws ≡ widthOn (getD ws (leftOf n) 0) n
-width-on (model.table w) ws e = absurd (true≢false e)
-width-on (model.select i c k o) ws e = refl
-width-on (model.project i columns) ws e = refl
-width-on (model.join l r pairs columns) ws e = refl
-width-on (model.setOperation o l r) ws e = refl
 
 wide-map : (f : Row → Row) (v : ℕ) (l : List Row) → ((r : Row) → length (f r) ≡ v) → Wide v (map f l)
 wide-map f v [] h = tt

@@ -1,12 +1,13 @@
 // A derived node's rows from those of its inputs.
 ghost use mathlib.Core.Path.{_≡_};
 ghost use mathlib.Core.Bool.{true};
-ghost use Rattle.model.specs.Evaluation.{evaluateSet};
+ghost use Rattle.model.specs.Network.{evaluateSet, leftOf, rightOf, evaluateOn, fitsOn};
 ghost use Rattle.nodes.specs.Nodes.{operationOf};
 ghost use Rattle.network.specs.Reading.{slotNode, Shaped};
 ghost use Rattle.places.specs.Places.{Place, Blank, relationIn, Makes};
-ghost use Rattle.evaluation.specs.Derived.{leftOf, rightOf, evaluateOn, fitsOn};
 use joins::Joining;
+use joins::Joining;
+use places::Made;
 use network::Slot;
 use nodes::Node;
 use nodes::SetOperation;

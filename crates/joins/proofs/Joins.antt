@@ -13,8 +13,8 @@ use Rattle.model.specs.Algebra.{columnsOf, Pair, agree, joinOne, joinRows}
 use Rattle.model.specs.Areas.{padded}
 use Rattle.model.proofs.Sets.{and-first, and-second}
 use Rattle.model.specs.Network.{pairsBelow}
-use Rattle.rows.specs.Rows.{rowsFrom, firstRows}
-use Rattle.rows.proofs.Words.{Wide, wide-keep}
+use Rattle.rows.specs.Rows.{rowsFrom, firstRows, Wide}
+use Rattle.rows.proofs.Words.{wide-keep}
 use Rattle.rows.proofs.Padding.{field-padded, keep-padded}
 use Rattle.nodes.specs.Nodes.{pairsOf}
 use Rattle.places.specs.Places.{relationIn, Place, insertAll}

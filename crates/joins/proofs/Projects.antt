@@ -10,7 +10,7 @@ use Rattle.model.specs.Row.{Row, setOf}
 use Rattle.model.specs.Algebra.{columnsOf, projectRows}
 use Rattle.model.specs.Areas.{padded}
 use Rattle.model.specs.Network.{columnsBelow}
-use Rattle.rows.proofs.Words.{Wide}
+use Rattle.rows.specs.Rows.{Wide}
 use Rattle.rows.proofs.Padding.{field-padded}
 use Rattle.places.specs.Places.{relationIn, Place}
 use Rattle.places.proofs.Puts.{putFrom, made-is, made-wide}

@@ -12,9 +12,8 @@ use borrow.Author.Tests.{eq-eqb, eqb-true, leb-false, leb-true, ltb-true, ne-eqb
 use Rattle.model.specs.Row.{Relation, allOf, isEmpty, maxRows}
 use Rattle.model.specs.Record.{Bytes, Rule, SmallVerdict, Verdict, accepted, firstBroken, isAccepted, isBroken, kindAt, lengthAt}
 use Rattle.model.specs.Record.{offsets, offsetsFrom, refused, rule}
-use Rattle.model.specs.Network.{Item, Kind, Network, Node, column, constant, difference, intersection, join, project, select, setOperation}
-use Rattle.model.specs.Network.{table, union, nodeItem, watchItem, kindOf, build, buildOn, highest, levelOf, levels}
-use Rattle.model.specs.Network.{widths, kindNumbered, isUnknown, isWatch, within, hasShape, itemAt, itemFits, watchFits, recordFault}
+use Rattle.model.specs.Network.{Item, Network, Node, nodeItem, watchItem, kindOf, build, buildOn, highest, levelOf, levels, inputsOf, isTable, isNode}
+use Rattle.model.specs.Network.{widths, isUnknown, within, hasShape, itemAt, itemFits, watchFits, recordFault}
 use Rattle.model.specs.Network.{noNetwork, withItem, readNetwork, readRecords, refusedReading}
 use Rattle.model.specs.Batch.{Event, actAll, eventAt, eventFault, eventFits, readBatch, readEvents}
 use Rattle.model.specs.Evaluation.{evaluate, overfull}
@@ -23,6 +22,7 @@ use Rattle.model.specs.Areas.{Areas, coherent, goodForm, layout, longEno
 use Rattle.model.specs.Calls.{Applied, Free, Keeps, Result, applyPromise, formVerdict, free, freelyAccepted, freelyRefused, isWatched}
 use Rattle.model.specs.Calls.{openVerdict, orElse, promiseOf, readCall, reportCall, reportIn, reportOf, resultOf, settled, unless}
 use Rattle.model.proofs.Build.{length-evaluate}
+use Rattle.model.proofs.ByKind.{kind-most}
 use Rattle.model.proofs.Fits.{fault-fits, fault-shape, item-room, length-widths, most-more, read-small}
 use Rattle.model.proofs.Sets.{and-first, and-second}
 
@@ -132,11 +132,11 @@ module _ (bs : Bytes) (b : ByteList bs) where
   fault-below : (ws signs : List ℕ) (at : ℕ) → recordFault ws signs bs at < 27
   unfolding recordFault
   fault-below ws signs at =
-      let kind : Kind = kindNumbered (kindAt bs at) in
+      let kind : ℕ = kindAt bs at in
       first-below
       (rule 3 (isBroken bs at)
       ∷ rule 4 (isUnknown kind)
-      ∷ rule 5 (not (isWatch kind) && leb 32 (length ws))
+      ∷ rule 5 (isNode (itemAt kind bs at) && leb 32 (length ws))
       ∷ rule 6 (not (hasShape kind bs at))
       ∷ rule 7 (not (itemFits ws signs (itemAt kind bs at)))
       ∷ [])
@@ -144,10 +144,10 @@ module _ (bs : Bytes) (b : ByteList bs) where
 
   -- what the record at an offset brings, and the network with it
   abbrev item : ℕ → Item
-  item at = itemAt (kindNumbered (kindAt bs at)) bs at
+  item at = itemAt (kindAt bs at) bs at
 
   abbrev next : Network → ℕ → Network
-  next net at = withItem net (itemAt (kindNumbered (kindAt bs at)) bs at)
+  next net at = withItem net (itemAt (kindAt bs at) bs at)
 
   abbrev fault : Network → ℕ → ℕ
   fault net at = recordFault (widths (net .nodes)) (net .signs) bs at
@@ -161,7 +161,7 @@ module _ (bs : Bytes) (b : ByteList bs) where
       go : (t : Bool) → eqb (fault net at) 0 ≡ t → SmallVerdict (cond t (readRecords bs (next net at) rest) (refusedReading (fault net at) at) .verdict)
       go true e =
           let none : fault net at ≡ 0 = eqb-true (fault net at) 0 e in
-          let space = item-room (kindNumbered (kindAt bs at)) (widths (net .nodes)) bs at (fault-shape (widths (net .nodes)) (net .signs) bs at none .0) in
+          let space = item-room (item at) (widths (net .nodes)) (fault-shape (widths (net .nodes)) (net .signs) bs at none .0) in
           later (passed-more net at (lengthAt bs at) (item at) p (length-most bs b at) (fault-fits (widths (net .nodes)) (net .signs) bs at none) space)
       go false e = small-refused (fault net at) at (fault-below (widths (net .nodes)) (net .signs) at) (passed-small net at p)
 
@@ -352,16 +352,6 @@ most-padded [] m (suc n) h (suc i) = most-padded [] m n (λ j. zero-le) i
 most-padded (x ∷ l) m n h zero = h 0
 most-padded (x ∷ l) m n h (suc i) = most-padded l m n (λ j. h (suc j)) i
 
-kind-most : (n : Node) → kindOf n ≤ 32
-kind-most (table w) = omega arith
-kind-most (select i c k (constant v)) = omega arith
-kind-most (select i c k (column o)) = omega arith
-kind-most (project i columns) = omega arith
-kind-most (join l r pairs columns) = omega arith
-kind-most (setOperation union l r) = omega arith
-kind-most (setOperation difference l r) = omega arith
-kind-most (setOperation intersection l r) = omega arith
-
 kinds-most : (nodes : List Node) (i : ℕ) → getD (map kindOf nodes) i 0 ≤ 32
 kinds-most [] i = zero-le
 kinds-most (n ∷ nodes) zero = kind-most n
@@ -372,11 +362,11 @@ highest-most ls [] m h = zero-le
 highest-most ls (i ∷ inputs) m h = max-le (h i) (highest-most ls inputs m h)
 
 level-most : (n : Node) (ls : List ℕ) (m : ℕ) → ((i : ℕ) → getD ls i 0 ≤ m) → levelOf n ls ≤ suc m
-level-most (table w) ls m h = zero-le
-level-most (select i c k o) ls m h = omega (arith, highest-most ls (i ∷ []) m h)
-level-most (project i columns) ls m h = omega (arith, highest-most ls (i ∷ []) m h)
-level-most (join l r pairs columns) ls m h = omega (arith, highest-most ls (l ∷ r ∷ []) m h)
-level-most (setOperation o l r) ls m h = omega (arith, highest-most ls (l ∷ r ∷ []) m h)
+level-most n ls m h = go (isTable n)
+  where
+    go : (t : Bool) → cond t 0 (suc (highest ls (inputsOf n))) ≤ suc m
+    go true = zero-le
+    go false = omega (arith, highest-most ls (inputsOf n) m h)
 
 -- a level is at most the number of nodes
 levels-on : (nodes : List Node) (ls : List ℕ) (m : ℕ) → ((i : ℕ) → getD ls i 0 ≤ m) → (i : ℕ) → getD (buildOn levelOf ls nodes) i 0 ≤ m + length nodes

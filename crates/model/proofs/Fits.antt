@@ -1,21 +1,20 @@
 -- A network that reading accepts: each node's fields are right, given the nodes before it. Assumes nothing.
-use mathlib.Core.Bool.{_&&_, Bool, cond, false, not, true, true≢false}
+use mathlib.Core.Bool.{_&&_, Bool, cond, false, not, true}
 use mathlib.Core.List.{_++_, List, [], _∷_}
 use mathlib.Core.Path.{ap, refl, sym, _∙_, _≡_}
-use Prim.Native.Nat.{_+_, _<_, suc, zero, ℕ, _≤_, _*_, zero-le}
+use Prim.Native.Nat.{_+_, _<_, suc, zero, ℕ, _≤_, zero-le}
 use native.Mathlib.Omega.{arith}
 use native.Mathlib.Nat.{le-of-suc-le-suc, not-suc-le-zero}
 use lib.ListN.{List·getD-append, length, length-append, take, getD}
 use lib.Dec.{eqb, leb, ltb}
 use lib.Seq.{getD-at, take-at}
-use borrow.Author.Tests.{eqb-true, ltb-false, ltb-true, eqb-false, leb-false, leb-true}
-use Rattle.model.specs.Network.{AllFit, Item, Kind, Network, Node, hasShape, isUnknown, isWatch, itemAt, itemFits, kindNumbered, noNetwork, nodeAt, nodeFits, nodeItem, readNetwork}
-use Rattle.model.specs.Network.{readRecords, recordFault, refusedReading, table, watchItem, widthOf, widths, withItem, build, joinKind, joinShape, projectKind, projectShape}
-use Rattle.model.specs.Network.{selectColumnKind, selectConstantKind, setKind, tableKind, unknownKind, watchKind, within}
-use Rattle.model.specs.Record.{Bytes, firstBroken, isBroken, kindAt, offsets, rule, accepted, fieldAt, fieldsAt, lengthAt}
+use borrow.Author.Tests.{eqb-true, ltb-false, ltb-true, eqb-false, leb-false}
+use Rattle.model.specs.Network.{AllFit, Item, Network, Node, hasShape, isNode, isUnknown, itemAt, itemFits, noNetwork, nodeAt, nodeFits, nodeItem, readNetwork}
+use Rattle.model.specs.Network.{readRecords, recordFault, refusedReading, table, watchItem, widthOf, widths, withItem, build}
+use Rattle.model.specs.Record.{Bytes, firstBroken, isBroken, kindAt, offsets, rule, accepted}
 use Rattle.model.proofs.Build.{build-more, length-build}
-use Rattle.model.specs.Row.{isEmpty, maxNodes, maxWidth}
-use Rattle.model.proofs.Sets.{and-first, and-second}
+use Rattle.model.proofs.ByKind.{item-narrow, widthIs}
+use Rattle.model.specs.Row.{isEmpty, maxNodes}
 
 -- rule 7 of a record that breaks none
 last-holds : (a b c d e : Bool) → firstBroken (rule 3 a ∷ rule 4 b ∷ rule 5 c ∷ rule 6 d ∷ rule 7 (not e) ∷ []) ≡ 0 → e ≡ true
@@ -26,11 +25,11 @@ last-holds false false false true e h = absurd (omega arith)
 last-holds false false false false true h = refl
 last-holds false false false false false h = absurd (omega arith)
 
-pub fault-fits : (ws signs : List ℕ) (bs : Bytes) (at : ℕ) → recordFault ws signs bs at ≡ 0 → itemFits ws signs (itemAt (kindNumbered (kindAt bs at)) bs at) ≡ true
+pub fault-fits : (ws signs : List ℕ) (bs : Bytes) (at : ℕ) → recordFault ws signs bs at ≡ 0 → itemFits ws signs (itemAt (kindAt bs at) bs at) ≡ true
 unfolding recordFault
 fault-fits ws signs bs at e =
-    let kind : Kind = kindNumbered (kindAt bs at) in
-    last-holds (isBroken bs at) (isUnknown kind) (not (isWatch kind) && leb maxNodes (length ws)) (not (hasShape kind bs at)) (itemFits ws signs (itemAt kind bs at)) e
+    let kind : ℕ = kindAt bs at in
+    last-holds (isBroken bs at) (isUnknown kind) (isNode (itemAt kind bs at) && leb maxNodes (length ws)) (not (hasShape kind bs at)) (itemFits ws signs (itemAt kind bs at)) e
 
 pub widths-more : (nodes : List Node) (n : Node) → widths (nodes ++ (n ∷ [])) ≡ widths nodes ++ (widthOf n (widths nodes) ∷ [])
 unfolding widths
@@ -75,16 +74,16 @@ records-fit : (bs : Bytes) (net : Network) (ats : List ℕ) → AllFit (net .nod
 unfolding readRecords
 records-fit bs net [] all = all
 records-fit bs net (at ∷ rest) all =
-    go (eqb (recordFault (widths (net .nodes)) (net .signs) bs at) 0) refl (records-fit bs (withItem net (itemAt (kindNumbered (kindAt bs at)) bs at)) rest)
+    go (eqb (recordFault (widths (net .nodes)) (net .signs) bs at) 0) refl (records-fit bs (withItem net (itemAt (kindAt bs at) bs at)) rest)
   where
     next : Network
-    next = withItem net (itemAt (kindNumbered (kindAt bs at)) bs at)
+    next = withItem net (itemAt (kindAt bs at) bs at)
 
     go : (t : Bool) → eqb (recordFault (widths (net .nodes)) (net .signs) bs at) 0 ≡ t → (AllFit (next .nodes) → AllFit (readRecords bs next rest .network .nodes)) →
         AllFit (cond t (readRecords bs next rest) (refusedReading (recordFault (widths (net .nodes)) (net .signs) bs at) at) .network .nodes)
     go true e ih =
         let none : recordFault (widths (net .nodes)) (net .signs) bs at ≡ 0 = eqb-true (recordFault (widths (net .nodes)) (net .signs) bs at) 0 e in
-        ih (item-more net (itemAt (kindNumbered (kindAt bs at)) bs at) all (fault-fits (widths (net .nodes)) (net .signs) bs at none))
+        ih (item-more net (itemAt (kindAt bs at) bs at) all (fault-fits (widths (net .nodes)) (net .signs) bs at none))
     go false e ih = λ i h. absurd (not-suc-le-zero h)
 
 -- a network that is read fits; beside a refusal it has no node
@@ -102,10 +101,10 @@ records-accepted : (bs : Bytes) (net : Network) (ats : List ℕ) → readRecords
 unfolding readRecords
 records-accepted bs net [] z = refl
 records-accepted bs net (at ∷ rest) z =
-    go (eqb (recordFault (widths (net .nodes)) (net .signs) bs at) 0) refl z (records-accepted bs (withItem net (itemAt (kindNumbered (kindAt bs at)) bs at)) rest)
+    go (eqb (recordFault (widths (net .nodes)) (net .signs) bs at) 0) refl z (records-accepted bs (withItem net (itemAt (kindAt bs at) bs at)) rest)
   where
     next : Network
-    next = withItem net (itemAt (kindNumbered (kindAt bs at)) bs at)
+    next = withItem net (itemAt (kindAt bs at) bs at)
 
     fault : ℕ
     fault = recordFault (widths (net .nodes)) (net .signs) bs at
@@ -141,61 +140,17 @@ rules-hold false false true d e h = absurd (omega arith)
 rules-hold false false false false e h = absurd (omega arith)
 rules-hold false false false true e h = (refl, refl)
 
-pub fault-shape : (ws signs : List ℕ) (bs : Bytes) (at : ℕ) → recordFault ws signs bs at ≡ 0 → ((not (isWatch (kindNumbered (kindAt bs at))) && leb maxNodes (length ws)) ≡ false)
-    × (hasShape (kindNumbered (kindAt bs at)) bs at ≡ true)
+pub fault-shape : (ws signs : List ℕ) (bs : Bytes) (at : ℕ) → recordFault ws signs bs at ≡ 0 → ((isNode (itemAt (kindAt bs at) bs at) && leb maxNodes (length ws)) ≡ false)
+    × (hasShape (kindAt bs at) bs at ≡ true)
 unfolding recordFault
 fault-shape ws signs bs at e =
-    let kind : Kind = kindNumbered (kindAt bs at) in
-    rules-hold (isBroken bs at) (isUnknown kind) (not (isWatch kind) && leb maxNodes (length ws)) (hasShape kind bs at) (not (itemFits ws signs (itemAt kind bs at))) e
-
-length-fields-at : (bs : Bytes) (at k n : ℕ) → length (fieldsAt bs at k n) ≡ n
-length-fields-at bs at k zero = refl
-length-fields-at bs at k (suc n) = ap suc (length-fields-at bs at (suc k) n)
-
-project-four : (bs : Bytes) (at : ℕ) → projectShape bs at ≡ true → fieldAt bs at 1 ≤ 4
-unfolding projectShape
-project-four bs at e =
-    let f : (leb 8 (lengthAt bs at) && within 1 maxWidth (fieldAt bs at 1)) ≡ true = and-first (leb 8 (lengthAt bs at) && within 1 maxWidth (fieldAt bs at 1))
-    (eqb (lengthAt bs at) (8 + 2 * fieldAt bs at 1)) e in
-    leb-true (fieldAt bs at 1) 4 (and-second (leb 1 (fieldAt bs at 1)) (leb (fieldAt bs at 1) maxWidth) (and-second (leb 8 (lengthAt bs at)) (within 1 maxWidth (fieldAt bs at 1)) f))
-
-join-four : (bs : Bytes) (at : ℕ) → joinShape bs at ≡ true → fieldAt bs at (3 + 2 * fieldAt bs at 2) ≤ 4
-unfolding joinShape
-join-four bs at e =
-    let c : ℕ = fieldAt bs at (3 + 2 * fieldAt bs at 2) in
-    let front : Bool = leb 10 (lengthAt bs at) && leb (fieldAt bs at 2) 2 && leb (12 + 4 * fieldAt bs at 2) (lengthAt bs at) in
-    let f : (front && within 1 maxWidth c) ≡ true = and-first (front && within 1 maxWidth c) (eqb (lengthAt bs at) (12 + 4 * fieldAt bs at 2 + 2 * c)) e in
-    leb-true c 4 (and-second (leb 1 c) (leb c maxWidth) (and-second front (within 1 maxWidth c) f))
-
--- the width of the node that an item brings, 0 if it brings a watch
-widthIs : Item → List ℕ → ℕ
-widthIs (nodeItem n) ws = widthOf n ws
-widthIs (watchItem w) ws = 0
-
--- a node that comes next has at most 4 columns
-item-narrow : (kind : Kind) (ws signs : List ℕ) (bs : Bytes) (at : ℕ) → hasShape kind bs at ≡ true → itemFits ws signs (itemAt kind bs at) ≡ true → ((i : ℕ) → getD ws i 0 ≤ 4) →
-    widthIs (itemAt kind bs at) ws ≤ 4
-unfolding hasShape itemFits itemAt nodeFits widthIs
-item-narrow unknownKind ws signs bs at h f narrow = absurd (true≢false (sym h))
-item-narrow tableKind ws signs bs at h f narrow = leb-true (fieldAt bs at 0) 4 (and-second (leb 1 (fieldAt bs at 0)) (leb (fieldAt bs at 0) maxWidth) f)
-item-narrow selectConstantKind ws signs bs at h f narrow = narrow (fieldAt bs at 0)
-item-narrow selectColumnKind ws signs bs at h f narrow = narrow (fieldAt bs at 0)
-item-narrow projectKind ws signs bs at h f narrow = rw (length-fields-at bs at 2 (fieldAt bs at 1)) (project-four bs at h)
-item-narrow joinKind ws signs bs at h f narrow = rw (length-fields-at bs at (4 + 2 * fieldAt bs at 2) (fieldAt bs at (3 + 2 * fieldAt bs at 2))) (join-four bs at h)
-item-narrow (setKind o) ws signs bs at h f narrow = narrow (fieldAt bs at 0)
-item-narrow watchKind ws signs bs at h f narrow = zero-le
+    let kind : ℕ = kindAt bs at in
+    rules-hold (isBroken bs at) (isUnknown kind) (isNode (itemAt kind bs at) && leb maxNodes (length ws)) (hasShape kind bs at) (not (itemFits ws signs (itemAt kind bs at))) e
 
 -- a watch comes at any time, a node after fewer than 32
-pub item-room : (kind : Kind) (ws : List ℕ) (bs : Bytes) (at : ℕ) → (not (isWatch kind) && leb maxNodes (length ws)) ≡ false → (n : Node) → itemAt kind bs at ≡ nodeItem n → length ws < 32
-unfolding itemAt
-item-room unknownKind ws bs at e n f = leb-false 32 (length ws) e
-item-room tableKind ws bs at e n f = leb-false 32 (length ws) e
-item-room selectConstantKind ws bs at e n f = leb-false 32 (length ws) e
-item-room selectColumnKind ws bs at e n f = leb-false 32 (length ws) e
-item-room projectKind ws bs at e n f = leb-false 32 (length ws) e
-item-room joinKind ws bs at e n f = leb-false 32 (length ws) e
-item-room (setKind o) ws bs at e n f = leb-false 32 (length ws) e
-item-room watchKind ws bs at e n f = let z : _≡_ {A = ℕ} 0 1 = cc in absurd (omega arith)
+pub item-room : (item : Item) (ws : List ℕ) → (isNode item && leb maxNodes (length ws)) ≡ false → (n : Node) → item ≡ nodeItem n → length ws < 32
+item-room (nodeItem m) ws e n f = leb-false 32 (length ws) e
+item-room (watchItem w) ws e n f = let z : _≡_ {A = ℕ} 0 1 = cc in absurd (omega arith)
 
 -- one number more that is at most m
 pub most-more : (l : List ℕ) (x m : ℕ) → ((j : ℕ) → getD l j 0 ≤ m) → x ≤ m → (k : ℕ) → getD (l ++ (x ∷ [])) k 0 ≤ m
@@ -209,7 +164,6 @@ widths-narrow nodes n h g i = rw (widths-more nodes n) (most-more (widths nodes)
 
 small-more : (net : Network) (item : Item) → Small (net .nodes) → ((n : Node) → item ≡ nodeItem n → length (widths (net .nodes)) < 32) → widthIs item (widths (net .nodes)) ≤ 4 →
     Small (withItem net item .nodes)
-unfolding widthIs
 small-more net (nodeItem n) s room w =
     record { few = omega (arith, length-append (net .nodes) (n ∷ []), room n refl, length-widths (net .nodes)); narrow = widths-narrow (net .nodes) n (s .narrow) w }
 small-more net (watchItem x) s room w = s
@@ -222,19 +176,19 @@ records-small : (bs : Bytes) (net : Network) (ats : List ℕ) → Small (net .no
 unfolding readRecords
 records-small bs net [] s = s
 records-small bs net (at ∷ rest) s =
-    go (eqb (recordFault (widths (net .nodes)) (net .signs) bs at) 0) refl (records-small bs (withItem net (itemAt (kindNumbered (kindAt bs at)) bs at)) rest)
+    go (eqb (recordFault (widths (net .nodes)) (net .signs) bs at) 0) refl (records-small bs (withItem net (itemAt (kindAt bs at) bs at)) rest)
   where
     next : Network
-    next = withItem net (itemAt (kindNumbered (kindAt bs at)) bs at)
+    next = withItem net (itemAt (kindAt bs at) bs at)
 
     go : (t : Bool) → eqb (recordFault (widths (net .nodes)) (net .signs) bs at) 0 ≡ t → (Small (next .nodes) → Small (readRecords bs next rest .network .nodes)) →
         Small (cond t (readRecords bs next rest) (refusedReading (recordFault (widths (net .nodes)) (net .signs) bs at) at) .network .nodes)
     go true e ih =
         let none : recordFault (widths (net .nodes)) (net .signs) bs at ≡ 0 = eqb-true (recordFault (widths (net .nodes)) (net .signs) bs at) 0 e in
-        let shape : ((not (isWatch (kindNumbered (kindAt bs at))) && leb maxNodes (length (widths (net .nodes)))) ≡ false)
-        × (hasShape (kindNumbered (kindAt bs at)) bs at ≡ true) = fault-shape (widths (net .nodes)) (net .signs) bs at none in
-        ih (small-more net (itemAt (kindNumbered (kindAt bs at)) bs at) s (item-room (kindNumbered (kindAt bs at)) (widths (net .nodes)) bs at (shape .0))
-        (item-narrow (kindNumbered (kindAt bs at)) (widths (net .nodes)) (net .signs) bs at (shape .1) (fault-fits (widths (net .nodes)) (net .signs) bs at none) (s .narrow)))
+        let shape : ((isNode (itemAt (kindAt bs at) bs at) && leb maxNodes (length (widths (net .nodes)))) ≡ false)
+        × (hasShape (kindAt bs at) bs at ≡ true) = fault-shape (widths (net .nodes)) (net .signs) bs at none in
+        ih (small-more net (itemAt (kindAt bs at) bs at) s (item-room (itemAt (kindAt bs at) bs at) (widths (net .nodes)) (shape .0))
+        (item-narrow (kindAt bs at) (widths (net .nodes)) (net .signs) bs at (shape .1) (fault-fits (widths (net .nodes)) (net .signs) bs at none) (s .narrow)))
     go false e ih = no-nodes
 
 -- a network that is read has at most 32 nodes, of at most 4 columns

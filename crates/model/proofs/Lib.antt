@@ -4,6 +4,8 @@ pub mod Algebra
 pub mod Build
 pub mod Delta
 pub mod Folded
+pub mod ByKind
+pub mod Inputs
 pub mod Fits
 pub mod Parts
 pub mod Events

@@ -5,35 +5,17 @@ use Prim.Native.Nat.{ℕ, suc}
 use lib.Dec.{ltb}
 use lib.ListN.{getD, length}
 use Rattle.model.specs.Row.{Relation, maxRows}
-use Rattle.model.specs.Algebra.{selectConstant, selectColumns, projectRows, joinRows, unionRows, differenceRows, intersectRows}
-use Rattle.model.specs.Network.{Node, table, select, project, join, setOperation, Operand, constant, column, SetOperation, union, difference}
-use Rattle.model.specs.Network.{intersection, build, isTable, inputsOf}
+use Rattle.model.specs.Network.{Node, build, isTable, inputsOf, leftOf, rightOf, evaluateOn}
+unfoldable pub use Rattle.model.specs.Network.{evaluateSelect, evaluateSet}
 
 -- the rows of a node's input, given the rows of the nodes before it
 abbrev pub rowsAt : List Relation → ℕ → Relation
 rowsAt rels i = getD rels i []
 
--- kinds 2 and 3
-unfoldable pub evaluateSelect : ℕ → ℕ → Operand → Relation → Relation
-unfolding selectConstant selectColumns
-evaluateSelect c k (constant v) input = selectConstant c k v input
-evaluateSelect c k (column o) input = selectColumns c k o input
-
--- kinds 6, 7, 8
-unfoldable pub evaluateSet : SetOperation → Relation → Relation → Relation
-unfolding unionRows differenceRows intersectRows
-evaluateSet union l r = unionRows l r
-evaluateSet difference l r = differenceRows l r
-evaluateSet intersection l r = intersectRows l r
-
 -- "what its kind gives from the fresh evaluations of its inputs, without a limit"; of a table, its own rows
 unfoldable pub evaluateNode : Node → Relation → List Relation → Relation
-unfolding evaluateSelect projectRows joinRows evaluateSet
-evaluateNode (table w) own rels = own
-evaluateNode (select i c k o) own rels = evaluateSelect c k o (rowsAt rels i)
-evaluateNode (project i columns) own rels = projectRows columns (rowsAt rels i)
-evaluateNode (join l r pairs columns) own rels = joinRows pairs columns (rowsAt rels l) (rowsAt rels r)
-evaluateNode (setOperation o l r) own rels = evaluateSet o (rowsAt rels l) (rowsAt rels r)
+unfolding evaluateOn
+evaluateNode n own rels = cond (isTable n) own (evaluateOn n (rowsAt rels (leftOf n)) (rowsAt rels (rightOf n)))
 
 -- the next node's rows, after those of the nodes before it; the tables' rows stand at their node numbers
 abbrev pub evaluateNext : List Relation → Node → List Relation → Relation

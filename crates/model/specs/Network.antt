@@ -5,8 +5,8 @@ use mathlib.Core.Path.{_≡_}
 use Prim.Native.Nat.{ℕ, zero, suc, _+_, _*_, max, _<_}
 use lib.Dec.{leb, ltb, eqb}
 use lib.ListN.{getD, length, set, take}
-use Rattle.model.specs.Row.{maxWidth, maxNodes, allOf, isEmpty, place}
-use Rattle.model.specs.Algebra.{Pair}
+use Rattle.model.specs.Row.{Relation, maxWidth, maxNodes, allOf, isEmpty, place}
+use Rattle.model.specs.Algebra.{Pair, selectConstant, selectColumns, projectRows, joinRows, unionRows, differenceRows, intersectRows}
 use Rattle.model.specs.Record.{Bytes, u32, lengthAt, kindAt, fieldAt, fieldsAt, isBroken, offsets, Verdict, accepted, refused, rule}
 use Rattle.model.specs.Record.{firstBroken}
 
@@ -58,29 +58,111 @@ kindOf (setOperation union l r) = 6
 kindOf (setOperation difference l r) = 7
 kindOf (setOperation intersection l r) = 8
 
--- the nodes that a node uses
+-- the nodes that a node uses: none, one, or a left and a right one
+pub data Inputs : Type 0 where
+  noInput : Inputs
+  oneInput : ℕ → Inputs
+  twoInputs : ℕ → ℕ → Inputs
+
+abbrev pub usesOf : Node → Inputs
+usesOf (table w) = noInput
+usesOf (select i c k o) = oneInput i
+usesOf (project i columns) = oneInput i
+usesOf (join l r pairs columns) = twoInputs l r
+usesOf (setOperation o l r) = twoInputs l r
+
+-- how many fields a node's rows have, given the width of its first input
+abbrev pub widthOn : ℕ → Node → ℕ
+widthOn v (table w) = w
+widthOn v (select i c k o) = v
+widthOn v (project i columns) = length columns
+widthOn v (join l r pairs columns) = length columns
+widthOn v (setOperation o l r) = v
+
+-- every column is below a width
+abbrev pub columnsBelow : ℕ → List ℕ → Bool
+columnsBelow w columns = allOf (λ c. ltb c w) columns
+
+-- each pair's columns are below the left and the right width
+abbrev pub pairsBelow : ℕ → ℕ → List Pair → Bool
+pairsBelow left right pairs = allOf (λ p. ltb (p .left) left && ltb (p .right) right) pairs
+
+-- an operand that is a column is below a width
+abbrev pub operandBelow : ℕ → Operand → Bool
+operandBelow w (constant v) = true
+operandBelow w (column c) = ltb c w
+
+-- low ≤ x ≤ high
+abbrev pub within : ℕ → ℕ → ℕ → Bool
+within low high x = leb low x && leb x high
+
+-- a node's numbers are right, given the widths of its first and its last input
+unfoldable pub fitsOn : ℕ → ℕ → Node → Bool
+fitsOn v w (table n) = within 1 maxWidth n
+fitsOn v w (select i c k o) = ltb c v && ltb k 6 && operandBelow v o
+fitsOn v w (project i columns) = columnsBelow v columns
+fitsOn v w (join l r pairs columns) = pairsBelow v w pairs && columnsBelow (v + w) columns
+fitsOn v w (setOperation o l r) = eqb v w
+
+-- kinds 2 and 3
+unfoldable pub evaluateSelect : ℕ → ℕ → Operand → Relation → Relation
+unfolding selectConstant selectColumns
+evaluateSelect c k (constant v) input = selectConstant c k v input
+evaluateSelect c k (column o) input = selectColumns c k o input
+
+-- kinds 6, 7, 8
+unfoldable pub evaluateSet : SetOperation → Relation → Relation → Relation
+unfolding unionRows differenceRows intersectRows
+evaluateSet union l r = unionRows l r
+evaluateSet difference l r = differenceRows l r
+evaluateSet intersection l r = intersectRows l r
+
+-- what a node's kind gives from the rows of its first and its last input; a table's kind gives none
+unfoldable pub evaluateOn : Node → Relation → Relation → Relation
+unfolding evaluateSelect projectRows joinRows evaluateSet
+evaluateOn (table w) l r = []
+evaluateOn (select i c k o) l r = evaluateSelect c k o l
+evaluateOn (project i columns) l r = projectRows columns l
+evaluateOn (join i j pairs columns) l r = joinRows pairs columns l r
+evaluateOn (setOperation o i j) l r = evaluateSet o l r
+
+-- ---- a node's inputs
+
+-- as a list
+abbrev pub listed : Inputs → List ℕ
+listed noInput = []
+listed (oneInput i) = i ∷ []
+listed (twoInputs l r) = l ∷ r ∷ []
+
+-- the first input, 0 if there is none
+abbrev pub firstOf : Inputs → ℕ
+firstOf noInput = 0
+firstOf (oneInput i) = i
+firstOf (twoInputs l r) = l
+
+-- the last input, 0 if there is none
+abbrev pub lastOf : Inputs → ℕ
+lastOf noInput = 0
+lastOf (oneInput i) = i
+lastOf (twoInputs l r) = r
+
 abbrev pub inputsOf : Node → List ℕ
-inputsOf (table w) = []
-inputsOf (select i c k o) = i ∷ []
-inputsOf (project i columns) = i ∷ []
-inputsOf (join l r pairs columns) = l ∷ r ∷ []
-inputsOf (setOperation o l r) = l ∷ r ∷ []
+inputsOf n = listed (usesOf n)
+
+-- of a node with one input left and right are that one
+abbrev pub leftOf : Node → ℕ
+leftOf n = firstOf (usesOf n)
+
+abbrev pub rightOf : Node → ℕ
+rightOf n = lastOf (usesOf n)
+
+-- "A node that is no table is derived": a table is the node without inputs
+abbrev pub isTable : Node → Bool
+isTable n = isEmpty (inputsOf n)
 
 -- how many fields a node's rows have, given the widths of the nodes before it
 abbrev pub widthOf : Node → List ℕ → ℕ
-widthOf (table w) widths = w
-widthOf (select i c k o) widths = getD widths i 0
-widthOf (project i columns) widths = length columns
-widthOf (join l r pairs columns) widths = length columns
-widthOf (setOperation o l r) widths = getD widths l 0
-
--- "A node that is no table is derived"
-abbrev pub isTable : Node → Bool
-isTable (table w) = true
-isTable (select i c k o) = false
-isTable (project i columns) = false
-isTable (join l r pairs columns) = false
-isTable (setOperation o l r) = false
+widthOf n widths = widthOn (getD widths (leftOf n) 0) n
 
 -- ---- one value for each node, made from its node and the values of the nodes before it
 
@@ -125,62 +207,6 @@ signOf net i = getD (net .signs) i 0
 
 -- ---- records of a network
 
--- the kinds that a network record can have
-pub data Kind : Type 0 where
-  unknownKind : Kind
-  tableKind : Kind
-  selectConstantKind : Kind
-  selectColumnKind : Kind
-  projectKind : Kind
-  joinKind : Kind
-  setKind : SetOperation → Kind
-  watchKind : Kind
-
--- the kinds by number, from 0 on
-abbrev pub kinds : List Kind
-kinds =
-    unknownKind
-    ∷ tableKind  -- 1
-    ∷ selectConstantKind  -- 2
-    ∷ selectColumnKind  -- 3
-    ∷ projectKind  -- 4
-    ∷ joinKind  -- 5
-    ∷ setKind union  -- 6
-    ∷ setKind difference  -- 7
-    ∷ setKind intersection  -- 8
-    ∷ watchKind  -- 9
-    ∷ []
-
--- the kind of a number: rule 4 is about numbers outside the list
-unfoldable pub kindNumbered : ℕ → Kind
-kindNumbered k = getD kinds k unknownKind
-
--- rule 4: "a kind outside 1 to 9"
-abbrev pub isUnknown : Kind → Bool
-isUnknown unknownKind = true
-isUnknown tableKind = false
-isUnknown selectConstantKind = false
-isUnknown selectColumnKind = false
-isUnknown projectKind = false
-isUnknown joinKind = false
-isUnknown (setKind o) = false
-isUnknown watchKind = false
-
--- "It takes no node number"
-abbrev pub isWatch : Kind → Bool
-isWatch unknownKind = false
-isWatch tableKind = false
-isWatch selectConstantKind = false
-isWatch selectColumnKind = false
-isWatch projectKind = false
-isWatch joinKind = false
-isWatch (setKind o) = false
-isWatch watchKind = true
-
--- low ≤ x ≤ high
-abbrev pub within : ℕ → ℕ → ℕ → Bool
-within low high x = leb low x && leb x high
-
 -- kind 4: c is inside the record and 1 to 4, and the length is 8 + 2c
 unfoldable pub projectShape : Bytes → ℕ → Bool
 projectShape bs at =
@@ -197,18 +223,6 @@ joinShape bs at =
     && within 1 maxWidth (fieldAt bs at (3 + 2 * fieldAt bs at 2))
     && eqb (lengthAt bs at) (12 + 4 * fieldAt bs at 2 + 2 * fieldAt bs at (3 + 2 * fieldAt bs at 2))
 
--- rule 6: the length is its kind's, and counts p and c are in range and inside the record
-unfoldable pub hasShape : Kind → Bytes → ℕ → Bool
-unfolding projectShape joinShape
-hasShape unknownKind bs at = false
-hasShape tableKind bs at = eqb (lengthAt bs at) 6
-hasShape selectConstantKind bs at = eqb (lengthAt bs at) 14
-hasShape selectColumnKind bs at = eqb (lengthAt bs at) 12
-hasShape projectKind bs at = projectShape bs at
-hasShape joinKind bs at = joinShape bs at
-hasShape (setKind o) bs at = eqb (lengthAt bs at) 8
-hasShape watchKind bs at = eqb (lengthAt bs at) 8
-
 -- n pairs of a join, from field k of the body on
 abbrev pub pairsAt : Bytes → ℕ → ℕ → ℕ → List Pair
 pairsAt bs at k zero = []
@@ -219,45 +233,77 @@ pub data Item : Type 0 where
   nodeItem : Node → Item
   watchItem : Watch → Item
 
--- the column "body" of the table of kinds, and kind 9
-unfoldable pub itemAt : Kind → Bytes → ℕ → Item
-itemAt unknownKind bs at = nodeItem (table 0)
-itemAt tableKind bs at = nodeItem (table (fieldAt bs at 0))
-itemAt selectConstantKind bs at = nodeItem (select (fieldAt bs at 0) (fieldAt bs at 1) (fieldAt bs at 2) (constant (u32 bs (at + 10))))
-itemAt selectColumnKind bs at = nodeItem (select (fieldAt bs at 0) (fieldAt bs at 1) (fieldAt bs at 2) (column (fieldAt bs at 3)))
-itemAt projectKind bs at = nodeItem (project (fieldAt bs at 0) (fieldsAt bs at 2 (fieldAt bs at 1)))
-itemAt joinKind bs at =
+-- the length is a kind's
+abbrev pub hasLength : ℕ → Bytes → ℕ → Bool
+hasLength n bs at = eqb (lengthAt bs at) n
+
+abbrev pub tableAt : Bytes → ℕ → Item
+tableAt bs at = nodeItem (table (fieldAt bs at 0))
+
+abbrev pub selectAt : (Bytes → ℕ → Operand) → Bytes → ℕ → Item
+selectAt operand bs at = nodeItem (select (fieldAt bs at 0) (fieldAt bs at 1) (fieldAt bs at 2) (operand bs at))
+
+abbrev pub projectAt : Bytes → ℕ → Item
+projectAt bs at = nodeItem (project (fieldAt bs at 0) (fieldsAt bs at 2 (fieldAt bs at 1)))
+
+abbrev pub joinAt : Bytes → ℕ → Item
+joinAt bs at =
     nodeItem (join (fieldAt bs at 0) (fieldAt bs at 1) (pairsAt bs at 3 (fieldAt bs at 2))
     (fieldsAt bs at (4 + 2 * fieldAt bs at 2) (fieldAt bs at (3 + 2 * fieldAt bs at 2))))
-itemAt (setKind o) bs at = nodeItem (setOperation o (fieldAt bs at 0) (fieldAt bs at 1))
-itemAt watchKind bs at = watchItem (record { node = fieldAt bs at 0; sign = fieldAt bs at 1 })
+
+abbrev pub setAt : SetOperation → Bytes → ℕ → Item
+setAt o bs at = nodeItem (setOperation o (fieldAt bs at 0) (fieldAt bs at 1))
+
+abbrev pub watchAt : Bytes → ℕ → Item
+watchAt bs at = watchItem (record { node = fieldAt bs at 0; sign = fieldAt bs at 1 })
+
+-- a kind: rule 6, and the column "body" of the table of kinds
+pub record Kind : Type 0 where
+  pub shape : Bytes → ℕ → Bool
+  pub item : Bytes → ℕ → Item
+
+-- the table of kinds, from 1 on
+abbrev pub kinds : List Kind
+kinds =
+    record { shape = hasLength 6; item = tableAt }  -- 1
+    ∷ record { shape = hasLength 14; item = selectAt (λ bs at. constant (u32 bs (at + 10))) }  -- 2
+    ∷ record { shape = hasLength 12; item = selectAt (λ bs at. column (fieldAt bs at 3)) }  -- 3
+    ∷ record { shape = projectShape; item = projectAt }  -- 4
+    ∷ record { shape = joinShape; item = joinAt }  -- 5
+    ∷ record { shape = hasLength 8; item = setAt union }  -- 6
+    ∷ record { shape = hasLength 8; item = setAt difference }  -- 7
+    ∷ record { shape = hasLength 8; item = setAt intersection }  -- 8
+    ∷ record { shape = hasLength 8; item = watchAt }  -- 9
+    ∷ []
+
+-- what stands for a number outside the table
+abbrev pub noKind : Kind
+noKind = record { shape = λ bs at. false; item = λ bs at. nodeItem (table 0) }
+
+-- rule 4: "a kind outside 1 to 9"
+unfoldable pub isUnknown : ℕ → Bool
+isUnknown number = not (within 1 (length kinds) number)
+
+-- rule 6: the length is its kind's, and counts p and c are in range and inside the record
+unfoldable pub hasShape : ℕ → Bytes → ℕ → Bool
+unfolding projectShape joinShape
+hasShape number bs at = getD (noKind ∷ kinds) number noKind .shape bs at
+
+-- what the record at an offset brings, as a record of a kind
+unfoldable pub itemAt : ℕ → Bytes → ℕ → Item
+itemAt number bs at = getD (noKind ∷ kinds) number noKind .item bs at
+
+-- a watch "takes no node number"
+abbrev pub isNode : Item → Bool
+isNode (nodeItem n) = true
+isNode (watchItem w) = false
 
 -- ---- rule 7: "One of its other fields breaks a rule above"
 
--- every column is below a width
-abbrev pub columnsBelow : ℕ → List ℕ → Bool
-columnsBelow w columns = allOf (λ c. ltb c w) columns
-
--- each pair's columns are below the left and the right width
-abbrev pub pairsBelow : ℕ → ℕ → List Pair → Bool
-pairsBelow left right pairs = allOf (λ p. ltb (p .left) left && ltb (p .right) right) pairs
-
--- an operand that is a column is below a width
-abbrev pub operandBelow : ℕ → Operand → Bool
-operandBelow w (constant v) = true
-operandBelow w (column c) = ltb c w
-
--- a node's fields are right, given the widths of the nodes before it
+-- "A node uses earlier nodes only", and its numbers are right, given the widths of the nodes before it
 unfoldable pub nodeFits : List ℕ → Node → Bool
-nodeFits ws (table w) = within 1 maxWidth w
-nodeFits ws (select i c k o) = ltb i (length ws) && ltb c (getD ws i 0) && ltb k 6 && operandBelow (getD ws i 0) o
-nodeFits ws (project i columns) = ltb i (length ws) && columnsBelow (getD ws i 0) columns
-nodeFits ws (join l r pairs columns) =
-    ltb l (length ws)
-    && ltb r (length ws)
-    && pairsBelow (getD ws l 0) (getD ws r 0) pairs
-    && columnsBelow (getD ws l 0 + getD ws r 0) columns
-nodeFits ws (setOperation o l r) = ltb l (length ws) && ltb r (length ws) && eqb (getD ws l 0) (getD ws r 0)
+unfolding fitsOn
+nodeFits ws n = allOf (λ i. ltb i (length ws)) (inputsOf n) && fitsOn (getD ws (leftOf n) 0) (getD ws (rightOf n) 0) n
 
 -- in a network that reading accepts each node's fields are right, given the widths of the nodes before it
 abbrev pub AllFit : List Node → Type 0
@@ -282,13 +328,13 @@ withItem net (watchItem w) = record { nodes = net .nodes; signs = set (net .sign
 
 -- the lowest number that the record at an offset breaks, 0 if none, given the widths and the signs of the nodes before it
 unfoldable pub recordFault : List ℕ → List ℕ → Bytes → ℕ → ℕ
-unfolding isBroken kindNumbered hasShape itemAt itemFits
+unfolding isBroken isUnknown hasShape itemAt itemFits
 recordFault ws signs bs at =
-    let kind : Kind = kindNumbered (kindAt bs at) in
+    let kind : ℕ = kindAt bs at in
     firstBroken (
     rule 3 (isBroken bs at)
     ∷ rule 4 (isUnknown kind)
-    ∷ rule 5 (not (isWatch kind) && leb maxNodes (length ws))
+    ∷ rule 5 (isNode (itemAt kind bs at) && leb maxNodes (length ws))
     ∷ rule 6 (not (hasShape kind bs at))
     ∷ rule 7 (not (itemFits ws signs (itemAt kind bs at)))
     ∷ [])
@@ -304,10 +350,10 @@ refusedReading number place = record { verdict = refused number place; network =
 
 -- the records at some offsets, after those that the network holds: "the first record that fails decides"
 unfoldable pub readRecords : Bytes → Network → List ℕ → Reading
-unfolding recordFault itemAt kindNumbered widths
+unfolding recordFault itemAt widths
 readRecords bs net [] = record { verdict = accepted; network = net }
 readRecords bs net (at ∷ rest) =
-    let later : Reading = readRecords bs (withItem net (itemAt (kindNumbered (kindAt bs at)) bs at)) rest in
+    let later : Reading = readRecords bs (withItem net (itemAt (kindAt bs at) bs at)) rest in
     let fault : ℕ = recordFault (widths (net .nodes)) (net .signs) bs at in
     cond (eqb fault 0) later (refusedReading fault at)
 

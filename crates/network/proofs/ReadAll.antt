@@ -8,7 +8,7 @@ use lib.ListN.{length, take}
 use borrow.Author.Tests.{ne-eqb}
 use Rattle.model.specs.Record.{Bytes, kindAt, lengthAt, isBroken, accepted}
 use Rattle.model.specs.Network as model
-use Rattle.model.specs.Network.{Item, kindNumbered, itemAt, recordFault, withItem, noNetwork, refusedReading, readRecords, readNetwork}
+use Rattle.model.specs.Network.{Item, itemAt, recordFault, withItem, noNetwork, refusedReading, readRecords, readNetwork}
 use Rattle.records.proofs.Header.{Whole, whole}
 use Rattle.records.proofs.Offsets.{remaining, remaining-all, remaining-none, remaining-broken, remaining-whole}
 use Rattle.nodes.specs.Nodes.{numberOf, itemOf, Fits, Room, ReadsRecord}
@@ -45,7 +45,7 @@ refuse bs net at rest k h e = rw (← e, ne-eqb k 0 (λ z. omega arith))
 
 -- a record without one is added
 advance : (bs : Bytes) (net : model.Network) (at : ℕ) (rest : List ℕ) → 0 ≡ recordFault (model.widths (net .nodes)) (net .signs) bs at →
-    readRecords bs net (at ∷ rest) ≡ readRecords bs (withItem net (itemAt (kindNumbered (kindAt bs at)) bs at)) rest
+    readRecords bs net (at ∷ rest) ≡ readRecords bs (withItem net (itemAt (kindAt bs at) bs at)) rest
 unfolding readRecords
 advance bs net at rest e = rw (← e)
 
@@ -80,7 +80,7 @@ module _ (bs : Bytes) (net : Network) (at : ℕ) (so : Reached bs net at) (insid
   reached-next e net′ at′ x p =
       let z : 0 ≡ recordFault (model.widths (networkOf net .nodes)) (networkOf net .signs) bs at = sym e ∙ fault in
       let w : isBroken bs at ≡ false = fault-whole (model.widths (networkOf net .nodes)) (networkOf net .signs) bs at z in
-      let added : withItem (networkOf net) (itemAt (kindNumbered (kindAt bs at)) bs at) ≡ networkOf net′ = ap (withItem (networkOf net)) (sym (reads .item e)) ∙ sym (x .is) in
+      let added : withItem (networkOf net) (itemAt (kindAt bs at) bs at) ≡ networkOf net′ = ap (withItem (networkOf net)) (sym (reads .item e)) ∙ sym (x .is) in
       record {
         built = x .built;
         same = so .same

@@ -9,12 +9,12 @@ use lib.ListN.{length, getD, take}
 use lib.Seq.{length-take-le, getD-take}
 use borrow.Author.Tests.{lt-ltb, le-ltb, le-leb, lt-leb, eq-eqb, ne-eqb, ltb-true, leb-true, eqb-true}
 use Rattle.model.specs.Record.{Bytes, u32, lengthAt, fieldAt, fieldsAt}
-use Rattle.model.specs.Network.{Kind, tableKind, selectConstantKind, selectColumnKind, projectKind, joinKind, setKind, watchKind, hasShape, projectShape, joinShape, itemAt, itemFits}
-use Rattle.model.specs.Network.{nodeFits, watchFits, columnsBelow, pairsBelow, pairsAt}
+use Rattle.model.specs.Network.{hasShape, projectShape, joinShape, itemAt, itemFits, nodeFits, watchFits, fitsOn, columnsBelow, pairsBelow, pairsAt, setAt, Operand, select, constant, column, operandBelow}
 use Rattle.model.proofs.Sets.{and-first, and-second}
-use Rattle.nodes.specs.Nodes.{NodeRecord, WatchRecord, numberOf, itemOf, operationOf, bodyFault, selectFits, Fits, ReadsBody}
+use Rattle.nodes.specs.Nodes.{NodeRecord, WatchRecord, numberOf, itemOf, operationOf, setKind, bodyFault, selectFits, Fits, ReadsBody}
 use Rattle.nodes.specs.declared.Operand.the-variants.{Constant, Column}
 use Rattle.nodes.specs.declared.SetOperation.{SetOperation}
+use Rattle.nodes.specs.declared.SetOperation.the-variants.{Union, Difference, Intersection}
 use Rattle.nodes.specs.declared.Node.the-variants.{Table, Select, Project, Join, Set}
 use Rattle.nodes.specs.declared.Record.{Record}
 use Rattle.nodes.specs.declared.Record.the-variants.{Refused}
@@ -28,7 +28,7 @@ no-second false b e = refl
 
 -- ---- the three outcomes
 
-module _ (ws signs : List ℕ) (bs : Bytes) (at : ℕ) (kind : Kind) where
+module _ (ws signs : List ℕ) (bs : Bytes) (at : ℕ) (kind : ℕ) where
   pub reads-6 : hasShape kind bs at ≡ false → ReadsBody ws signs kind bs at (Refused 6)
   unfolding bodyFault
   reads-6 e = record { number = rw e; item = λ z. absurd (omega arith); fits = lit≤ tt }
@@ -45,26 +45,26 @@ module _ (ws signs : List ℕ) (bs : Bytes) (at : ℕ) (kind : Kind) where
 -- ---- kind 1
 
 module _ (ws signs : List ℕ) (bs : Bytes) (at size : ℕ) (sized : size ≡ lengthAt bs at) where
-  pub table-size : (size ≡ 6 → ⊥) → ReadsBody ws signs tableKind bs at (Refused 6)
+  pub table-size : (size ≡ 6 → ⊥) → ReadsBody ws signs 1 bs at (Refused 6)
   unfolding hasShape
-  table-size h = reads-6 ws signs bs at tableKind (rw (← sized) (ne-eqb size 6 h))
+  table-size h = reads-6 ws signs bs at 1 (rw (← sized) (ne-eqb size 6 h))
 
   module _ (six : size ≡ 6) (w : ℕ) (is : w ≡ fieldAt bs at 0) where
-    shaped : hasShape tableKind bs at ≡ true
+    shaped : hasShape 1 bs at ≡ true
     unfolding hasShape
     shaped = rw (← sized) (eq-eqb size 6 six)
 
-    pub table-low : w < 1 → ReadsBody ws signs tableKind bs at (Refused 7)
-    unfolding itemFits itemAt nodeFits
-    table-low h = reads-7 ws signs bs at tableKind shaped (rw (← is, lt-leb 1 w h))
+    pub table-low : w < 1 → ReadsBody ws signs 1 bs at (Refused 7)
+    unfolding itemFits itemAt nodeFits fitsOn
+    table-low h = reads-7 ws signs bs at 1 shaped (rw (← is, lt-leb 1 w h))
 
-    pub table-high : 4 < w → ReadsBody ws signs tableKind bs at (Refused 7)
-    unfolding itemFits itemAt nodeFits
-    table-high h = reads-7 ws signs bs at tableKind shaped (rw (← is) (no-second (leb 1 w) (leb w 4) (lt-leb w 4 h)))
+    pub table-high : 4 < w → ReadsBody ws signs 1 bs at (Refused 7)
+    unfolding itemFits itemAt nodeFits fitsOn
+    table-high h = reads-7 ws signs bs at 1 shaped (rw (← is) (no-second (leb 1 w) (leb w 4) (lt-leb w 4 h)))
 
-    pub table-ok : 1 ≤ w → w ≤ 4 → ReadsBody ws signs tableKind bs at (NodeRecord (Table w))
-    unfolding itemFits itemAt nodeFits
-    table-ok h g = reads-ok ws signs bs at tableKind (NodeRecord (Table w)) shaped (rw (← is, le-leb 1 w h, le-leb w 4 g)) refl (rw is) g
+    pub table-ok : 1 ≤ w → w ≤ 4 → ReadsBody ws signs 1 bs at (NodeRecord (Table w))
+    unfolding itemFits itemAt nodeFits fitsOn
+    table-ok h g = reads-ok ws signs bs at 1 (NodeRecord (Table w)) shaped (rw (← is, le-leb 1 w h, le-leb w 4 g)) refl (rw is) g
 
 -- ---- kinds 2 and 3
 
@@ -102,39 +102,50 @@ module _ (xs : List ℕ) (count : ℕ) (long : count ≤ length xs) (bs : Bytes)
   pub select-input : selectFits (take count xs) bs at ≡ true → fieldAt bs at 0 < count
   select-input e = rw counted at (select-below (take count xs) bs at e)
 
-module _ (ws signs : List ℕ) (bs : Bytes) (at size : ℕ) (sized : size ≡ lengthAt bs at) where
-  pub constant-size : (size ≡ 14 → ⊥) → ReadsBody ws signs selectConstantKind bs at (Refused 6)
-  unfolding hasShape
-  constant-size h = reads-6 ws signs bs at selectConstantKind (rw (← sized) (ne-eqb size 14 h))
+fits-either : (i c k o : Bool) → ((i && true) && (c && k && o)) ≡ (i && c && k && o)
+fits-either true c k o = refl
+fits-either false c k o = refl
 
-  pub constant-not : size ≡ 14 → selectFits ws bs at ≡ false → ReadsBody ws signs selectConstantKind bs at (Refused 7)
-  unfolding hasShape itemFits itemAt nodeFits selectFits
-  constant-not s e = reads-7 ws signs bs at selectConstantKind (rw (← sized) (eq-eqb size 14 s)) (rw e)
+-- rule 7 on either kind of select
+fits-select : (ws : List ℕ) (bs : Bytes) (at : ℕ) (o : Operand) → nodeFits ws (select (fieldAt bs at 0) (fieldAt bs at 1) (fieldAt bs at 2) o)
+    ≡ (selectFits ws bs at && operandBelow (getD ws (fieldAt bs at 0) 0) o)
+unfolding nodeFits fitsOn selectFits
+fits-select ws bs at o =
+    fits-either (ltb (fieldAt bs at 0) (length ws)) (ltb (fieldAt bs at 1) (getD ws (fieldAt bs at 0) 0)) (ltb (fieldAt bs at 2) 6) (operandBelow (getD ws (fieldAt bs at 0) 0) o)
+
+module _ (ws signs : List ℕ) (bs : Bytes) (at size : ℕ) (sized : size ≡ lengthAt bs at) where
+  pub constant-size : (size ≡ 14 → ⊥) → ReadsBody ws signs 2 bs at (Refused 6)
+  unfolding hasShape
+  constant-size h = reads-6 ws signs bs at 2 (rw (← sized) (ne-eqb size 14 h))
+
+  pub constant-not : size ≡ 14 → selectFits ws bs at ≡ false → ReadsBody ws signs 2 bs at (Refused 7)
+  unfolding hasShape itemFits itemAt
+  constant-not s e = reads-7 ws signs bs at 2 (rw (← sized) (eq-eqb size 14 s)) (fits-select ws bs at (constant (u32 bs (at + 10))) ∙ rw e)
 
   pub constant-ok : size ≡ 14 → selectFits ws bs at ≡ true → (i c k v : ℕ) → i ≡ fieldAt bs at 0 → c ≡ fieldAt bs at 1 → k ≡ fieldAt bs at 2 → v ≡ u32 bs (at + 10) →
-      ReadsBody ws signs selectConstantKind bs at (NodeRecord (Select i c k (Constant v)))
-  unfolding hasShape itemFits itemAt nodeFits selectFits
+      ReadsBody ws signs 2 bs at (NodeRecord (Select i c k (Constant v)))
+  unfolding hasShape itemFits itemAt
   constant-ok s e i c k v p q r t =
-      reads-ok ws signs bs at selectConstantKind (NodeRecord (Select i c k (Constant v))) (rw (← sized) (eq-eqb size 14 s)) (rw e) refl (rw (p, q, r, t)) (rw p (select-below ws bs at e))
+      reads-ok ws signs bs at 2 (NodeRecord (Select i c k (Constant v))) (rw (← sized) (eq-eqb size 14 s)) (fits-select ws bs at (constant (u32 bs (at + 10))) ∙ rw e) refl (rw (p, q, r, t)) (rw p (select-below ws bs at e))
 
-  pub column-size : (size ≡ 12 → ⊥) → ReadsBody ws signs selectColumnKind bs at (Refused 6)
+  pub column-size : (size ≡ 12 → ⊥) → ReadsBody ws signs 3 bs at (Refused 6)
   unfolding hasShape
-  column-size h = reads-6 ws signs bs at selectColumnKind (rw (← sized) (ne-eqb size 12 h))
+  column-size h = reads-6 ws signs bs at 3 (rw (← sized) (ne-eqb size 12 h))
 
-  pub column-not : size ≡ 12 → selectFits ws bs at ≡ false → ReadsBody ws signs selectColumnKind bs at (Refused 7)
-  unfolding hasShape itemFits itemAt nodeFits selectFits
-  column-not s e = reads-7 ws signs bs at selectColumnKind (rw (← sized) (eq-eqb size 12 s)) (rw e)
+  pub column-not : size ≡ 12 → selectFits ws bs at ≡ false → ReadsBody ws signs 3 bs at (Refused 7)
+  unfolding hasShape itemFits itemAt
+  column-not s e = reads-7 ws signs bs at 3 (rw (← sized) (eq-eqb size 12 s)) (fits-select ws bs at (column (fieldAt bs at 3)) ∙ rw e)
 
   module _ (i o : ℕ) (is : i ≡ fieldAt bs at 0) (other : o ≡ fieldAt bs at 3) where
-    pub column-high : size ≡ 12 → selectFits ws bs at ≡ true → getD ws i 0 ≤ o → ReadsBody ws signs selectColumnKind bs at (Refused 7)
-    unfolding hasShape itemFits itemAt nodeFits selectFits
-    column-high s e h = reads-7 ws signs bs at selectColumnKind (rw (← sized) (eq-eqb size 12 s)) (rw (e, ← is, ← other) (le-ltb o (getD ws i 0) h))
+    pub column-high : size ≡ 12 → selectFits ws bs at ≡ true → getD ws i 0 ≤ o → ReadsBody ws signs 3 bs at (Refused 7)
+    unfolding hasShape itemFits itemAt
+    column-high s e h = reads-7 ws signs bs at 3 (rw (← sized) (eq-eqb size 12 s)) (fits-select ws bs at (column (fieldAt bs at 3)) ∙ rw (e, ← is, ← other) (le-ltb o (getD ws i 0) h))
 
     pub column-ok : size ≡ 12 → selectFits ws bs at ≡ true → o < getD ws i 0 → (c k : ℕ) → c ≡ fieldAt bs at 1 → k ≡ fieldAt bs at 2 →
-        ReadsBody ws signs selectColumnKind bs at (NodeRecord (Select i c k (Column o)))
-    unfolding hasShape itemFits itemAt nodeFits selectFits
+        ReadsBody ws signs 3 bs at (NodeRecord (Select i c k (Column o)))
+    unfolding hasShape itemFits itemAt
     column-ok s e h c k q r =
-        reads-ok ws signs bs at selectColumnKind (NodeRecord (Select i c k (Column o))) (rw (← sized) (eq-eqb size 12 s)) (rw (e, ← is, ← other) (lt-ltb o (getD ws i 0) h)) refl
+        reads-ok ws signs bs at 3 (NodeRecord (Select i c k (Column o))) (rw (← sized) (eq-eqb size 12 s)) (fits-select ws bs at (column (fieldAt bs at 3)) ∙ rw (e, ← is, ← other) (lt-ltb o (getD ws i 0) h)) refl
         (rw (is, other, q, r)) (rw is (select-below ws bs at e))
 
 -- ---- kind 4
@@ -177,25 +188,25 @@ project-shaped bs at e =
     }
 
 module _ (xs : List ℕ) (count : ℕ) (long : count ≤ length xs) (signs : List ℕ) (bs : Bytes) (at : ℕ) where
-  pub project-unshaped : projectShape bs at ≡ false → ReadsBody (take count xs) signs projectKind bs at (Refused 6)
+  pub project-unshaped : projectShape bs at ≡ false → ReadsBody (take count xs) signs 4 bs at (Refused 6)
   unfolding hasShape
-  project-unshaped e = reads-6 (take count xs) signs bs at projectKind e
+  project-unshaped e = reads-6 (take count xs) signs bs at 4 e
 
   module _ (shape : projectShape bs at ≡ true) (i : ℕ) (is : i ≡ fieldAt bs at 0) where
-    pub project-no-input : count ≤ i → ReadsBody (take count xs) signs projectKind bs at (Refused 7)
-    unfolding hasShape itemFits itemAt nodeFits
-    project-no-input h = reads-7 (take count xs) signs bs at projectKind shape (rw (← is, counted xs count long bs at, le-ltb i count h))
+    pub project-no-input : count ≤ i → ReadsBody (take count xs) signs 4 bs at (Refused 7)
+    unfolding hasShape itemFits itemAt nodeFits fitsOn
+    project-no-input h = reads-7 (take count xs) signs bs at 4 shape (rw (← is, counted xs count long bs at, le-ltb i count h))
 
     module _ (within : i < count) (n : ℕ) (of : n ≡ fieldAt bs at 1) where
-      pub project-high : columnsBelow (getD xs i 0) (fieldsAt bs at 2 n) ≡ false → ReadsBody (take count xs) signs projectKind bs at (Refused 7)
-      unfolding hasShape itemFits itemAt nodeFits
-      project-high e = reads-7 (take count xs) signs bs at projectKind shape (rw (← is, ← of, counted xs count long bs at, lt-ltb i count within, first-at xs count i within) e)
+      pub project-high : columnsBelow (getD xs i 0) (fieldsAt bs at 2 n) ≡ false → ReadsBody (take count xs) signs 4 bs at (Refused 7)
+      unfolding hasShape itemFits itemAt nodeFits fitsOn
+      project-high e = reads-7 (take count xs) signs bs at 4 shape (rw (← is, ← of, counted xs count long bs at, lt-ltb i count within, first-at xs count i within) e)
 
-      pub project-ok : columnsBelow (getD xs i 0) (fieldsAt bs at 2 n) ≡ true → at + lengthAt bs at ≤ length bs → ReadsBody (take count xs) signs projectKind bs at (NodeRecord (Project i n))
-      unfolding hasShape itemFits itemAt nodeFits
+      pub project-ok : columnsBelow (getD xs i 0) (fieldsAt bs at 2 n) ≡ true → at + lengthAt bs at ≤ length bs → ReadsBody (take count xs) signs 4 bs at (NodeRecord (Project i n))
+      unfolding hasShape itemFits itemAt nodeFits fitsOn
       project-ok e inside =
           let sh : ProjectShape bs at = project-shaped bs at shape in
-          reads-ok (take count xs) signs bs at projectKind (NodeRecord (Project i n)) shape
+          reads-ok (take count xs) signs bs at 4 (NodeRecord (Project i n)) shape
           (rw (← is, ← of, counted xs count long bs at, lt-ltb i count within, first-at xs count i within) e) refl (rw (is, of))
           (rw (counted xs count long bs at) within, rw of (sh .few), omega (arith, sh .size, of))
 
@@ -256,41 +267,41 @@ join-shaped bs at e =
     }
 
 module _ (xs : List ℕ) (count : ℕ) (long : count ≤ length xs) (signs : List ℕ) (bs : Bytes) (at : ℕ) where
-  pub join-unshaped : joinShape bs at ≡ false → ReadsBody (take count xs) signs joinKind bs at (Refused 6)
+  pub join-unshaped : joinShape bs at ≡ false → ReadsBody (take count xs) signs 5 bs at (Refused 6)
   unfolding hasShape
-  join-unshaped e = reads-6 (take count xs) signs bs at joinKind e
+  join-unshaped e = reads-6 (take count xs) signs bs at 5 e
 
   module _ (shape : joinShape bs at ≡ true) (l : ℕ) (is : l ≡ fieldAt bs at 0) where
-    pub join-no-left : count ≤ l → ReadsBody (take count xs) signs joinKind bs at (Refused 7)
-    unfolding hasShape itemFits itemAt nodeFits
-    join-no-left h = reads-7 (take count xs) signs bs at joinKind shape (rw (← is, counted xs count long bs at, le-ltb l count h))
+    pub join-no-left : count ≤ l → ReadsBody (take count xs) signs 5 bs at (Refused 7)
+    unfolding hasShape itemFits itemAt nodeFits fitsOn
+    join-no-left h = reads-7 (take count xs) signs bs at 5 shape (rw (← is, counted xs count long bs at, le-ltb l count h))
 
     module _ (left : l < count) (r : ℕ) (of : r ≡ fieldAt bs at 1) where
-      pub join-no-right : count ≤ r → ReadsBody (take count xs) signs joinKind bs at (Refused 7)
-      unfolding hasShape itemFits itemAt nodeFits
-      join-no-right h = reads-7 (take count xs) signs bs at joinKind shape (rw (← is, ← of, counted xs count long bs at, lt-ltb l count left, le-ltb r count h))
+      pub join-no-right : count ≤ r → ReadsBody (take count xs) signs 5 bs at (Refused 7)
+      unfolding hasShape itemFits itemAt nodeFits fitsOn
+      join-no-right h = reads-7 (take count xs) signs bs at 5 shape (rw (← is, ← of, counted xs count long bs at, lt-ltb l count left, le-ltb r count h))
 
       module _ (right : r < count) (p : ℕ) (paired : p ≡ fieldAt bs at 2) where
-        pub join-bad-pair : pairsBelow (getD xs l 0) (getD xs r 0) (pairsAt bs at 3 p) ≡ false → ReadsBody (take count xs) signs joinKind bs at (Refused 7)
-        unfolding hasShape itemFits itemAt nodeFits
+        pub join-bad-pair : pairsBelow (getD xs l 0) (getD xs r 0) (pairsAt bs at 3 p) ≡ false → ReadsBody (take count xs) signs 5 bs at (Refused 7)
+        unfolding hasShape itemFits itemAt nodeFits fitsOn
         join-bad-pair e =
-            reads-7 (take count xs) signs bs at joinKind shape
+            reads-7 (take count xs) signs bs at 5 shape
             (rw (← is, ← of, ← paired, counted xs count long bs at, lt-ltb l count left, lt-ltb r count right, first-at xs count l left, first-at xs count r right, e))
 
         module _ (good : pairsBelow (getD xs l 0) (getD xs r 0) (pairsAt bs at 3 p) ≡ true) (c : ℕ) (columns : c ≡ fieldAt bs at (3 + 2 * p)) where
-          pub join-high : columnsBelow (getD xs l 0 + getD xs r 0) (fieldsAt bs at (4 + 2 * p) c) ≡ false → ReadsBody (take count xs) signs joinKind bs at (Refused 7)
-          unfolding hasShape itemFits itemAt nodeFits
+          pub join-high : columnsBelow (getD xs l 0 + getD xs r 0) (fieldsAt bs at (4 + 2 * p) c) ≡ false → ReadsBody (take count xs) signs 5 bs at (Refused 7)
+          unfolding hasShape itemFits itemAt nodeFits fitsOn
           join-high e =
-              reads-7 (take count xs) signs bs at joinKind shape
+              reads-7 (take count xs) signs bs at 5 shape
               (rw (← is, ← of, ← paired, ← columns, counted xs count long bs at, lt-ltb l count left, lt-ltb r count right, first-at xs count l left, first-at xs count r right, good, e))
 
           pub join-ok : columnsBelow (getD xs l 0 + getD xs r 0) (fieldsAt bs at (4 + 2 * p) c) ≡ true → at + lengthAt bs at ≤ length bs →
-              ReadsBody (take count xs) signs joinKind bs at (NodeRecord (Join l r p c))
-          unfolding hasShape itemFits itemAt nodeFits
+              ReadsBody (take count xs) signs 5 bs at (NodeRecord (Join l r p c))
+          unfolding hasShape itemFits itemAt nodeFits fitsOn
           join-ok e inside =
               let sh : JoinShape bs at = join-shaped bs at shape in
               let same : c ≡ fieldAt bs at (3 + 2 * fieldAt bs at 2) = rw paired at columns in
-              reads-ok (take count xs) signs bs at joinKind (NodeRecord (Join l r p c)) shape
+              reads-ok (take count xs) signs bs at 5 (NodeRecord (Join l r p c)) shape
               (rw (← is, ← of, ← paired, ← columns, counted xs count long bs at, lt-ltb l count left, lt-ltb r count right, first-at xs count l left, first-at xs count r right, good, e))
               refl
               (rw (is, of, columns, paired))
@@ -298,78 +309,88 @@ module _ (xs : List ℕ) (count : ℕ) (long : count ≤ length xs) (signs : Lis
 
 -- ---- kinds 6, 7, 8
 
+set-shape : (o : SetOperation) (bs : Bytes) (at : ℕ) → hasShape (setKind o) bs at ≡ eqb (lengthAt bs at) 8
+unfolding hasShape
+set-shape Union bs at = refl
+set-shape Difference bs at = refl
+set-shape Intersection bs at = refl
+
+set-item : (o : SetOperation) (bs : Bytes) (at : ℕ) → itemAt (setKind o) bs at ≡ setAt (operationOf o) bs at
+unfolding itemAt
+set-item Union bs at = refl
+set-item Difference bs at = refl
+set-item Intersection bs at = refl
+
 module _ (xs : List ℕ) (count : ℕ) (long : count ≤ length xs) (signs : List ℕ) (bs : Bytes) (at : ℕ) (o : SetOperation) (size : ℕ) (sized : size ≡ lengthAt bs at) where
-  pub set-size : (size ≡ 8 → ⊥) → ReadsBody (take count xs) signs (setKind (operationOf o)) bs at (Refused 6)
-  unfolding hasShape
-  set-size h = reads-6 (take count xs) signs bs at (setKind (operationOf o)) (rw (← sized) (ne-eqb size 8 h))
+  pub set-size : (size ≡ 8 → ⊥) → ReadsBody (take count xs) signs (setKind o) bs at (Refused 6)
+  set-size h = reads-6 (take count xs) signs bs at (setKind o) (rw (set-shape o bs at, ← sized) (ne-eqb size 8 h))
 
   module _ (eight : size ≡ 8) (l : ℕ) (is : l ≡ fieldAt bs at 0) where
-    set-shaped : hasShape (setKind (operationOf o)) bs at ≡ true
-    unfolding hasShape
-    set-shaped = rw (← sized) (eq-eqb size 8 eight)
+    set-shaped : hasShape (setKind o) bs at ≡ true
+    set-shaped = rw (set-shape o bs at, ← sized) (eq-eqb size 8 eight)
 
-    pub set-no-left : count ≤ l → ReadsBody (take count xs) signs (setKind (operationOf o)) bs at (Refused 7)
-    unfolding itemFits itemAt nodeFits
-    set-no-left h = reads-7 (take count xs) signs bs at (setKind (operationOf o)) set-shaped (rw (← is, counted xs count long bs at, le-ltb l count h))
+    pub set-no-left : count ≤ l → ReadsBody (take count xs) signs (setKind o) bs at (Refused 7)
+    unfolding itemFits nodeFits fitsOn
+    set-no-left h = reads-7 (take count xs) signs bs at (setKind o) set-shaped (rw (set-item o bs at, ← is, counted xs count long bs at, le-ltb l count h))
 
     module _ (left : l < count) (r : ℕ) (of : r ≡ fieldAt bs at 1) where
-      pub set-no-right : count ≤ r → ReadsBody (take count xs) signs (setKind (operationOf o)) bs at (Refused 7)
-      unfolding itemFits itemAt nodeFits
-      set-no-right h = reads-7 (take count xs) signs bs at (setKind (operationOf o)) set-shaped (rw (← is, ← of, counted xs count long bs at, lt-ltb l count left, le-ltb r count h))
+      pub set-no-right : count ≤ r → ReadsBody (take count xs) signs (setKind o) bs at (Refused 7)
+      unfolding itemFits nodeFits fitsOn
+      set-no-right h = reads-7 (take count xs) signs bs at (setKind o) set-shaped (rw (set-item o bs at, ← is, ← of, counted xs count long bs at, lt-ltb l count left, le-ltb r count h))
 
       module _ (right : r < count) where
-        pub set-unequal : (getD xs l 0 ≡ getD xs r 0 → ⊥) → ReadsBody (take count xs) signs (setKind (operationOf o)) bs at (Refused 7)
-        unfolding itemFits itemAt nodeFits
+        pub set-unequal : (getD xs l 0 ≡ getD xs r 0 → ⊥) → ReadsBody (take count xs) signs (setKind o) bs at (Refused 7)
+        unfolding itemFits nodeFits fitsOn
         set-unequal h =
-            reads-7 (take count xs) signs bs at (setKind (operationOf o)) set-shaped
-            (rw (← is, ← of, counted xs count long bs at, lt-ltb l count left, lt-ltb r count right, first-at xs count l left, first-at xs count r right)
+            reads-7 (take count xs) signs bs at (setKind o) set-shaped
+            (rw (set-item o bs at, ← is, ← of, counted xs count long bs at, lt-ltb l count left, lt-ltb r count right, first-at xs count l left, first-at xs count r right)
             (ne-eqb (getD xs l 0) (getD xs r 0) h))
 
-        pub set-ok : getD xs l 0 ≡ getD xs r 0 → ReadsBody (take count xs) signs (setKind (operationOf o)) bs at (NodeRecord (Set o l r))
-        unfolding itemFits itemAt nodeFits
+        pub set-ok : getD xs l 0 ≡ getD xs r 0 → ReadsBody (take count xs) signs (setKind o) bs at (NodeRecord (Set o l r))
+        unfolding itemFits nodeFits fitsOn
         set-ok h =
-            reads-ok (take count xs) signs bs at (setKind (operationOf o)) (NodeRecord (Set o l r)) set-shaped
-            (rw (← is, ← of, counted xs count long bs at, lt-ltb l count left, lt-ltb r count right, first-at xs count l left, first-at xs count r right)
+            reads-ok (take count xs) signs bs at (setKind o) (NodeRecord (Set o l r)) set-shaped
+            (rw (set-item o bs at, ← is, ← of, counted xs count long bs at, lt-ltb l count left, lt-ltb r count right, first-at xs count l left, first-at xs count r right)
             (eq-eqb (getD xs l 0) (getD xs r 0) h)) refl
-            (rw (is, of))
+            (rw (set-item o bs at, is, of))
             (rw (counted xs count long bs at) left, rw (counted xs count long bs at) right)
 
 -- ---- kind 9
 
 module _ (xs : List ℕ) (count : ℕ) (long : count ≤ length xs) (ws : List ℕ) (bs : Bytes) (at : ℕ) (size : ℕ) (sized : size ≡ lengthAt bs at) where
-  pub watch-size : (size ≡ 8 → ⊥) → ReadsBody ws (take count xs) watchKind bs at (Refused 6)
+  pub watch-size : (size ≡ 8 → ⊥) → ReadsBody ws (take count xs) 9 bs at (Refused 6)
   unfolding hasShape
-  watch-size h = reads-6 ws (take count xs) bs at watchKind (rw (← sized) (ne-eqb size 8 h))
+  watch-size h = reads-6 ws (take count xs) bs at 9 (rw (← sized) (ne-eqb size 8 h))
 
   module _ (eight : size ≡ 8) (n : ℕ) (is : n ≡ fieldAt bs at 0) where
-    watch-shaped : hasShape watchKind bs at ≡ true
+    watch-shaped : hasShape 9 bs at ≡ true
     unfolding hasShape
     watch-shaped = rw (← sized) (eq-eqb size 8 eight)
 
-    pub watch-no-node : count ≤ n → ReadsBody ws (take count xs) watchKind bs at (Refused 7)
+    pub watch-no-node : count ≤ n → ReadsBody ws (take count xs) 9 bs at (Refused 7)
     unfolding itemFits itemAt watchFits
-    watch-no-node h = reads-7 ws (take count xs) bs at watchKind watch-shaped (rw (← is, counted xs count long bs at, le-ltb n count h))
+    watch-no-node h = reads-7 ws (take count xs) bs at 9 watch-shaped (rw (← is, counted xs count long bs at, le-ltb n count h))
 
     module _ (within : n < count) (s : ℕ) (of : s ≡ fieldAt bs at 1) where
-      pub watch-low : s < 1 → ReadsBody ws (take count xs) watchKind bs at (Refused 7)
+      pub watch-low : s < 1 → ReadsBody ws (take count xs) 9 bs at (Refused 7)
       unfolding itemFits itemAt watchFits
-      watch-low h = reads-7 ws (take count xs) bs at watchKind watch-shaped (rw (← is, ← of, counted xs count long bs at, lt-ltb n count within, lt-leb 1 s h))
+      watch-low h = reads-7 ws (take count xs) bs at 9 watch-shaped (rw (← is, ← of, counted xs count long bs at, lt-ltb n count within, lt-leb 1 s h))
 
-      pub watch-high : 1 ≤ s → 3 < s → ReadsBody ws (take count xs) watchKind bs at (Refused 7)
+      pub watch-high : 1 ≤ s → 3 < s → ReadsBody ws (take count xs) 9 bs at (Refused 7)
       unfolding itemFits itemAt watchFits
-      watch-high h g = reads-7 ws (take count xs) bs at watchKind watch-shaped (rw (← is, ← of, counted xs count long bs at, lt-ltb n count within, le-leb 1 s h, lt-leb s 3 g))
+      watch-high h g = reads-7 ws (take count xs) bs at 9 watch-shaped (rw (← is, ← of, counted xs count long bs at, lt-ltb n count within, le-leb 1 s h, lt-leb s 3 g))
 
       module _ (low : 1 ≤ s) (high : s ≤ 3) where
-        pub watch-second : (getD xs n 0 ≡ 0 → ⊥) → ReadsBody ws (take count xs) watchKind bs at (Refused 7)
+        pub watch-second : (getD xs n 0 ≡ 0 → ⊥) → ReadsBody ws (take count xs) 9 bs at (Refused 7)
         unfolding itemFits itemAt watchFits
         watch-second h =
-            reads-7 ws (take count xs) bs at watchKind watch-shaped
+            reads-7 ws (take count xs) bs at 9 watch-shaped
             (rw (← is, ← of, counted xs count long bs at, lt-ltb n count within, le-leb 1 s low, le-leb s 3 high, first-at xs count n within) (ne-eqb (getD xs n 0) 0 h))
 
-        pub watch-ok : getD xs n 0 ≡ 0 → ReadsBody ws (take count xs) watchKind bs at (WatchRecord n s)
+        pub watch-ok : getD xs n 0 ≡ 0 → ReadsBody ws (take count xs) 9 bs at (WatchRecord n s)
         unfolding itemFits itemAt watchFits
         watch-ok h =
-            reads-ok ws (take count xs) bs at watchKind (WatchRecord n s) watch-shaped
+            reads-ok ws (take count xs) bs at 9 (WatchRecord n s) watch-shaped
             (rw (← is, ← of, counted xs count long bs at, lt-ltb n count within, le-leb 1 s low, le-leb s 3 high, first-at xs count n within) (eq-eqb (getD xs n 0) 0 h)) refl
             (rw (is, of))
             (rw (counted xs count long bs at) within)

@@ -1,16 +1,15 @@
 -- Rules 3 to 7 on a record, by its kind's number. Assumes nothing.
 use mathlib.Core.Path.{_≡_, refl, sym, ap, _∙_}
-use mathlib.Core.Bool.{Bool, true, false, not, _&&_}
+use mathlib.Core.Bool.{Bool, true, false, _||_}
 use mathlib.Core.List.{List}
 use Prim.Native.Nat.{ℕ, _+_, _-_, _≤_, _<_}
 use native.Mathlib.Omega.{arith}
-use lib.Dec.{lit≤}
-use lib.ListN.{length, List·getD-eq-default}
-use borrow.Author.Tests.{le-leb, lt-leb, not-true}
+use lib.Dec.{lit≤, eqb}
+use lib.ListN.{length}
+use borrow.Author.Tests.{le-leb, lt-leb, ne-eqb}
 use Rattle.model.specs.Row.{allOf, countFrom}
 use Rattle.model.specs.Record.{Bytes, kindAt, fieldAt, isBroken}
-use Rattle.model.specs.Network.{unknownKind, watchKind, kinds, kindNumbered, isUnknown, isWatch, recordFault, itemAt, nodeItem, watchItem}
-use Rattle.model.proofs.Sets.{and-first, and-second}
+use Rattle.model.specs.Network.{kinds, isUnknown, isNode, recordFault, itemAt, nodeItem, watchItem}
 use Rattle.rows.proofs.Place.{all-below}
 use Rattle.nodes.specs.Nodes.{numberOf, nodeAt, itemOf, bodyFault, Room, ReadsBody, ReadsRecord}
 use Rattle.nodes.specs.declared.Record.{Record}
@@ -19,35 +18,34 @@ use Rattle.nodes.specs.declared.Record.the-variants.{Item as Brought, Re
 
 -- ---- the kinds' numbers
 
-isNode : ℕ → Bool
-unfolding kindNumbered
-isNode k = not (isUnknown (kindNumbered k)) && not (isWatch (kindNumbered k))
+known : (k : ℕ) → 1 ≤ k → k ≤ length kinds → isUnknown k ≡ false
+unfolding isUnknown
+known k h g = rw (le-leb 1 k h, le-leb k (length kinds) g)
 
--- one test over all nodes' kinds
-node-kinds : allOf isNode (countFrom 1 8) ≡ true
-unfolding isNode kindNumbered
-node-kinds = refl
+pub unknown-low : (k : ℕ) → k < 1 → isUnknown k ≡ true
+unfolding isUnknown
+unknown-low k h = rw (lt-leb 1 k h)
 
-node-kind : (k : ℕ) → 1 ≤ k → k ≤ 8 → isNode k ≡ true
-node-kind k h g =
-    let e : 1 + (k - 1) ≡ k = omega arith in
-    ap isNode (sym e) ∙ all-below isNode 1 8 node-kinds (k - 1) (omega arith)
+pub unknown-high : (k : ℕ) → length kinds < k → isUnknown k ≡ true
+unfolding isUnknown
+unknown-high k h = rw (le-leb 1 k (omega arith), lt-leb k (length kinds) h)
 
-pub known : (k : ℕ) → 1 ≤ k → k ≤ 8 → isUnknown (kindNumbered k) ≡ false
-unfolding isNode
-known k h g = not-true (isUnknown (kindNumbered k)) (and-first (not (isUnknown (kindNumbered k))) (not (isWatch (kindNumbered k))) (node-kind k h g))
+module _ (bs : Bytes) (at : ℕ) where
+  bringsNode : ℕ → Bool
+  unfolding itemAt
+  bringsNode k = eqb k 9 || isNode (itemAt k bs at)
 
-pub no-watch : (k : ℕ) → 1 ≤ k → k ≤ 8 → isWatch (kindNumbered k) ≡ false
-unfolding isNode
-no-watch k h g = not-true (isWatch (kindNumbered k)) (and-second (not (isUnknown (kindNumbered k))) (not (isWatch (kindNumbered k))) (node-kind k h g))
+  -- one test over all kinds: those but 9 bring a node
+  nodes-brought : allOf bringsNode (countFrom 1 (length kinds)) ≡ true
+  unfolding bringsNode itemAt
+  nodes-brought = refl
 
-pub unknown-low : (k : ℕ) → k < 1 → kindNumbered k ≡ unknownKind
-unfolding kindNumbered
-unknown-low k h = let e : k ≡ 0 = omega arith in rw e
-
-pub unknown-high : (k : ℕ) → 10 ≤ k → kindNumbered k ≡ unknownKind
-unfolding kindNumbered
-unknown-high k h = List·getD-eq-default kinds unknownKind h
+  brings-node : (k : ℕ) → 1 ≤ k → k ≤ length kinds → (k ≡ 9 → ⊥) → isNode (itemAt k bs at) ≡ true
+  unfolding bringsNode
+  brings-node k h g other =
+      let e : 1 + (k - 1) ≡ k = omega arith in
+      let brought : bringsNode k ≡ true = ap bringsNode (sym e) ∙ all-below bringsNode 1 (length kinds) nodes-brought (k - 1) (omega arith) in
+      rw (ne-eqb k 9 other) at brought
 
 -- ---- records
 
@@ -57,7 +55,7 @@ room-of ws (Brought (WatchBrought n s)) h = tt
 room-of ws (Refused k) h = tt
 
 -- a watch is no node
-room-watch : (ws : List ℕ) (bs : Bytes) (at : ℕ) (r : Record) → (numberOf r ≡ 0 → itemOf r bs at ≡ itemAt watchKind bs at) → Room r ws
+room-watch : (ws : List ℕ) (bs : Bytes) (at : ℕ) (r : Record) → (numberOf r ≡ 0 → itemOf r bs at ≡ itemAt 9 bs at) → Room r ws
 unfolding itemAt
 room-watch ws bs at (Brought (NodeBrought n)) h =
     let e : nodeItem (nodeAt n bs at) ≡ watchItem (record { node = fieldAt bs at 0; sign = fieldAt bs at 1 }) = h refl in
@@ -72,26 +70,34 @@ module _ (ws signs : List ℕ) (bs : Bytes) (at : ℕ) where
   record-3 e = record { number = rw e; item = λ z. absurd (omega arith); fits = lit≤ tt; room = tt }
 
   module _ (whole : isBroken bs at ≡ false) (k : ℕ) (is : k ≡ kindAt bs at) where
-    pub record-4 : kindNumbered k ≡ unknownKind → ReadsRecord ws signs bs at (Refused 4)
+    pub record-4 : isUnknown k ≡ true → ReadsRecord ws signs bs at (Refused 4)
     unfolding recordFault
     record-4 e = record { number = rw (whole, ← is, e); item = λ z. absurd (omega arith); fits = lit≤ tt; room = tt }
 
-    pub record-5 : 1 ≤ k → k ≤ 8 → 32 ≤ length ws → ReadsRecord ws signs bs at (Refused 5)
-    unfolding recordFault
-    record-5 h g f = record { number = rw (whole, ← is, known k h g, no-watch k h g, le-leb 32 (length ws) f); item = λ z. absurd (omega arith); fits = lit≤ tt; room = tt }
+    -- a node's kind
+    module _ (low : 1 ≤ k) (high : k ≤ length kinds) (no-watch : k ≡ 9 → ⊥) where
+      pub record-5 : 32 ≤ length ws → ReadsRecord ws signs bs at (Refused 5)
+      unfolding recordFault
+      record-5 f =
+          record {
+            number = rw (whole, ← is, known k low high, brings-node bs at k low high no-watch, le-leb 32 (length ws) f);
+            item = λ z. absurd (omega arith);
+            fits = lit≤ tt;
+            room = tt;
+          }
 
-    pub record-node : (r : Record) → 1 ≤ k → k ≤ 8 → length ws < 32 → ReadsBody ws signs (kindNumbered k) bs at r → ReadsRecord ws signs bs at r
-    unfolding recordFault bodyFault
-    record-node r h g f b =
-        record {
-          number = b .number ∙ sym (rw (whole, ← is, known k h g, no-watch k h g, lt-leb 32 (length ws) f));
-          item = λ z. b .item z ∙ rw is;
-          fits = b .fits;
-          room = room-of ws r f;
-        }
+      pub record-node : (r : Record) → length ws < 32 → ReadsBody ws signs k bs at r → ReadsRecord ws signs bs at r
+      unfolding recordFault bodyFault
+      record-node r f b =
+          record {
+            number = b .number ∙ sym (rw (whole, ← is, known k low high, brings-node bs at k low high no-watch, lt-leb 32 (length ws) f));
+            item = λ z. b .item z ∙ rw is;
+            fits = b .fits;
+            room = room-of ws r f;
+          }
 
-    pub record-watch : (r : Record) → k ≡ 9 → ReadsBody ws signs watchKind bs at r → ReadsRecord ws signs bs at r
-    unfolding recordFault bodyFault kindNumbered
+    pub record-watch : (r : Record) → k ≡ 9 → ReadsBody ws signs 9 bs at r → ReadsRecord ws signs bs at r
+    unfolding recordFault bodyFault isUnknown itemAt
     record-watch r e b =
         record {
           number = b .number ∙ sym (rw (whole, ← is, e));
@@ -101,5 +107,5 @@ module _ (ws signs : List ℕ) (bs : Bytes) (at : ℕ) where
         }
 
 -- a body read as the kind of a number
-pub as-kind : {ws signs : List ℕ} {bs : Bytes} {at : ℕ} {r : Record} (k n : ℕ) → k ≡ n → ReadsBody ws signs (kindNumbered n) bs at r → ReadsBody ws signs (kindNumbered k) bs at r
+pub as-kind : {ws signs : List ℕ} {bs : Bytes} {at : ℕ} {r : Record} (k n : ℕ) → k ≡ n → ReadsBody ws signs n bs at r → ReadsBody ws signs k bs at r
 as-kind k n e b = rw e b

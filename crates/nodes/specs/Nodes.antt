@@ -8,8 +8,8 @@ use lib.ListN.{getD, take, drop, length}
 use Rattle.model.specs.Algebra.{Pair}
 use Rattle.model.specs.Record.{Bytes, kindAt, fieldAt, fieldsAt, rule, firstBroken}
 use Rattle.model.specs.Network as model
-use Rattle.model.specs.Network.{Kind, Item, nodeItem, watchItem, table, select, project, join, setOperation, constant, column, union, difference}
-use Rattle.model.specs.Network.{intersection, pairsAt, kindNumbered, hasShape, itemAt, itemFits, recordFault}
+use Rattle.model.specs.Network.{Item, nodeItem, watchItem, table, select, project, join, setOperation, constant, column, union, difference}
+use Rattle.model.specs.Network.{intersection, kindOf, pairsAt, hasShape, itemAt, itemFits, recordFault}
 use Rattle.nodes.specs.declared.Operand.{Operand}
 use Rattle.nodes.specs.declared.Operand.the-variants.{Constant, Column}
 use Rattle.nodes.specs.declared.SetOperation.{SetOperation}
@@ -33,6 +33,10 @@ abbrev pub operationOf : SetOperation → model.SetOperation
 operationOf Union = union
 operationOf Difference = difference
 operationOf Intersection = intersection
+
+-- the number of a set operation's kind
+abbrev pub setKind : SetOperation → ℕ
+setKind o = kindOf (setOperation (operationOf o) 0 0)
 
 -- n pairs from numbers that alternate between left and right columns
 abbrev pub pairsOf : ℕ → List ℕ → List Pair
@@ -88,8 +92,8 @@ selectFits ws bs at = ltb (fieldAt bs at 0) (length ws) && ltb (fieldAt bs at 1)
 abbrev pub Narrow : List ℕ → Type 0
 Narrow ws = (i : ℕ) → getD ws i 0 ≤ 4
 
--- rules 6 and 7 on a record of a known kind
-unfoldable pub bodyFault : List ℕ → List ℕ → Kind → Bytes → ℕ → ℕ
+-- rules 6 and 7 on a record of a kind
+unfoldable pub bodyFault : List ℕ → List ℕ → ℕ → Bytes → ℕ → ℕ
 bodyFault ws signs kind bs at = firstBroken (rule 6 (not (hasShape kind bs at)) ∷ rule 7 (not (itemFits ws signs (itemAt kind bs at))) ∷ [])
 
 -- a node after so many others uses these alone, and its lists stand inside the record
@@ -107,7 +111,7 @@ Fits (Brought (WatchBrought n s)) ws signs bs at = n < length signs
 Fits (Refused k) ws signs bs at = 1 ≤ k
 
 -- a record of a known kind is read: its number, and where that is 0 its item
-pub record ReadsBody (ws signs : List ℕ) (kind : Kind) (bs : Bytes) (at : ℕ) (r : Record) : Type 0 where
+pub record ReadsBody (ws signs : List ℕ) (kind : ℕ) (bs : Bytes) (at : ℕ) (r : Record) : Type 0 where
   pub number : numberOf r ≡ bodyFault ws signs kind bs at
   pub item : numberOf r ≡ 0 → itemOf r bs at ≡ itemAt kind bs at
   pub fits : Fits r ws signs bs at
@@ -121,6 +125,6 @@ Room (Refused k) ws = Unit {0}
 -- any record is read
 pub record ReadsRecord (ws signs : List ℕ) (bs : Bytes) (at : ℕ) (r : Record) : Type 0 where
   pub number : numberOf r ≡ recordFault ws signs bs at
-  pub item : numberOf r ≡ 0 → itemOf r bs at ≡ itemAt (kindNumbered (kindAt bs at)) bs at
+  pub item : numberOf r ≡ 0 → itemOf r bs at ≡ itemAt (kindAt bs at) bs at
   pub fits : Fits r ws signs bs at
   pub room : Room r ws

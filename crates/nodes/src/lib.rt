@@ -4,10 +4,9 @@ ghost use mathlib.Core.Bool.{true, false};
 ghost use mathlib.Core.List.{List};
 ghost use Prim.Native.Nat.{ℕ, _+_, _*_, _≤_, _<_};
 ghost use lib.ListN.{length, take};
-ghost use Rattle.model.specs.Network.{columnsBelow, pairsBelow, pairsAt, projectShape, joinShape, kindNumbered, tableKind, selectConstantKind};
-ghost use Rattle.model.specs.Network.{selectColumnKind, projectKind, joinKind, setKind, watchKind, kindOf};
+ghost use Rattle.model.specs.Network.{columnsBelow, pairsBelow, pairsAt, projectShape, joinShape, kindOf};
 ghost use Rattle.model.specs.Record.{fieldsAt, isBroken};
-ghost use Rattle.nodes.specs.Nodes.{ReadsBody, ReadsRecord, selectFits, Narrow, operationOf, nodeOf, numberOf};
+ghost use Rattle.nodes.specs.Nodes.{ReadsBody, ReadsRecord, selectFits, Narrow, setKind, nodeOf, numberOf};
 
 // The most fields of a row, and the most nodes of a network.
 pub const MAX_WIDTH: usize = 4;
@@ -84,7 +83,7 @@ fn pairs_below(bytes: &[u8], at: usize, n: usize, left: usize, right: usize) -> 
 
 fn read_table(bytes: &[u8], at: usize) -> Record
     requires { ⌜ isBroken (now bytes) at ≡ false ⌝ }
-    ensures { λ r. ⌜ ((ws signs : List ℕ) → ReadsBody ws signs tableKind (now (bytes .entry)) at r) ⌝ }
+    ensures { λ r. ⌜ ((ws signs : List ℕ) → ReadsBody ws signs 1 (now (bytes .entry)) at r) ⌝ }
 {
     if records::u16_at(bytes, at) != 6 {
         return Record::Refused(6);
@@ -116,7 +115,7 @@ fn select_fits(bytes: &[u8], at: usize, count: usize, widths: &[usize]) -> bool
 
 fn read_select_constant(bytes: &[u8], at: usize, count: usize, widths: &[usize]) -> Record
     requires { ⌜ (isBroken (now bytes) at ≡ false) × (count ≤ length (now widths)) ⌝ }
-    ensures { λ r. ⌜ ((signs : List ℕ) → ReadsBody (take count (now (widths .entry))) signs selectConstantKind (now (bytes .entry)) at r) ⌝ }
+    ensures { λ r. ⌜ ((signs : List ℕ) → ReadsBody (take count (now (widths .entry))) signs 2 (now (bytes .entry)) at r) ⌝ }
 {
     if records::u16_at(bytes, at) != 14 {
         return Record::Refused(6);
@@ -133,7 +132,7 @@ fn read_select_constant(bytes: &[u8], at: usize, count: usize, widths: &[usize])
 
 fn read_select_column(bytes: &[u8], at: usize, count: usize, widths: &[usize]) -> Record
     requires { ⌜ (isBroken (now bytes) at ≡ false) × (count ≤ length (now widths)) ⌝ }
-    ensures { λ r. ⌜ ((signs : List ℕ) → ReadsBody (take count (now (widths .entry))) signs selectColumnKind (now (bytes .entry)) at r) ⌝ }
+    ensures { λ r. ⌜ ((signs : List ℕ) → ReadsBody (take count (now (widths .entry))) signs 3 (now (bytes .entry)) at r) ⌝ }
 {
     if records::u16_at(bytes, at) != 12 {
         return Record::Refused(6);
@@ -172,7 +171,7 @@ fn project_shape(bytes: &[u8], at: usize) -> bool
 
 fn read_project(bytes: &[u8], at: usize, count: usize, widths: &[usize]) -> Record
     requires { ⌜ (isBroken (now bytes) at ≡ false) × (count ≤ length (now widths)) ⌝ }
-    ensures { λ r. ⌜ ((signs : List ℕ) → ReadsBody (take count (now (widths .entry))) signs projectKind (now (bytes .entry)) at r) ⌝ }
+    ensures { λ r. ⌜ ((signs : List ℕ) → ReadsBody (take count (now (widths .entry))) signs 4 (now (bytes .entry)) at r) ⌝ }
 {
     if !project_shape(bytes, at) {
         return Record::Refused(6);
@@ -216,7 +215,7 @@ fn join_shape(bytes: &[u8], at: usize) -> bool
 
 fn read_join(bytes: &[u8], at: usize, count: usize, widths: &[usize]) -> Record
     requires { ⌜ (isBroken (now bytes) at ≡ false) × (count ≤ length (now widths)) × Narrow (now widths) ⌝ }
-    ensures { λ r. ⌜ ((signs : List ℕ) → ReadsBody (take count (now (widths .entry))) signs joinKind (now (bytes .entry)) at r) ⌝ }
+    ensures { λ r. ⌜ ((signs : List ℕ) → ReadsBody (take count (now (widths .entry))) signs 5 (now (bytes .entry)) at r) ⌝ }
 {
     if !join_shape(bytes, at) {
         return Record::Refused(6);
@@ -254,7 +253,7 @@ fn read_set(
     widths: &[usize],
 ) -> Record
     requires { ⌜ (isBroken (now bytes) at ≡ false) × (count ≤ length (now widths)) ⌝ }
-    ensures { λ r. ⌜ ((signs : List ℕ) → ReadsBody (take count (now (widths .entry))) signs (setKind (operationOf operation))
+    ensures { λ r. ⌜ ((signs : List ℕ) → ReadsBody (take count (now (widths .entry))) signs (setKind operation)
         (now (bytes .entry)) at r) ⌝ }
 {
     if records::u16_at(bytes, at) != 8 {
@@ -276,7 +275,7 @@ fn read_set(
 
 fn read_watch(bytes: &[u8], at: usize, count: usize, signs: &[usize]) -> Record
     requires { ⌜ (isBroken (now bytes) at ≡ false) × (count ≤ length (now signs)) ⌝ }
-    ensures { λ r. ⌜ ((ws : List ℕ) → ReadsBody ws (take count (now (signs .entry))) watchKind (now (bytes .entry)) at r) ⌝ }
+    ensures { λ r. ⌜ ((ws : List ℕ) → ReadsBody ws (take count (now (signs .entry))) 9 (now (bytes .entry)) at r) ⌝ }
 {
     if records::u16_at(bytes, at) != 8 {
         return Record::Refused(6);
@@ -314,13 +313,13 @@ pub fn read_record<'a>(
     }
     let kind = records::u16_at(bytes, at + 2);
     match kind {
-        1..=8 => {
+        9 => read_watch(bytes, at, count, signs),
+        1..=9 => {
             if MAX_NODES <= count {
                 return Record::Refused(5);
             }
             read_node(kind, bytes, at, count, widths)
         }
-        9 => read_watch(bytes, at, count, signs),
         _ => Record::Refused(4),
     }
 }
@@ -328,7 +327,7 @@ pub fn read_record<'a>(
 // The operation of kind 6, 7 or 8.
 fn set_operation(kind: usize) -> SetOperation
     requires { ⌜ (6 ≤ kind) × (kind ≤ 8) ⌝ }
-    ensures { λ r. ⌜ kindNumbered kind ≡ setKind (operationOf r) ⌝ }
+    ensures { λ r. ⌜ kind ≡ setKind r ⌝ }
 {
     match kind {
         6 => SetOperation::Union,
@@ -339,8 +338,8 @@ fn set_operation(kind: usize) -> SetOperation
 
 // The record of a node, by its kind.
 fn read_node(kind: usize, bytes: &[u8], at: usize, count: usize, widths: &[usize]) -> Record
-    requires { ⌜ (1 ≤ kind) × (kind ≤ 8) × (isBroken (now bytes) at ≡ false) × (count ≤ length (now widths)) × Narrow (now widths) ⌝ }
-    ensures { λ r. ⌜ ((signs : List ℕ) → ReadsBody (take count (now (widths .entry))) signs (kindNumbered kind) (now (bytes .entry)) at r) ⌝ }
+    requires { ⌜ (1 ≤ kind) × (kind ≤ 9) × (kind ≡ 9 → ⊥) × (isBroken (now bytes) at ≡ false) × (count ≤ length (now widths)) × Narrow (now widths) ⌝ }
+    ensures { λ r. ⌜ ((signs : List ℕ) → ReadsBody (take count (now (widths .entry))) signs kind (now (bytes .entry)) at r) ⌝ }
 {
     match kind {
         1 => read_table(bytes, at),

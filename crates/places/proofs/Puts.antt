@@ -9,8 +9,8 @@ use lib.ListN.{length, drop, replicate, length-append, length-replicate, length-
 use Rattle.model.specs.Row.{Row, Relation, ascending, insertRow, setOf}
 use Rattle.model.specs.Areas.{padded}
 use Rattle.model.proofs.Sets.{Ascending, ascending-true, asc-insert, setOf-ascending, insert-more}
-use Rattle.rows.specs.Rows.{rowAt, rowsFrom, firstRows, words, stored}
-use Rattle.rows.proofs.Words.{Wide, wide-rows, wide-insert, length-words, rows-cons, rows-none, rows-stored}
+use Rattle.rows.specs.Rows.{rowAt, rowsFrom, firstRows, words, stored, Wide}
+use Rattle.rows.proofs.Words.{wide-rows, wide-insert, length-words, rows-cons, rows-none, rows-stored}
 use Rattle.rows.proofs.Padding.{wide-setOf, map-append, setOf-padded}
 use Rattle.rows.proofs.Place.{wide-append, length-map-padded}
 use Rattle.places.specs.Places.{relationIn, Place, Blank, Fills, Stands, Stored, insertAll}

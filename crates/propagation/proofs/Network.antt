@@ -8,7 +8,7 @@ use mathlib.Core.Bool.{Bool, true, false, not, cond, _||_}
 use borrow.Author.Tests.{ltb-true, ltb-false, eqb-true, eqb-false}
 use native.Mathlib.Omega.{arith}
 use native.Mathlib.Nat.{le-refl, not-suc-le-zero, zero-add}
-use Rattle.model.specs.Network.{Node, AllFit, widths, nodeAt, isTable, table}
+use Rattle.model.specs.Network.{Node, AllFit, widths, nodeAt, isTable, table, leftOf, rightOf, evaluateOn}
 use Rattle.network.specs.declared.Network.{Network}
 use Rattle.model.specs.Record.{Bytes, Verdict, refused, offsets}
 use Rattle.propagation.specs.Propagated.{Ready, tablesAfter, newRows, changedIn, limitVerdict, Propagates}
@@ -32,13 +32,12 @@ use Rattle.states.proofs.Tables.{Tables, actAll-tables, all-under, first-over}
 use Rattle.model.specs.Batch.{readBatch}
 use Rattle.states.proofs.Batches.{batch-good}
 use Rattle.states.proofs.Fitted.{tables-fit, only-length}
-use Rattle.rows.proofs.Words.{Wide}
+use Rattle.rows.specs.Rows.{Wide}
 use Rattle.propagation.proofs.News.{new-wide, new-asc, new-table, new-derived, new-length}
 use Rattle.model.proofs.Sets.{Ascending, ascending-true}
 use Rattle.working.proofs.Differ.{fills-place}
 use Rattle.network.specs.declared.Slot.{Slot}
 use Rattle.tables.proofs.Acts.{accepted-folds, acts-fold}
-use Rattle.evaluation.specs.Derived.{leftOf, rightOf, evaluateOn}
 use Rattle.tables.specs.Fold.{foldRows}
 use Rattle.evaluation.proofs.Fresh.{tables-at}
 

@@ -9,15 +9,15 @@ use native.Mathlib.Omega.{arith}
 use native.Mathlib.Nat.{not-suc-le-zero, le-refl}
 use Rattle.model.specs.Row.{Relation}
 use Rattle.model.proofs.Sets.{Ascending, ascending-holds}
-use Rattle.model.specs.Network.{Node, AllFit, nodeAt, isTable, widths}
+use Rattle.model.specs.Network.{Node, AllFit, nodeAt, isTable, widths, leftOf, rightOf, evaluateOn}
 use Rattle.propagation.specs.Propagated.{propagated, nextOf, changedIn}
 use Rattle.model.proofs.Build.{length-build, build-at, length-evaluate}
 use Rattle.model.specs.Evaluation.{rowsAt, evaluate}
-use Rattle.evaluation.specs.Derived.{leftOf, rightOf, evaluateOn}
 use Rattle.evaluation.proofs.Fresh.{givenBy, inputs-before, width-at, columns-fit, fresh-derived, fresh-table}
 use Rattle.states.specs.Fitting.{Fitting}
-use Rattle.states.proofs.Tables.{Tables, on-asc}
-use Rattle.rows.proofs.Words.{Wide}
+use Rattle.states.proofs.Tables.{Tables}
+use Rattle.model.proofs.ByKind.{on-asc}
+use Rattle.rows.specs.Rows.{Wide}
 use Rattle.model.proofs.Fits.{length-widths}
 use Rattle.evaluation.proofs.Inside.{on-wide}
 use Rattle.working.proofs.Differ.{same-flag}

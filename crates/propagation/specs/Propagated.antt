@@ -6,13 +6,12 @@ use Prim.Native.Nat.{ℕ}
 use lib.ListN.{length}
 use Rattle.model.specs.Row.{Relation, sameRows}
 use Rattle.model.specs.Record.{Bytes, Verdict, accepted, refused, isAccepted}
-use Rattle.model.specs.Network.{Node, build, isTable}
+use Rattle.model.specs.Network.{Node, build, isTable, leftOf, rightOf, evaluateOn}
 use Rattle.model.specs.Evaluation.{rowsAt, overfull}
 use Rattle.model.specs.Batch.{readBatch, actAll}
 use Rattle.model.specs.Areas.{tablesOf}
 use Rattle.network.specs.declared.Network.{Network}
 use Rattle.network.specs.Reading.{nodesOf}
-use Rattle.evaluation.specs.Derived.{leftOf, rightOf, evaluateOn}
 use Rattle.coherence.specs.Held.{Checkable, rowsHeld}
 use Rattle.working.specs.Working.{Working, WorkedTo}
 use Rattle.propagation.specs.declared.Propagated.{Propagated}

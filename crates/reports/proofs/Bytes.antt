@@ -7,7 +7,8 @@ use native.Mathlib.Nat.{add-comm, add-zero, mul-le-mul-right, suc-mul, zero-mul}
 use native.Mathlib.Omega.{arith}
 use lib.ListN.{getD, length, length-append}
 use Rattle.model.specs.Row.{Relation, Row, countFrom, numbersBelow}
-use Rattle.rows.proofs.Words.{Wide, length-fields}
+use Rattle.rows.specs.Rows.{Wide}
+use Rattle.rows.proofs.Words.{length-fields}
 use Rattle.reports.specs.Written.{allowedOf, recordsOf}
 use Rattle.model.specs.Record.{bytes16, bytes32}
 use Rattle.model.specs.Calls.{changeRecord, allowsGained, allowsLost, reportBytes}

@@ -10,10 +10,10 @@ use lib.Seq.{drop-at, length-take-le, slice, take-all}
 use lib.Dec.{leb}
 use borrow.Author.Tests.{le-leb}
 use Rattle.model.specs.Row.{Relation, Row, allOf, ascending}
-use Rattle.rows.proofs.Words.{Wide, length-rows, length-words, rows-words, wide-rows, words-rows}
+use Rattle.rows.specs.Rows.{Wide, firstRows, goodRows, words}
+use Rattle.rows.proofs.Words.{length-rows, length-words, rows-words, wide-rows, words-rows}
 use Rattle.model.specs.Areas.{allZero, goodPlace, heldIn, layout, padded, placeOf, unusedZero}
 use Rattle.model.proofs.Sets.{and-both, and-first, and-second}
-use Rattle.rows.specs.Rows.{firstRows, goodRows, words}
 use Rattle.rows.proofs.Place.{held-wide, length-held, length-map-padded, place-clean, place-reads, place-words, wide-padded, words-map, zeros-are, zeros-zero}
 use Rattle.rows.proofs.Form.{slice-part}
 use Rattle.rows.proofs.Padding.{unpadded}

@@ -11,7 +11,8 @@ use Rattle.model.specs.Row.{Row, Relation, andThen, order, isLess, sameRow, bel
 use Rattle.model.specs.Algebra.{unionRows, differenceRows, intersectRows}
 use Rattle.model.specs.Areas.{padded}
 use Rattle.model.proofs.Order.{order-refl}
-use Rattle.rows.proofs.Words.{Wide, wide-insert}
+use Rattle.rows.specs.Rows.{Wide}
+use Rattle.rows.proofs.Words.{wide-insert}
 use Rattle.rows.proofs.Place.{wide-append}
 
 -- one number more, at the place of the first zero

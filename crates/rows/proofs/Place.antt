@@ -13,8 +13,8 @@ use borrow.Author.Tests.{eqb-true, lt-ltb, le-ltb, ltb-true, ltb-false}
 use Rattle.model.specs.Row.{Row, Relation, allOf, countFrom, numbersBelow}
 use Rattle.model.specs.Areas.{Layout, placeWords, fields, rowStart, heldIn, allZero, unusedOf, unusedZero, padded, placeOf}
 use Rattle.model.proofs.Sets.{and-first, and-second, and-both}
-use Rattle.rows.specs.Rows.{rowAt, rowsFrom, words}
-use Rattle.rows.proofs.Words.{Wide, length-fields, words-append, words-rows, words-zeros, length-words, rows-words, rows-part}
+use Rattle.rows.specs.Rows.{rowAt, rowsFrom, words, Wide}
+use Rattle.rows.proofs.Words.{length-fields, words-append, words-rows, words-zeros, length-words, rows-words, rows-part}
 use Rattle.rows.proofs.Search.{row-at}
 
 -- ---- every number below another

@@ -11,9 +11,9 @@ use lib.Seq.{drop-at}
 use borrow.Author.Tests.{leb-false, leb-true}
 use Rattle.model.proofs.Sets.{Ascending, insert-more, insert-new, insert-present, delete-absent, delete-present}
 use Rattle.rows.specs.declared.Inserted.the-variants.{Full, New, Present}
-use Rattle.rows.specs.Rows.{Inserts, Standing, insertAnswer, stored, words, Removes}
+use Rattle.rows.specs.Rows.{Inserts, Standing, insertAnswer, stored, words, Removes, Wide}
 use Rattle.model.specs.Row.{Row, insertRow, member, deleteRow, sameRow}
-use Rattle.rows.proofs.Words.{Wide, length-words, stored-stored, wide-insert, drop-zeros, wide-keep, words-append}
+use Rattle.rows.proofs.Words.{length-words, stored-stored, wide-insert, drop-zeros, wide-keep, words-append}
 
 new-says : (t u : Bool) → New ≡ cond t Present (cond u Full New) → (t ≡ false) × (u ≡ false)
 new-says true u e = let z : _≡_ {A = ℕ} 0 1 = cc in absurd (omega arith)

@@ -4,7 +4,7 @@ use mathlib.Core.List.{List}
 use Prim.Native.Nat.{ℕ}
 use lib.ListN.{getD}
 use Rattle.model.specs.Algebra.{holdsOf, compareFields, selectConstant, selectColumns}
-use Rattle.model.specs.Evaluation.{evaluateSelect}
+use Rattle.model.specs.Network.{evaluateSelect}
 use Rattle.rows.proofs.Padding.{field-padded}
 use Rattle.nodes.specs.Nodes.{operandOf}
 use Rattle.nodes.specs.declared.Operand.{Operand}

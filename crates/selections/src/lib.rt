@@ -2,7 +2,7 @@
 ghost use mathlib.Core.Path.{_≡_};
 ghost use Prim.Native.Nat.{ℕ, _+_, _*_, _≤_, _<_};
 ghost use lib.ListN.{length};
-ghost use Rattle.model.specs.Evaluation.{evaluateSelect};
+ghost use Rattle.model.specs.Network.{evaluateSelect};
 ghost use Rattle.rows.specs.Rows.{stride, rowAt};
 ghost use Rattle.nodes.specs.Nodes.{operandOf};
 ghost use Rattle.places.specs.Places.{Place, Blank, relationIn, Fills};

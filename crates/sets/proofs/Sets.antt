@@ -13,8 +13,8 @@ use Rattle.model.specs.Areas.{padded}
 use Rattle.model.specs.Row.{Row, member}
 use Rattle.rows.proofs.Padding.{member-padded, union-padded, wide-setOf}
 use Rattle.rows.proofs.Place.{wide-append}
-use Rattle.rows.proofs.Words.{Wide, length-rows, words-rows}
-use Rattle.rows.specs.Rows.{rowsFrom, firstRows, words, stored}
+use Rattle.rows.specs.Rows.{Wide, rowsFrom, firstRows, words, stored}
+use Rattle.rows.proofs.Words.{length-rows, words-rows}
 use Rattle.places.proofs.Places.{place-rows, place-wide, rows-ascend, kept-fills}
 use Rattle.places.specs.Places.{relationIn, Place, Fills, Stands, insertAll, Kept}
 use Rattle.places.proofs.Puts.{putFrom, all-union}

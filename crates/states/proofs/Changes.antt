@@ -11,7 +11,8 @@ use Rattle.model.specs.Delta.{Change, changeAt, isChanged, netChange, netChange
 use Rattle.states.specs.Fitting.{Fitting}
 use Rattle.model.specs.Row.{Relation, Row, keep, keepIf, member, sameRow, isEmpty, sameRows}
 use Rattle.model.specs.Station.{stampOf}
-use Rattle.rows.proofs.Words.{Wide, wide-keep}
+use Rattle.rows.specs.Rows.{Wide}
+use Rattle.rows.proofs.Words.{wide-keep}
 use Rattle.model.proofs.Algebra.{asc-difference}
 use Rattle.model.specs.Algebra.{differenceRows}
 use Rattle.model.proofs.Order.{sameRow-refl}

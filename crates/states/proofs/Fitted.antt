@@ -19,7 +19,7 @@ use Rattle.model.specs.Delta.{Change}
 use Rattle.states.proofs.Tables.{Tables}
 use Rattle.model.proofs.Fits.{length-widths}
 use Rattle.evaluation.proofs.Fresh.{tables-at}
-use Rattle.rows.proofs.Words.{Wide}
+use Rattle.rows.specs.Rows.{Wide}
 use Rattle.places.specs.Places.{Place, relationIn}
 use Rattle.areas.specs.Lent.{placeAt}
 use Rattle.areas.proofs.Pasted.{place-long}

@@ -10,16 +10,16 @@ use lib.ListN.{drop, getD, length, length-set, set}
 use lib.Seq.{getD-set-other, getD-set-same}
 use lib.Dec.{ltb}
 use borrow.Author.Tests.{ltb-false, ltb-true, le-ltb, lt-ltb}
-use Rattle.model.specs.Network.{Node, AllFit, widths, nodeAt, isTable, Operand, SetOperation, column, constant, difference, intersection, join, project, select, setOperation, table, union}
+use Rattle.model.specs.Network.{Node, AllFit, widths, nodeAt, isTable, leftOf, rightOf}
 use Rattle.model.proofs.Sets.{Ascending, asc-delete, asc-insert}
 use Rattle.model.specs.Batch.{Event, act, actAll, put, remove}
 use Rattle.model.specs.Row.{Relation, deleteRow, insertRow, maxRows, sameRow}
-use Rattle.rows.proofs.Words.{Wide, wide-insert, wide-keep}
-use Rattle.model.proofs.Algebra.{asc-difference, asc-intersect, asc-join, asc-project, asc-selectColumns, asc-selectConstant, asc-union}
+use Rattle.rows.specs.Rows.{Wide}
+use Rattle.rows.proofs.Words.{wide-insert, wide-keep}
 use Rattle.evaluation.proofs.Fresh.{columns-fit, fresh-derived, fresh-table, givenBy, inputs-before, width-at}
-use Rattle.model.specs.Evaluation.{evaluate, evaluateSelect, evaluateSet, overfull, rowsAt}
-use Rattle.evaluation.specs.Derived.{evaluateOn, leftOf, rightOf}
+use Rattle.model.specs.Evaluation.{evaluate, overfull, rowsAt}
 use Rattle.evaluation.proofs.Inside.{on-wide}
+use Rattle.model.proofs.ByKind.{on-asc}
 use Rattle.model.specs.Areas.{tablesOf}
 
 pub record Tables (nodes : List Node) (tables : List Relation) : Type 0 where
@@ -29,26 +29,6 @@ pub record Tables (nodes : List Node) (tables : List Relation) : Type 0 where
   pub asc : (i : ℕ) → i < length nodes → Ascending (getD tables i [])
 
 -- ---- fresh evaluation
-
-asc-select : (c k : ℕ) (o : Operand) (l : Relation) → Ascending l → Ascending (evaluateSelect c k o l)
-unfolding evaluateSelect
-asc-select c k (constant v) l a = asc-selectConstant c k v l a
-asc-select c k (column x) l a = asc-selectColumns c k x l a
-
-asc-set : (o : SetOperation) (l r : Relation) → Ascending l → Ascending (evaluateSet o l r)
-unfolding evaluateSet
-asc-set union l r a = asc-union l r
-asc-set difference l r a = asc-difference l r a
-asc-set intersection l r a = asc-intersect l r a
-
--- what a node's kind gives ascends
-pub on-asc : (n : Node) (l r : Relation) → Ascending l → Ascending (evaluateOn n l r)
-unfolding evaluateOn
-on-asc (table w) l r a = tt
-on-asc (select i c k o) l r a = asc-select c k o l a
-on-asc (project i columns) l r a = asc-project columns l
-on-asc (join i j pairs columns) l r a = asc-join pairs columns l r
-on-asc (setOperation o i j) l r a = asc-set o l r a
 
 module _ (nodes : List Node) (fit : AllFit nodes) (tables : List Relation) (t : Tables nodes tables) where
   fine-to : (k : ℕ) → k ≤ length nodes → (i : ℕ) → i < k → Wide (getD (widths nodes) i 0) (rowsAt (evaluate nodes tables) i) × Ascending (rowsAt (evaluate nodes tables) i)

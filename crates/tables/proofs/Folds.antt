@@ -9,11 +9,11 @@ use lib.Seq.{take-all}
 use lib.Dec.{eqb}
 use borrow.Author.Tests.{eq-eqb, ne-eqb}
 use Rattle.model.specs.Record.{Bytes, u32, kindAt, fieldAt, isBroken, lengthAt, offsets}
-use Rattle.rows.proofs.Words.{fields-part, Wide, length-words, rows-stored, wide-insert, wide-keep, wide-rows}
+use Rattle.rows.proofs.Words.{fields-part, length-words, rows-stored, wide-insert, wide-keep, wide-rows}
+use Rattle.rows.specs.Rows.{Wide, words, rowAt, firstRows, stored}
 use Rattle.rows.proofs.Place.{length-padded}
 use Rattle.model.specs.Areas.{padded}
 use Rattle.rows.proofs.Padding.{padded-more}
-use Rattle.rows.specs.Rows.{words, rowAt, firstRows, stored}
 use Rattle.model.specs.Batch.{rowIn}
 use Rattle.model.specs.Row.{Row, deleteRow, insertRow, member, ascending, keep, sameRow}
 use Rattle.tables.specs.Fold.{Stands, actOn, Events, Foldable, Table, foldAt}

@@ -7,14 +7,15 @@ use native.Mathlib.Nat.{le-refl, zero-add}
 use lib.ListN.{length, take, length-map, getD}
 use lib.Seq.{ext-getD, getD-take, length-take-le, take-all}
 use Rattle.model.specs.Row.{Relation, numbersBelow}
-use Rattle.model.specs.Network.{AllFit, levels, widths}
+use Rattle.model.specs.Network.{AllFit, widths}
 use Rattle.network.specs.declared.Network.{Network}
 use Rattle.changes.specs.Written.{WorkedOut, filled, WritesNodes, gainedOf, lostOf}
 use Rattle.transition.specs.Head.{stampsFrom, headFrom}
 use Rattle.worklist.specs.Listed.{listedIn, listTo}
 use Rattle.worklist.proofs.Worked.{worked-are}
 use Rattle.network.specs.Reading.{nodesOf, Built}
-use Rattle.model.specs.Areas.{Areas, holdingRows, rowsIn, layout, padded, stampAt, goodArea, over, areaOf, batchNumber, stateIn, headOf, rowCount, gainedCount, lostCount, goodStamps, goodWorked}
+use Rattle.model.specs.Areas.{Areas, holdingRows, rowsIn, layout, padded, stampAt, goodArea, over, areaOf, batchNumber, stateIn, headOf, rowCount, gainedCount, lostCount, goodStamps}
+use Rattle.model.specs.Areas.{goodWorked}
 use Rattle.areas.specs.Lent.{lent}
 use Rattle.model.specs.Delta.{Change, netChanges, changeAt}
 use Rattle.coherence.proofs.Coherent.{nodes-count}

@@ -8,8 +8,8 @@ use native.Mathlib.Omega.{arith}
 use lib.Seq.{paste, take-take, take-at}
 use native.Mathlib.Nat.{zero-mul, zero-add}
 use Rattle.model.specs.Row.{Row, Relation}
-use Rattle.rows.specs.Rows.{words, stored, firstRows}
-use Rattle.rows.proofs.Words.{drop-zeros, words-rows, length-words, wide-rows, length-rows, Wide}
+use Rattle.rows.specs.Rows.{words, stored, firstRows, Wide}
+use Rattle.rows.proofs.Words.{drop-zeros, words-rows, length-words, wide-rows, length-rows}
 use Rattle.model.specs.Record.{Bytes, offsets}
 use Rattle.places.specs.Places.{Place, relationIn, Fills}
 use Rattle.areas.specs.Lent.{placeAt}

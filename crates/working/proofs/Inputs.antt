@@ -6,7 +6,7 @@ use mathlib.Core.Path.{_≡_, refl}
 use lib.ListN.{getD}
 use mathlib.Core.Bool.{true}
 use Rattle.working.specs.Working.{Working, presentPlace, Present, presentRows}
-use Rattle.evaluation.specs.Derived.{leftOf, rightOf, fitsOn}
+use Rattle.model.specs.Network.{leftOf, rightOf, fitsOn}
 use Rattle.network.specs.Reading.{slotNode}
 use Rattle.places.specs.Places.{Place, relationIn}
 use Rattle.network.specs.declared.Slot.{Slot}

@@ -14,19 +14,18 @@ use Rattle.working.specs.Working.{Working, Workable, oldRows, Present, p
 use Rattle.places.specs.Places.{Place, Fills, relationIn}
 use Rattle.areas.specs.Lent.{placeAt}
 use Rattle.model.specs.Areas.{rowCount, layout, placeOf}
-use Rattle.rows.proofs.Words.{Wide}
+use Rattle.rows.specs.Rows.{Wide}
 use Rattle.places.proofs.Places.{place-wide, place-ascending, place-few, place-is}
 use Rattle.model.proofs.Sets.{Ascending, ascending-holds, sameRows-refl}
 use Rattle.tables.specs.Fold.{foldRows}
-use Rattle.evaluation.specs.Derived.{evaluateOn, leftOf, rightOf}
+use Rattle.model.specs.Network.{evaluateOn, leftOf, rightOf, widths}
 use Rattle.network.specs.Reading.{slotNode}
 use Rattle.tables.proofs.Acts.{fold-wide, fold-asc}
 use Rattle.coherence.specs.Held.{Derived}
-use Rattle.evaluation.proofs.Inside.{width-on, on-wide}
-use Rattle.states.proofs.Tables.{on-asc}
+use Rattle.evaluation.proofs.Inside.{on-wide}
+use Rattle.model.proofs.ByKind.{on-asc}
 use Rattle.rows.proofs.Place.{length-held}
 use Rattle.model.specs.Row.{place, sameRows, Relation}
-use Rattle.model.specs.Network.{widths}
 use Rattle.working.proofs.Differ.{fills-place}
 
 module _ (slot : Slot) (level : ℕ) (bs : Bytes) (head : List ℕ) (m : Working) (i : ℕ) (can : Workable slot level bs head m i) where
@@ -59,7 +58,7 @@ module _ (slot : Slot) (level : ℕ) (bs : Bytes) (head : List ℕ) (m : Working
       go false e =
           let n : level ≡ 0 → ⊥ = eqb-false level 0 e in
           let d : Derived slot (m .widths) i = can .derived n in (
-            rw (d .width ∙ width-on (slotNode slot) (m .widths) (d .derived))
+            rw (d .width)
                 (on-wide (getD (m .widths) (leftOf (slotNode slot)) 0) (getD (m .widths) (rightOf (slotNode slot)) 0) (slotNode slot) (presentRows m (leftOf (slotNode slot)))
                 (presentRows m (rightOf (slotNode slot))) (d .derived) (d .fits) (present-wide (leftOf (slotNode slot)) (can .left n))
                 (present-wide (rightOf (slotNode slot)) (can .right n))),

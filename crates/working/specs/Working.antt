@@ -14,7 +14,7 @@ use Rattle.network.specs.declared.Slot.{Slot}
 use Rattle.network.specs.Reading.{slotNode}
 use Rattle.areas.specs.Lent.{placeAt}
 use Rattle.places.specs.Places.{Place, relationIn}
-use Rattle.evaluation.specs.Derived.{leftOf, rightOf, evaluateOn}
+use Rattle.model.specs.Network.{leftOf, rightOf, evaluateOn}
 use Rattle.coherence.specs.Held.{heldAt, Derived}
 use Rattle.tables.specs.Fold.{Foldable, foldRows}
 use Rattle.worklist.specs.Listed.{inputChanged}

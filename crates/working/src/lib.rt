@@ -9,7 +9,7 @@ ghost use Rattle.model.specs.Record.{offsets};
 ghost use Rattle.places.specs.Places.{Place, Blank, relationIn, Makes};
 ghost use Rattle.network.specs.Reading.{slotNode, Shaped};
 ghost use Rattle.areas.specs.Lent.{placeAt};
-ghost use Rattle.evaluation.specs.Derived.{leftOf, rightOf, evaluateOn, fitsOn};
+ghost use Rattle.model.specs.Network.{leftOf, rightOf, evaluateOn, fitsOn};
 ghost use Rattle.tables.specs.Fold.{Foldable, foldRows};
 ghost use Rattle.working.specs.Working.{working, Sized, Present, presentRows, mustWork, workedRows, nextRows};
 ghost use Rattle.working.specs.Working.{Workable, WorksNode, Puts};

@@ -1,6 +1,6 @@
 -- The list that is made is the order's worked list. Assumes nothing.
 use Prim.Native.Nat.{ℕ, _≤_, _<_, _+_, zero, suc}
-use mathlib.Core.Bool.{Bool, _||_, false, true, true≢false, cond, _&&_}
+use mathlib.Core.Bool.{Bool, _||_, false, true, cond, _&&_}
 use mathlib.Core.Path.{_≡_, refl, ap₂, sym, _∙_, ap}
 use mathlib.Core.List.{List, flatMap, _∷_, _++_, []}
 use native.Mathlib.Nat.{le-refl}
@@ -10,14 +10,14 @@ use lib.Seq.{getD-take}
 use lib.Dec.{eqb}
 use borrow.Author.Tests.{eqb-true, eqb-false}
 use Rattle.model.specs.Row.{keep, countFrom, keepIf, someOf, numbersBelow}
-use Rattle.model.specs.Network.{table, Node, isTable, inputsOf, select, project, join, setOperation, AllFit, levels, nodeAt}
+use Rattle.model.specs.Network.{Node, isTable, inputsOf, AllFit, levels, nodeAt, leftOf, rightOf}
 use Rattle.model.specs.Delta.{Change, changeAt, isChanged}
 use Rattle.model.specs.Station.{hasChangedInput, workedList, workedAtLevel}
 use Rattle.network.specs.declared.Network.{Network}
 use Rattle.network.specs.Reading.{nodesOf, Built, slotNode, noSlot}
-use Rattle.evaluation.specs.Derived.{leftOf, rightOf}
 use Rattle.coherence.specs.Held.{Derived}
 use Rattle.coherence.proofs.Coherent.{nodes-count, slot-node, level-table, level-derived}
+use Rattle.model.proofs.Inputs.{inputs-none, inputs-some}
 use Rattle.worklist.specs.Listed.{inputChanged, listedIn, listTo, levelList, isOfLevel}
 
 keep-same : (p q : ℕ → Bool) (from n : ℕ) → ((i : ℕ) → from ≤ i → i < from + n → p i ≡ q i) → keep p (countFrom from n) ≡ keep q (countFrom from n)
@@ -29,30 +29,6 @@ flat-same : (f g : ℕ → List ℕ) (l : List ℕ) → ((x : ℕ) → f x ≡ g
 unfolding flatMap
 flat-same f g [] h = refl
 flat-same f g (x ∷ l) h = ap₂ {A = List ℕ} {B = List ℕ} {C = List ℕ} (λ a b. a ++ b) (h x) (flat-same f g l h)
-
-or-self : (t : Bool) → (t || false) ≡ (t || t)
-or-self true = refl
-or-self false = refl
-
-or-none : (s t : Bool) → (s || (t || false)) ≡ (s || t)
-or-none true t = refl
-or-none false true = refl
-or-none false false = refl
-
--- a derived node's inputs are its first and its second
-inputs-some : (n : Node) (p : ℕ → Bool) → isTable n ≡ false → someOf p (inputsOf n) ≡ (p (leftOf n) || p (rightOf n))
-inputs-some (table w) p e = absurd (true≢false e)
-inputs-some (select i c k o) p e = or-self (p i)
-inputs-some (project i columns) p e = or-self (p i)
-inputs-some (join l r pairs columns) p e = or-none (p l) (p r)
-inputs-some (setOperation o l r) p e = or-none (p l) (p r)
-
-inputs-none : (n : Node) (p : ℕ → Bool) → isTable n ≡ true → someOf p (inputsOf n) ≡ false
-inputs-none (table w) p e = refl
-inputs-none (select i c k o) p e = absurd (true≢false (sym e))
-inputs-none (project i columns) p e = absurd (true≢false (sym e))
-inputs-none (join l r pairs columns) p e = absurd (true≢false (sym e))
-inputs-none (setOperation o l r) p e = absurd (true≢false (sym e))
 
 -- marks that say which nodes' changes are not empty
 module _ (net : Network) (b : Built net) (fit : AllFit (nodesOf net)) (changes : List Change) (changed : List Bool)

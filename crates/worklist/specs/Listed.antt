@@ -8,7 +8,7 @@ use Rattle.model.specs.Row.{keep, numbersBelow}
 use Rattle.network.specs.declared.Network.{Network}
 use Rattle.network.specs.declared.Slot.{Slot}
 use Rattle.network.specs.Reading.{slotNode, noSlot}
-use Rattle.evaluation.specs.Derived.{leftOf, rightOf}
+use Rattle.model.specs.Network.{leftOf, rightOf}
 
 -- a derived node has an input that changed
 abbrev pub inputChanged : Slot → List Bool → Bool

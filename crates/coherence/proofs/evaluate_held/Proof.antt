@@ -11,7 +11,7 @@ use Rattle.coherence.proofs.evaluate_held.Statement.{statement}
 use Rattle.coherence.specs.Held.{Derived, Places, heldAt}
 use Rattle.places.specs.Places.{Place, relationIn}
 use Rattle.network.specs.declared.Slot.{Slot}
-use Rattle.evaluation.specs.Derived.{fitsOn, leftOf, rightOf}
+use Rattle.model.specs.Network.{fitsOn, leftOf, rightOf}
 use Rattle.coherence.proofs.Placed.{held-at, place-at}
 use Rattle.model.specs.Areas.{rowCount}
 use Rattle.network.specs.Reading.{slotNode}

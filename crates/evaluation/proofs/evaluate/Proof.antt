@@ -3,20 +3,13 @@ use lib.ListN.{take}
 use borrow.Author.Needs.{needs}
 use Rattle.evaluation.proofs.evaluate.Statement.{statement}
 use Rattle.joins.proofs.Rows.{columns-more}
-use Rattle.evaluation.specs.Derived.{evaluateOn}
-use Rattle.model.specs.Evaluation.{evaluateSet}
+use Rattle.model.specs.Network.{evaluateOn, evaluateSet}
 use Rattle.evaluation.proofs.Inside.{fills-none, join-fits, join-inside, operand-narrow, project-inside, select-inside, set-inside}
 use Rattle.model.specs.Algebra.{joinRows, projectRows}
 use Rattle.nodes.specs.Nodes.{operationOf, pairsOf}
 use Rattle.places.proofs.Places.{place-few}
 use Rattle.rows.specs.Rows.{stride}
 use Rattle.evaluation.proofs.evaluate.Tie as tie
-use Rattle.evaluation.proofs.evaluate.Reads as reads
-use Rattle.evaluation.proofs.evaluate.Lts as lts
-use Rattle.joins.proofs.join_rows.Reads as join-rows-reads
-use Rattle.joins.proofs.project_rows.Reads as project-rows-reads
-use Rattle.selections.proofs.select_rows.Reads as select-rows-reads
-use Rattle.evaluation.proofs.set_rows.Reads as set-rows-reads
 
 enum-told : tie.Need-enum-told
 enum-told c = search needs

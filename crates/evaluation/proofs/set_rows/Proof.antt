@@ -1,14 +1,9 @@
 use borrow.Author.Needs.{needs}
 use Rattle.evaluation.proofs.set_rows.Statement.{statement}
-use Rattle.model.specs.Evaluation.{evaluateSet}
+use Rattle.model.specs.Network.{evaluateSet}
 use native.Mathlib.Omega.{arith}
 use Rattle.places.proofs.Places.{place-few, rows-ascend}
 use Rattle.evaluation.proofs.set_rows.Tie as tie
-use Rattle.evaluation.proofs.set_rows.Reads as reads
-use Rattle.evaluation.proofs.set_rows.Lts as lts
-use Rattle.sets.proofs.difference_rows.Reads as difference-rows-reads
-use Rattle.sets.proofs.intersect_rows.Reads as intersect-rows-reads
-use Rattle.sets.proofs.union_rows.Reads as union-rows-reads
 
 enum-told : tie.Need-enum-told
 enum-told c = search needs

@@ -1,5 +1,4 @@
 use lib.ListN.{take}
-use Rattle.model.specs.Network.{kindNumbered}
 use Rattle.nodes.proofs.ByKind.{as-kind}
 use native.Mathlib.Omega.{arith}
 use borrow.Author.Needs.{needs}
@@ -37,27 +36,22 @@ read-set-requires : tie.Need-read-set-requires
 read-set-requires c κs = search needs
 
 returns : tie.Need-returns
-unfolding kindNumbered
 returns c = let a = c .before .before .before .before .args in λ signs. as-kind (a .kind) 1 (c .before .match .keys1) (c .read-table .ensures (take (a .count) (a .widths .now)) signs)
 
 returns-2 : tie.Need-returns-2
-unfolding kindNumbered
 returns-2 c = let a = c .before .before .before .before .args in λ signs. as-kind (a .kind) 2 (c .before .match .keys2) (c .read-select-constant .ensures signs)
 
 returns-3 : tie.Need-returns-3
-unfolding kindNumbered
 returns-3 c = let a = c .before .before .before .before .args in λ signs. as-kind (a .kind) 3 (c .before .match .keys3) (c .read-select-column .ensures signs)
 
 returns-4 : tie.Need-returns-4
-unfolding kindNumbered
 returns-4 c = let a = c .before .before .before .before .args in λ signs. as-kind (a .kind) 4 (c .before .match .keys4) (c .read-project .ensures signs)
 
 returns-5 : tie.Need-returns-5
-unfolding kindNumbered
 returns-5 c = let a = c .before .before .before .before .args in λ signs. as-kind (a .kind) 5 (c .before .match .keys5) (c .read-join .ensures signs)
 
 returns-6 : tie.Need-returns-6
-returns-6 c = let a = c .before .before .before .before .before .args in λ signs. rw (c .before .set-operation .ensures) (c .read-set .ensures signs)
+returns-6 c = let a = c .before .before .before .before .before .args in λ signs. as-kind (a .kind) _ (c .before .set-operation .ensures) (c .read-set .ensures signs)
 
 pub read-node-spec : {M : Type 1} → statement M
 read-node-spec =

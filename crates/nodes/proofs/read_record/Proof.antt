@@ -35,13 +35,14 @@ returns-2 c =
     let a = c .before .before .before .before .before .before .before .before .before .before .args in
     record-5 (take (a .count) (a .widths .now)) (take (a .count) (a .signs .now)) (a .bytes .now) (a .at)
     (sym (c .before .before .before .before .before .before .is-broken .ensures) ∙ c .before .before .before .before .before .if1 .left)
-    (c .before .before .before .before .u16-at .result) (c .before .before .before .before .u16-at .ensures .is) (omega arith) (omega arith)
+    (c .before .before .before .before .u16-at .result) (c .before .before .before .before .u16-at .ensures .is) (omega arith) (omega arith) (λ e. omega arith)
     (rw (length-take-le (a .count) (a .widths .now) (c .before .before .before .before .before .before .before .before .before .before .pre .1)) (c .if4 .taken))
 
 read-node-requires : tie.Need-read-node-requires
 read-node-requires c κs = (
   omega arith,
   omega arith,
+  λ e. omega arith,
   sym (c .before .before .before .before .before .before .is-broken .ensures) ∙ c .before .before .before .before .before .if1 .left,
   c .before .before .before .before .before .before .before .before .before .before .pre .1,
   c .before .before .before .before .before .before .before .before .before .before .pre .3,
@@ -60,7 +61,7 @@ returns-4 c =
     let a = c .before .before .before .before .before .before .before .before .before .before .before .args in
     record-node (take (a .count) (a .widths .now)) (take (a .count) (a .signs .now)) (a .bytes .now) (a .at)
     (sym (c .before .before .before .before .before .before .before .is-broken .ensures) ∙ c .before .before .before .before .before .before .if1 .left)
-    (c .before .before .before .before .before .u16-at .result) (c .before .before .before .before .before .u16-at .ensures .is) (c .read-node .result) (omega arith) (omega arith)
+    (c .before .before .before .before .before .u16-at .result) (c .before .before .before .before .before .u16-at .ensures .is) (omega arith) (omega arith) (λ e. omega arith) (c .read-node .result)
     (rw (length-take-le (a .count) (a .widths .now) (c .before .before .before .before .before .before .before .before .before .before .before .pre .1)) (c .before .if4 .left))
     (c .read-node .ensures (take (a .count) (a .signs .now)))
 

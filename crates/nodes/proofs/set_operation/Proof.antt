@@ -1,5 +1,4 @@
 use mathlib.Core.Path.{_≡_}
-use Rattle.model.specs.Network.{kindNumbered}
 use native.Mathlib.Omega.{arith}
 use Rattle.nodes.proofs.set_operation.Statement.{statement}
 use Rattle.nodes.proofs.set_operation.Tie as tie
@@ -7,15 +6,12 @@ use Rattle.nodes.proofs.set_operation.Reads as reads
 use Rattle.nodes.proofs.set_operation.Lts as lts
 
 returns : tie.Need-returns
-unfolding kindNumbered
 returns c = rw (c .match .keys1)
 
 returns-2 : tie.Need-returns-2
-unfolding kindNumbered
 returns-2 c = rw (c .match .keys2)
 
 returns-3 : tie.Need-returns-3
-unfolding kindNumbered
 returns-3 c = let e : c .before .args .kind ≡ 8 = omega arith in rw e
 
 pub set-operation-spec : {M : Type 1} → statement M
