@@ -1,13 +1,13 @@
 -- Rows of a width in words of a stride: zeros past the width, and strictly ascending, one row at a time. For any width and stride. Assumes nothing.
 use mathlib.Core.Path.{_≡_, refl, ap, _∙_}
 use mathlib.Core.Bool.{Bool, true, false, _&&_}
-use mathlib.Core.List.{List, _∷_, map, append-nil}
+use mathlib.Core.List.{List, _∷_, map}
 use Prim.Native.Nat.{ℕ, suc, _+_, _-_, _*_, _≤_, _<_, Ordering}
 use native.Mathlib.Nat.{suc-mul, mul-le-mul-right}
 use native.Mathlib.Omega.{arith}
 use native.Mathlib.Numerals.{add-one}
-use lib.ListN.{length, take, drop, drop-of-length-le}
-use lib.Seq.{slice, paste, take-take, take-add, drop-drop, drop-at, length-take-le}
+use lib.ListN.{length, take, drop}
+use lib.Seq.{slice, take-take, take-add, drop-drop, drop-at, length-take-le}
 use Rattle.model.specs.Row.{Row, order, isLess, belowFirst, ascending, allOf}
 use Rattle.model.specs.Areas.{fields, allZero}
 use Rattle.rows.specs.Rows.{rowAt, rowsFrom, goodRow, goodRows}
@@ -23,10 +23,6 @@ take-fields w n s at h g = rw (fields-part n s at g, fields-part w s at (omega a
 
 pub drop-fields : (w n : ℕ) (s : List ℕ) (at : ℕ) → at + n ≤ length s → drop w (fields n s at) ≡ slice (at + w) (at + n) s
 drop-fields w n s at g = rw (fields-part n s at g, ← (slice-part at n s g)) (drop-drop w at (take (at + n) s))
-
--- the first words of a copy are the words copied
-pub paste-whole : (d s : List ℕ) (n : ℕ) → length d ≡ n → paste d 0 s n ≡ take n s
-paste-whole d s n e = rw (drop-of-length-le d {i = 0 + n} (omega arith)) (append-nil (take n s))
 
 -- ---- one row
 

@@ -4,7 +4,7 @@ ghost use mathlib.Core.Bool.{true, false};
 ghost use mathlib.Core.List.{_++_};
 ghost use Prim.Native.Nat.{_+_, _*_, _-_, _<_, _≤_};
 ghost use lib.ListN.{length, take, drop};
-ghost use lib.Seq.{paste, slice};
+ghost use lib.Seq.{slice};
 ghost use Rattle.model.specs.Row.{order, ascending};
 ghost use Rattle.model.specs.Areas.{fields};
 ghost use Rattle.rows.specs.Rows.{stride, rowAt, firstRows, orderOf, rowsFrom, locate, Inserts, Removes, goodRow, goodRows};
@@ -32,7 +32,7 @@ pub enum Inserted {
 }
 
 // How count words of a from index i on compare with those of b from index j on.
-pub fn compare_fields(a: &[u32], i: usize, b: &[u32], j: usize, count: usize) -> Order
+fn compare_fields(a: &[u32], i: usize, b: &[u32], j: usize, count: usize) -> Order
     requires { ⌜ (i + count ≤ length (now a)) × (j + count ≤ length (now b)) ⌝ }
     ensures { λ r. ⌜ orderOf r ≡ order (fields count (now (a .entry)) i) (fields count (now (b .entry)) j) ⌝ }
 {
@@ -52,29 +52,11 @@ pub fn compare_fields(a: &[u32], i: usize, b: &[u32], j: usize, count: usize) ->
 }
 
 // How row i of a compares with row j of b.
-pub fn compare_rows(a: &[u32], i: usize, b: &[u32], j: usize) -> Order
+fn compare_rows(a: &[u32], i: usize, b: &[u32], j: usize) -> Order
     requires { ⌜ (i * stride + stride ≤ length (now a)) × (j * stride + stride ≤ length (now b)) ⌝ }
     ensures { λ r. ⌜ orderOf r ≡ order (rowAt stride (now (a .entry)) i) (rowAt stride (now (b .entry)) j) ⌝ }
 {
     compare_fields(a, i * STRIDE, b, j * STRIDE, STRIDE)
-}
-
-// Row j of some words, by value.
-pub fn read_row(words: &[u32], j: usize) -> [u32; STRIDE]
-    requires { ⌜ j * stride + stride ≤ length (now words) ⌝ }
-    ensures { λ r. ⌜ r ≡ rowAt stride (now (words .entry)) j ⌝ }
-{
-    let mut row = [0u32; STRIDE];
-    words::copy_run(words, j * STRIDE, &mut row, 0, STRIDE);
-    row
-}
-
-// A row by value, written to row j of some words.
-pub fn write_row(words: &mut [u32], j: usize, row: [u32; STRIDE])
-    requires { ⌜ j * stride + stride ≤ length (now words) ⌝ }
-    ensures { λ _. ⌜ now (words .exit) ≡ paste (now (words .entry)) (j * stride) row stride ⌝ }
-{
-    words::copy_run(&row, 0, words, j * STRIDE, STRIDE);
 }
 
 // Where row at of src stands among the first n rows, which ascend, or where it belongs.
