@@ -1,39 +1,12 @@
 // The C interface: each function is one call of the monitor.
 ghost use mathlib.Core.Path.{_≡_};
-ghost use Prim.Native.Nat.{_+_, _≤_, _<_};
-ghost use lib.ListN.{length};
-ghost use lib.Seq.{sets};
-ghost use Rattle.model.specs.Record.{refused, SmallVerdict};
 ghost use Rattle.model.specs.Calls.{openCall, checkCall, reportCall};
 ghost use Rattle.areas.specs.Lent.{lent};
-ghost use Rattle.bagwezin.specs.Answers.{half, Answers, AnswersCheck, AnswersReport, FitWords, Applies, readVerdict, readAfter};
-
-// The number in the upper 32 bits; below it the value, or beside a refusal the place.
-fn pack(number: usize, place: usize, value: usize) -> u64
-    requires { ⌜ SmallVerdict (refused number place) × (value < half) ⌝ }
-    ensures { λ r. ⌜ Answers (refused number place) value r ⌝ }
-{
-    if number == 0 {
-        return value as u64;
-    }
-    (number * 4294967296 + place) as u64
-}
+ghost use Rattle.packing.specs.Packing.{Answers};
+ghost use Rattle.bagwezin.specs.Answers.{AnswersCheck, AnswersReport, Applies, readVerdict, readAfter};
 
 // How many words the reader's answer takes.
 const WORDS: usize = 97;
-
-// Numbers written as words, from an index on.
-fn write_list(answer: &mut [u32], at: usize, list: &[usize])
-    requires { ⌜ (at + length (now list) ≤ length (now answer)) × FitWords (now list) ⌝ }
-    ensures { λ _. ⌜ now (answer .exit) ≡ sets (now (answer .entry)) at (now (list .entry)) ⌝ }
-{
-    let n = list.len();
-    let mut k = 0;
-    while k < n {
-        answer[at + k] = list[k] as u32;
-        k += 1;
-    }
-}
 
 // Opens the areas for a network: refusals 1 to 7, or 0.
 #[no_mangle]
@@ -56,7 +29,7 @@ pub extern "C" fn bagwezin_open(
         ⌝ }
 {
     let v = opening::open(net, rows, gained, lost, head);
-    pack(v.number, v.place, 0)
+    packing::pack(v.number, v.place, 0)
 }
 
 // Applies a batch: refusals 1 to 14, or 0.
@@ -79,7 +52,7 @@ pub extern "C" fn bagwezin_apply(
         ⌝ }
 {
     let v = applying::apply(net, batch, rows, gained, lost, head);
-    pack(v.number, v.place, 0)
+    packing::pack(v.number, v.place, 0)
 }
 
 // Whether the areas are coherent: refusals 1 to 8, or 1 for yes and 0 for no.
@@ -98,7 +71,7 @@ pub extern "C" fn bagwezin_check(
         ⌝ }
 {
     let v = checking::check(net, rows, gained, lost, head);
-    pack(v.number, v.place, v.yes as usize)
+    packing::pack(v.number, v.place, v.yes as usize)
 }
 
 // The report of a node: refusals 1 to 8, 15 and 16, or its length.
@@ -125,7 +98,7 @@ pub extern "C" fn bagwezin_report(
         ⌝ }
 {
     let v = reporting::report(net, node as usize, rows, gained, lost, head, out);
-    pack(v.number, v.place, v.size)
+    packing::pack(v.number, v.place, v.size)
 }
 
 // The reader's answer in 97 words: refusal 1 where they are not lent, then 2 to 7, or 0.
@@ -135,19 +108,12 @@ pub extern "C" fn bagwezin_read(net: &[u8], answer: &mut [u32]) -> u64
     ensures words { λ _. ⌜ now (answer .exit) ≡ readAfter (now (net .entry)) (now (answer .entry)) ⌝ }
 {
     if answer.len() < WORDS {
-        return pack(1, 0, 0);
+        return packing::pack(1, 0, 0);
     }
     let read = network::read(net);
     if read.number != 0 {
-        return pack(read.number, read.place, 0);
+        return packing::pack(read.number, read.place, 0);
     }
-    let first = [read.count];
-    let kinds = read.kinds;
-    let widths = read.widths;
-    let levels = read.levels;
-    write_list(answer, 0, &first);
-    write_list(answer, 1, &kinds);
-    write_list(answer, 33, &widths);
-    write_list(answer, 65, &levels);
-    pack(0, 0, 0)
+    packing::write_answer(answer, read);
+    packing::pack(0, 0, 0)
 }

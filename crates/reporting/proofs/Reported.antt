@@ -108,6 +108,7 @@ module _ (net : Bytes) (node : ℕ) (rows gained lost head out : List ℕ) (r : 
   unfolding reportIn reportOf changesIn
   without-rows n = refl
 
-  pub report-known : r .verdict .number ≡ 0 → reportIn (networkOf (r .network)) node (lent [] gained lost head) out ≡ reportCall net node (lent rows gained lost head) out
+  pub report-known : r .verdict .number ≡ 0 → (x : ReportAnswer) → x ≡ reportIn (networkOf (r .network)) node (lent [] gained lost head) out →
+      x ≡ reportCall net node (lent rows gained lost head) out
   unfolding reportCall
-  report-known z = without-rows (networkOf (r .network)) ∙ sym (after-admitted net rows gained lost head r f z answer refusal)
+  report-known z x k = k ∙ without-rows (networkOf (r .network)) ∙ sym (after-admitted net rows gained lost head r f z answer refusal)

@@ -7,7 +7,7 @@ use Rattle.model.proofs.Bounds.{ByteList, applied-small}
 use Rattle.bagwezin.proofs.bagwezin_apply.Tie as tie
 use Rattle.bagwezin.proofs.bagwezin_apply.Reads as reads
 use Rattle.bagwezin.proofs.bagwezin_apply.Lts as lts
-use Rattle.bagwezin.proofs.pack.Reads as pack-reads
+use Rattle.packing.proofs.pack.Reads as pack-reads
 use Rattle.applying.proofs.apply.Reads as apply-reads
 
 apply-requires : tie.Need-apply-requires

@@ -5,11 +5,11 @@ use Rattle.bagwezin.proofs.bagwezin_check.Statement.{statement}
 use Rattle.model.specs.Calls.{CheckAnswer}
 use Rattle.areas.specs.Lent.{lent}
 use Rattle.bagwezin.specs.Answers.{AnswersCheck}
-use Rattle.bagwezin.proofs.Packed.{check-fits, bit-small}
+use Rattle.bagwezin.proofs.Answered.{check-fits, bit-small}
 use Rattle.bagwezin.proofs.bagwezin_check.Tie as tie
 use Rattle.bagwezin.proofs.bagwezin_check.Reads as reads
 use Rattle.bagwezin.proofs.bagwezin_check.Lts as lts
-use Rattle.bagwezin.proofs.pack.Reads as pack-reads
+use Rattle.packing.proofs.pack.Reads as pack-reads
 use Rattle.checking.proofs.check.Reads as check-reads
 
 check-requires : tie.Need-check-requires

@@ -4,12 +4,12 @@ use native.Mathlib.Omega.{arith}
 use Rattle.bagwezin.proofs.bagwezin_open.Statement.{statement}
 use Rattle.model.specs.Calls.{Result}
 use Rattle.areas.specs.Lent.{lent}
-use Rattle.bagwezin.specs.Answers.{Answers}
-use Rattle.bagwezin.proofs.Packed.{open-fits}
+use Rattle.packing.specs.Packing.{Answers}
+use Rattle.bagwezin.proofs.Answered.{open-fits}
 use Rattle.bagwezin.proofs.bagwezin_open.Tie as tie
 use Rattle.bagwezin.proofs.bagwezin_open.Reads as reads
 use Rattle.bagwezin.proofs.bagwezin_open.Lts as lts
-use Rattle.bagwezin.proofs.pack.Reads as pack-reads
+use Rattle.packing.proofs.pack.Reads as pack-reads
 use Rattle.opening.proofs.open.Reads as open-reads
 
 open-requires : tie.Need-open-requires

@@ -1,17 +1,15 @@
 use borrow.Author.Needs.{needs}
 use native.Mathlib.Omega.{arith}
-use mathlib.Core.Path.{ap}
 use Prim.Native.Nat.{_≤_}
 use lib.ListN.{length}
 use Rattle.bagwezin.proofs.bagwezin_read.Statement.{statement}
-use Rattle.bagwezin.proofs.Packed.{read-short, read-refused, read-lengths, read-written, reader-fits, count-fits, kinds-fit, widths-fit, levels-fit}
+use Rattle.bagwezin.proofs.Answered.{read-fits, read-refused, read-short, read-written, reader-fits}
 use Rattle.network.specs.Reading.{answerOf}
-use Rattle.model.specs.Calls.{ReadAnswer}
 use Rattle.bagwezin.proofs.bagwezin_read.Tie as tie
 use Rattle.bagwezin.proofs.bagwezin_read.Reads as reads
 use Rattle.bagwezin.proofs.bagwezin_read.Lts as lts
-use Rattle.bagwezin.proofs.pack.Reads as pack-reads
-use Rattle.bagwezin.proofs.write_list.Reads as write-list-reads
+use Rattle.packing.proofs.pack.Reads as pack-reads
+use Rattle.packing.proofs.write_answer.Reads as write-list-reads
 use Rattle.network.proofs.read.Reads as read-reads
 
 pack-requires : tie.Need-pack-requires
@@ -38,49 +36,12 @@ returns-2 c =
     let answer = answerOf (call .read .result) in
     read-refused (a .net .now) (a .answer .now) answer (call .read .ensures) long (c .pack2 .result) (c .pack2 .ensures) (c .before .if2 .taken)
 
-slice-aggregate-write-list : tie.Need-slice-aggregate-write-list
-slice-aggregate-write-list c = search needs
-
-write-list-requires : tie.Need-write-list-requires
-write-list-requires c κs =
-    let call = c .before .before .before .before .before .before .before in
+write-answer-requires : tie.Need-write-answer-requires
+write-answer-requires c κs =
+    let test = c .before in
+    let call = test .before .before in
     let a = call .before .before .before .before .args in
-    (search needs, count-fits (a .net .now) (answerOf (call .read .result)) (call .read .ensures))
-
-slice-aggregate-write-list-2 : tie.Need-slice-aggregate-write-list-2
-slice-aggregate-write-list-2 c = search needs
-
-write-list-requires-2 : tie.Need-write-list-requires-2
-write-list-requires-2 c κs =
-    let call = c .before .before .before .before .before .before .before .before .before .before .before .before in
-    let a = call .before .before .before .before .args in
-    let size = ap (λ (y : ReadAnswer). length (y .kinds)) (call .read .ensures) in
-    (omega (arith, call .before .if1 .left, size, read-lengths (a .net .now) .0), kinds-fit (a .net .now) (answerOf (call .read .result)) (call .read .ensures))
-
-slice-aggregate-write-list-3 : tie.Need-slice-aggregate-write-list-3
-slice-aggregate-write-list-3 c = search needs
-
-write-list-requires-3 : tie.Need-write-list-requires-3
-write-list-requires-3 c κs =
-    let call = c .before .before .before .before .before .before .before .before .before .before .before .before .before .before .before .before .before in
-    let a = call .before .before .before .before .args in
-    let size = ap (λ (y : ReadAnswer). length (y .widths)) (call .read .ensures) in
-    (omega (arith, call .before .if1 .left, size, read-lengths (a .net .now) .1), widths-fit (a .net .now) (answerOf (call .read .result)) (call .read .ensures))
-
-slice-aggregate-write-list-4 : tie.Need-slice-aggregate-write-list-4
-slice-aggregate-write-list-4 c =
-    let call = c .before .before .before .before .before .before .before .before .before .before .before .before .before .before .before .before .before .before .before .before .before
-    .before in
-    let size = ap (λ (y : ReadAnswer). length (y .levels)) (call .read .ensures) in
-    omega (arith, size, read-lengths (call .before .before .before .before .args .net .now) .2)
-
-write-list-requires-4 : tie.Need-write-list-requires-4
-write-list-requires-4 c κs =
-    let call = c .before .before .before .before .before .before .before .before .before .before .before .before .before .before .before .before .before .before .before .before .before
-    .before in
-    let a = call .before .before .before .before .args in
-    let size = ap (λ (y : ReadAnswer). length (y .levels)) (call .read .ensures) in
-    (omega (arith, call .before .if1 .left, size, read-lengths (a .net .now) .2), levels-fit (a .net .now) (answerOf (call .read .result)) (call .read .ensures))
+    (omega (arith, call .before .if1 .left), read-fits (a .net .now) (answerOf (call .read .result)) (call .read .ensures))
 
 pack-requires-3 : tie.Need-pack-requires-3
 pack-requires-3 c κs = (record { number = omega arith; place = omega arith }, omega arith)
@@ -90,42 +51,14 @@ same-length c = search needs
 
 returns-3 : tie.Need-returns-3
 returns-3 c =
-    let four = c .before .before .before in
-    let three = four .before .before .before .before .before in
-    let two = three .before .before .before .before .before in
-    let one = two .before .before .before .before .before in
-    let accepts = one .before .before .before .before .before .before in
+    let written = c .before .before .before in
+    let accepts = written .before .before in
     let call = accepts .before .before in
     let a = call .before .before .before .before .args in
     read-written (a .net .now) (a .answer .now) (answerOf (call .read .result)) (call .read .ensures) (omega (arith, call .before .if1 .left)) (c .pack3 .result)
-    (one .write-list .last .0)
-    (two .write-list2 .last .0)
-    (three .write-list3 .last .0)
-    (four .write-list4 .last .0)
-    (c .pack3 .ensures)
-    (accepts .if2 .left)
-    (one .write-list .ensures)
-    (two .write-list2 .ensures)
-    (three .write-list3 .ensures)
-    (four .write-list4 .ensures)
+    (written .write-answer .last .0) (c .pack3 .ensures) (accepts .if2 .left) (written .write-answer .ensures)
 
 pub bagwezin-read-spec : {M : Type 1} → statement M
 bagwezin-read-spec =
     tie.close
-    (tie.spec
-    pack-requires
-    returns
-    read-requires
-    pack-requires-2
-    returns-2
-    slice-aggregate-write-list
-    write-list-requires
-    slice-aggregate-write-list-2
-    write-list-requires-2
-    slice-aggregate-write-list-3
-    write-list-requires-3
-    slice-aggregate-write-list-4
-    write-list-requires-4
-    pack-requires-3
-    same-length
-    returns-3)
+    (tie.spec pack-requires returns read-requires pack-requires-2 returns-2 write-answer-requires pack-requires-3 same-length returns-3)

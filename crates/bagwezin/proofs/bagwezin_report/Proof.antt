@@ -5,11 +5,11 @@ use Rattle.bagwezin.proofs.bagwezin_report.Statement.{statement}
 use Rattle.model.specs.Calls.{ReportAnswer}
 use Rattle.areas.specs.Lent.{lent}
 use Rattle.bagwezin.specs.Answers.{AnswersReport}
-use Rattle.bagwezin.proofs.Packed.{report-fits}
+use Rattle.bagwezin.proofs.Answered.{report-fits}
 use Rattle.bagwezin.proofs.bagwezin_report.Tie as tie
 use Rattle.bagwezin.proofs.bagwezin_report.Reads as reads
 use Rattle.bagwezin.proofs.bagwezin_report.Lts as lts
-use Rattle.bagwezin.proofs.pack.Reads as pack-reads
+use Rattle.packing.proofs.pack.Reads as pack-reads
 use Rattle.reporting.proofs.report.Reads as report-reads
 
 report-requires : tie.Need-report-requires

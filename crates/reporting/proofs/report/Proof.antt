@@ -1,4 +1,3 @@
-use mathlib.Core.Path.{_∙_}
 use borrow.Author.Needs.{needs}
 use Rattle.reporting.proofs.report.Statement.{statement}
 use Rattle.reporting.proofs.Reported.{report-known, report-refused}
@@ -35,9 +34,8 @@ returns-2 c =
     let passed = c .before .before .before .before .before in
     let read = passed .before .before in
     let a = read .before .before .before .before .before .before .before .args in
-    c .before .before .report-node .ensures
-    ∙ report-known (a .net .now) (a .node) (a .rows .now) (a .gained .now) (a .lost .now) (a .head .now) (a .out .now)
-    (read .read-areas .result) (read .read-areas .ensures) (passed .if1 .left)
+    report-known (a .net .now) (a .node) (a .rows .now) (a .gained .now) (a .lost .now) (a .head .now) (a .out .now)
+    (read .read-areas .result) (read .read-areas .ensures) (passed .if1 .left) _ (c .before .before .report-node .ensures)
 
 pub report-spec : {M : Type 1} → statement M
 report-spec =

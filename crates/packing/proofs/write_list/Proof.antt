@@ -4,11 +4,11 @@ use lib.ListN.{length, take, length-set, getD}
 use lib.Seq.{sets, take-all}
 use native.Mathlib.Omega.{arith}
 use mathlib.Core.List.{List}
-use Rattle.bagwezin.proofs.write_list.Statement.{statement}
-use Rattle.bagwezin.proofs.Packed.{list-more}
-use Rattle.bagwezin.proofs.write_list.Tie as tie
-use Rattle.bagwezin.proofs.write_list.Reads as reads
-use Rattle.bagwezin.proofs.write_list.Lts as lts
+use Rattle.packing.proofs.write_list.Statement.{statement}
+use Rattle.packing.proofs.Packed.{list-more}
+use Rattle.packing.proofs.write_list.Tie as tie
+use Rattle.packing.proofs.write_list.Reads as reads
+use Rattle.packing.proofs.write_list.Lts as lts
 
 abbrev Inv-loop : tie.InvT-loop
 Inv-loop answer₀ at list n k₀ answer k = (k ≤ n) × (n ≡ length list) × (length answer ≡ length answer₀) × (answer ≡ sets answer₀ at (take k list))

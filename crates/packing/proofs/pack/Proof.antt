@@ -1,9 +1,9 @@
 use native.Mathlib.Omega.{arith}
-use Rattle.bagwezin.proofs.pack.Statement.{statement}
-use Rattle.bagwezin.proofs.Packed.{pack-accepted, pack-refused}
-use Rattle.bagwezin.proofs.pack.Tie as tie
-use Rattle.bagwezin.proofs.pack.Reads as reads
-use Rattle.bagwezin.proofs.pack.Lts as lts
+use Rattle.packing.proofs.pack.Statement.{statement}
+use Rattle.packing.proofs.Packed.{pack-accepted, pack-refused}
+use Rattle.packing.proofs.pack.Tie as tie
+use Rattle.packing.proofs.pack.Reads as reads
+use Rattle.packing.proofs.pack.Lts as lts
 
 returns : tie.Need-returns
 returns c = let a = (c .before .args) in pack-accepted (a .number) (a .place) (a .value) (c .before .pre .0) (c .before .pre .1) (c .if1 .taken)
