@@ -7,7 +7,7 @@ use native.Mathlib.Omega.{arith}
 use native.Mathlib.Nat.{le-refl, not-suc-le-zero}
 use lib.Seq.{ext-getD}
 use lib.ListN.{getD, length, length-replicate, replicate, replicate-append-replicate}
-use Rattle.model.specs.Network.{Node, AllFit, widths, nodeAt, isTable, Operand, SetOperation, column, constant, difference, intersection, join, project, select, setOperation}
+use Rattle.model.specs.Network.{Node, AllFit, widths, nodeAt, isTable, SetOperation, difference, intersection, join, project, select, setOperation}
 use Rattle.model.specs.Network.{table, union}
 use Rattle.model.specs.Areas.{Areas, areaOf, cleared, headOf, holding, layout, over, padded, tablesOf}
 use Rattle.model.specs.Delta.{Change, noChange}
@@ -15,8 +15,8 @@ use Rattle.states.proofs.Written.{Fitting, flat-none}
 use Rattle.demand3.proofs.Holds.{Proper}
 use Rattle.model.specs.Row.{Relation}
 use Rattle.model.proofs.Fits.{Small, length-widths}
-use Rattle.model.specs.Algebra.{differenceRows, intersectRows, joinRows, projectRows, selectColumns, selectConstant, unionRows}
-use Rattle.model.specs.Evaluation.{evaluate, evaluateSelect, evaluateSet, rowsAt}
+use Rattle.model.specs.Algebra.{differenceRows, intersectRows, joinRows, projectRows, selectRows, unionRows}
+use Rattle.model.specs.Evaluation.{evaluate, evaluateSet, rowsAt}
 use Rattle.evaluation.specs.Derived.{evaluateOn, leftOf, rightOf}
 use Rattle.evaluation.proofs.Fresh.{fresh-derived, fresh-table, inputs-before}
 use Rattle.model.proofs.Build.{length-evaluate}
@@ -30,11 +30,6 @@ none-at (suc n) (suc i) = none-at n i
 
 -- ---- an evaluation of empty tables is empty
 
-select-none : (c k : ℕ) (o : Operand) → evaluateSelect c k o [] ≡ []
-unfolding evaluateSelect selectConstant selectColumns
-select-none c k (constant v) = refl
-select-none c k (column x) = refl
-
 set-none : (o : SetOperation) → evaluateSet o [] [] ≡ []
 unfolding evaluateSet unionRows differenceRows intersectRows
 set-none union = refl
@@ -42,9 +37,9 @@ set-none difference = refl
 set-none intersection = refl
 
 on-none : (n : Node) → evaluateOn n [] [] ≡ []
-unfolding evaluateOn projectRows joinRows flatMap
+unfolding evaluateOn selectRows projectRows joinRows flatMap
 on-none (table w) = refl
-on-none (select i c k o) = select-none c k o
+on-none (select i c k o) = refl
 on-none (project i columns) = refl
 on-none (join l r pairs columns) = refl
 on-none (setOperation o l r) = set-none o

@@ -4,9 +4,9 @@ use mathlib.Core.List.{[]}
 use Prim.Native.Nat.{ℕ, _+_}
 use lib.Dec.{ltb, eqb}
 use Rattle.model.specs.Row.{Relation}
-use Rattle.model.specs.Algebra.{projectRows, joinRows}
+use Rattle.model.specs.Algebra.{selectRows, projectRows, joinRows}
 use Rattle.model.specs.Network.{Node, table, select, project, join, setOperation, columnsBelow, pairsBelow, operandBelow}
-use Rattle.model.specs.Evaluation.{evaluateSelect, evaluateSet}
+use Rattle.model.specs.Evaluation.{evaluateSet}
 
 -- the first input
 abbrev pub leftOf : Node → ℕ
@@ -26,9 +26,9 @@ rightOf (setOperation o l r) = r
 
 -- what a node's kind gives from the rows of its inputs; a table's kind gives none
 unfoldable pub evaluateOn : Node → Relation → Relation → Relation
-unfolding evaluateSelect projectRows joinRows evaluateSet
+unfolding selectRows projectRows joinRows evaluateSet
 evaluateOn (table w) l r = []
-evaluateOn (select i c k o) l r = evaluateSelect c k o l
+evaluateOn (select i c k o) l r = selectRows c k o l
 evaluateOn (project i columns) l r = projectRows columns l
 evaluateOn (join i j pairs columns) l r = joinRows pairs columns l r
 evaluateOn (setOperation o i j) l r = evaluateSet o l r

@@ -12,7 +12,8 @@ use borrow.Author.Tests.{eq-eqb, eqb-true, leb-false, leb-true, ltb-true, ne-eqb
 use Rattle.model.specs.Row.{Relation, allOf, isEmpty, maxRows}
 use Rattle.model.specs.Record.{Bytes, Rule, SmallVerdict, Verdict, accepted, firstBroken, isAccepted, isBroken, kindAt, lengthAt}
 use Rattle.model.specs.Record.{offsets, offsetsFrom, refused, rule}
-use Rattle.model.specs.Network.{Item, Kind, Network, Node, column, constant, difference, intersection, join, project, select, setOperation}
+use Rattle.model.specs.Algebra.{constant, column}
+use Rattle.model.specs.Network.{Item, Kind, Network, Node, difference, intersection, join, project, select, setOperation}
 use Rattle.model.specs.Network.{table, union, nodeItem, watchItem, kindOf, build, buildOn, highest, levelOf, levels}
 use Rattle.model.specs.Network.{widths, kindNumbered, isUnknown, isWatch, within, hasShape, itemAt, itemFits, watchFits, recordFault}
 use Rattle.model.specs.Network.{noNetwork, withItem, readNetwork, readRecords, refusedReading}

@@ -5,19 +5,13 @@ use Prim.Native.Nat.{ℕ, suc}
 use lib.Dec.{ltb}
 use lib.ListN.{getD, length}
 use Rattle.model.specs.Row.{Relation, maxRows}
-use Rattle.model.specs.Algebra.{selectConstant, selectColumns, projectRows, joinRows, unionRows, differenceRows, intersectRows}
-use Rattle.model.specs.Network.{Node, table, select, project, join, setOperation, Operand, constant, column, SetOperation, union, difference}
-use Rattle.model.specs.Network.{intersection, build, isTable, inputsOf}
+use Rattle.model.specs.Algebra.{selectRows, projectRows, joinRows, unionRows, differenceRows, intersectRows}
+use Rattle.model.specs.Network.{Node, table, select, project, join, setOperation, SetOperation, union, difference, intersection}
+use Rattle.model.specs.Network.{build, isTable, inputsOf}
 
 -- the rows of a node's input, given the rows of the nodes before it
 abbrev pub rowsAt : List Relation → ℕ → Relation
 rowsAt rels i = getD rels i []
-
--- kinds 2 and 3
-unfoldable pub evaluateSelect : ℕ → ℕ → Operand → Relation → Relation
-unfolding selectConstant selectColumns
-evaluateSelect c k (constant v) input = selectConstant c k v input
-evaluateSelect c k (column o) input = selectColumns c k o input
 
 -- kinds 6, 7, 8
 unfoldable pub evaluateSet : SetOperation → Relation → Relation → Relation
@@ -28,9 +22,9 @@ evaluateSet intersection l r = intersectRows l r
 
 -- "what its kind gives from the fresh evaluations of its inputs, without a limit"; of a table, its own rows
 unfoldable pub evaluateNode : Node → Relation → List Relation → Relation
-unfolding evaluateSelect projectRows joinRows evaluateSet
+unfolding selectRows projectRows joinRows evaluateSet
 evaluateNode (table w) own rels = own
-evaluateNode (select i c k o) own rels = evaluateSelect c k o (rowsAt rels i)
+evaluateNode (select i c k o) own rels = selectRows c k o (rowsAt rels i)
 evaluateNode (project i columns) own rels = projectRows columns (rowsAt rels i)
 evaluateNode (join l r pairs columns) own rels = joinRows pairs columns (rowsAt rels l) (rowsAt rels r)
 evaluateNode (setOperation o l r) own rels = evaluateSet o (rowsAt rels l) (rowsAt rels r)

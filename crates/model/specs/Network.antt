@@ -6,16 +6,11 @@ use Prim.Native.Nat.{ℕ, zero, suc, _+_, _*_, max, _<_}
 use lib.Dec.{leb, ltb, eqb}
 use lib.ListN.{getD, length, set, take}
 use Rattle.model.specs.Row.{maxWidth, maxNodes, allOf, isEmpty, place}
-use Rattle.model.specs.Algebra.{Pair}
+use Rattle.model.specs.Algebra.{Operand, constant, column, Pair}
 use Rattle.model.specs.Record.{Bytes, u32, lengthAt, kindAt, fieldAt, fieldsAt, isBroken, offsets, Verdict, accepted, refused, rule}
 use Rattle.model.specs.Record.{firstBroken}
 
 -- ---- nodes
-
--- what a select compares its column with: a constant (kind 2) or another column (kind 3)
-pub data Operand : Type 0 where
-  constant : ℕ → Operand
-  column : ℕ → Operand
 
 -- kinds 6, 7, 8
 pub data SetOperation : Type 0 where

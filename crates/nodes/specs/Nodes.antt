@@ -5,11 +5,12 @@ use mathlib.Core.List.{List, [], _∷_}
 use Prim.Native.Nat.{ℕ, zero, suc, _+_, _*_, _≤_, _<_}
 use lib.Dec.{ltb}
 use lib.ListN.{getD, take, drop, length}
-use Rattle.model.specs.Algebra.{Pair}
+use Rattle.model.specs.Algebra as algebra
+use Rattle.model.specs.Algebra.{Pair, constant, column}
 use Rattle.model.specs.Record.{Bytes, kindAt, fieldAt, fieldsAt, rule, firstBroken}
 use Rattle.model.specs.Network as model
-use Rattle.model.specs.Network.{Kind, Item, nodeItem, watchItem, table, select, project, join, setOperation, constant, column, union, difference}
-use Rattle.model.specs.Network.{intersection, pairsAt, kindNumbered, hasShape, itemAt, itemFits, recordFault}
+use Rattle.model.specs.Network.{Kind, Item, nodeItem, watchItem, table, select, project, join, setOperation, union, difference, intersection}
+use Rattle.model.specs.Network.{pairsAt, kindNumbered, hasShape, itemAt, itemFits, recordFault}
 use Rattle.nodes.specs.declared.Operand.{Operand}
 use Rattle.nodes.specs.declared.Operand.the-variants.{Constant, Column}
 use Rattle.nodes.specs.declared.SetOperation.{SetOperation}
@@ -24,7 +25,7 @@ use Rattle.nodes.specs.declared.Record.the-variants.{Item as Brought, Re
 -- ---- nodes
 
 -- what a select compares with
-abbrev pub operandOf : Operand → model.Operand
+abbrev pub operandOf : Operand → algebra.Operand
 operandOf (Constant v) = constant v
 operandOf (Column c) = column c
 

@@ -10,14 +10,14 @@ use lib.ListN.{drop, getD, length, length-set, set}
 use lib.Seq.{getD-set-other, getD-set-same}
 use lib.Dec.{ltb}
 use borrow.Author.Tests.{ltb-false, ltb-true, le-ltb, lt-ltb}
-use Rattle.model.specs.Network.{Node, AllFit, widths, nodeAt, isTable, Operand, SetOperation, column, constant, difference, intersection, join, project, select, setOperation, table, union}
+use Rattle.model.specs.Network.{Node, AllFit, widths, nodeAt, isTable, SetOperation, difference, intersection, join, project, select, setOperation, table, union}
 use Rattle.model.proofs.Sets.{Ascending, asc-delete, asc-insert}
 use Rattle.model.specs.Batch.{Event, act, actAll, put, remove}
 use Rattle.model.specs.Row.{Relation, deleteRow, insertRow, maxRows, sameRow}
 use Rattle.rows.proofs.Words.{Wide, wide-insert, wide-keep}
-use Rattle.model.proofs.Algebra.{asc-difference, asc-intersect, asc-join, asc-project, asc-selectColumns, asc-selectConstant, asc-union}
+use Rattle.model.proofs.Algebra.{asc-difference, asc-intersect, asc-join, asc-project, asc-select, asc-union}
 use Rattle.evaluation.proofs.Fresh.{columns-fit, fresh-derived, fresh-table, givenBy, inputs-before, width-at}
-use Rattle.model.specs.Evaluation.{evaluate, evaluateSelect, evaluateSet, overfull, rowsAt}
+use Rattle.model.specs.Evaluation.{evaluate, evaluateSet, overfull, rowsAt}
 use Rattle.evaluation.specs.Derived.{evaluateOn, leftOf, rightOf}
 use Rattle.evaluation.proofs.Inside.{on-wide}
 use Rattle.model.specs.Areas.{tablesOf}
@@ -29,11 +29,6 @@ pub record Tables (nodes : List Node) (tables : List Relation) : Type 0 where
   pub asc : (i : ℕ) → i < length nodes → Ascending (getD tables i [])
 
 -- ---- fresh evaluation
-
-asc-select : (c k : ℕ) (o : Operand) (l : Relation) → Ascending l → Ascending (evaluateSelect c k o l)
-unfolding evaluateSelect
-asc-select c k (constant v) l a = asc-selectConstant c k v l a
-asc-select c k (column x) l a = asc-selectColumns c k x l a
 
 asc-set : (o : SetOperation) (l r : Relation) → Ascending l → Ascending (evaluateSet o l r)
 unfolding evaluateSet
