@@ -12,11 +12,11 @@ use Rattle.model.proofs.Sets.{and-first, and-second}
 use Rattle.rows.proofs.Place.{all-below}
 
 -- the code's table
-pub table : List ℕ
+abbrev pub table : List ℕ
 table = 0 ∷ 1 ∷ 0 ∷ 1 ∷ 0 ∷ 1 ∷ 1 ∷ 0 ∷ 0 ∷ 1 ∷ 1 ∷ 0 ∷ 0 ∷ 0 ∷ 1 ∷ 0 ∷ 1 ∷ 1 ∷ []
 
 agrees : ℕ → Ordering → Bool
-unfolding table holdsOf
+unfolding holdsOf
 agrees code o = Bool·beq (eqb (getD table (3 * code + outcomeColumn o) 0) 1) (holdsOf code o)
 
 agreesAll : ℕ → Bool
@@ -45,7 +45,6 @@ agrees-at code o h =
     go Ordering·eq e = and-second (agrees code Ordering·lt) (agrees code Ordering·eq) (and-first (agrees code Ordering·lt && agrees code Ordering·eq) (agrees code Ordering·gt) e)
     go Ordering·gt e = and-second (agrees code Ordering·lt && agrees code Ordering·eq) (agrees code Ordering·gt) e
 
-pub truth : (code : ℕ) (o : Ordering) (k : ℕ) → code < 6 → k ≡ 3 * code + outcomeColumn o → eqb (getD (0 ∷ 1 ∷ 0 ∷ 1 ∷ 0 ∷ 1 ∷ 1 ∷ 0 ∷ 0 ∷ 1 ∷ 1 ∷ 0 ∷ 0 ∷ 0 ∷ 1 ∷ 0 ∷ 1 ∷ 1 ∷ []) k 0) 1
-    ≡ holdsOf code o
-unfolding agrees table
+pub truth : (code : ℕ) (o : Ordering) (k : ℕ) → code < 6 → k ≡ 3 * code + outcomeColumn o → eqb (getD table k 0) 1 ≡ holdsOf code o
+unfolding agrees
 truth code o k h e = rw e (same (eqb (getD table (3 * code + outcomeColumn o) 0) 1) (holdsOf code o) (agrees-at code o h))

@@ -7,7 +7,7 @@ use native.Mathlib.Omega.{arith}
 use native.Mathlib.Nat.{le-refl, not-suc-le-zero}
 use lib.Seq.{ext-getD}
 use lib.ListN.{getD, length, length-replicate, replicate, replicate-append-replicate}
-use Rattle.model.specs.Network.{Node, AllFit, widths, nodeAt, isTable}
+use Rattle.model.specs.Network.{Node, AllFit, widths, nodeAt, isTable, evaluateOn, leftOf, rightOf}
 use Rattle.model.specs.Areas.{Areas, areaOf, cleared, headOf, holding, layout, over, padded, tablesOf}
 use Rattle.model.specs.Delta.{Change, noChange}
 use Rattle.states.specs.Fitting.{Fitting}
@@ -16,7 +16,6 @@ use Rattle.demand3.proofs.Holds.{Proper}
 use Rattle.model.specs.Row.{Relation}
 use Rattle.model.proofs.Fits.{Small, length-widths}
 use Rattle.model.specs.Evaluation.{evaluate, rowsAt}
-use Rattle.model.specs.Network.{evaluateOn, leftOf, rightOf}
 use Rattle.evaluation.proofs.Fresh.{fresh-derived, fresh-table, inputs-before}
 use Rattle.model.proofs.Build.{length-evaluate}
 use Rattle.model.proofs.ByKind.{on-none}

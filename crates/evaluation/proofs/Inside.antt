@@ -10,11 +10,11 @@ use borrow.Author.Tests.{eqb-true, lt-ltb, ltb-true}
 use Rattle.nodes.specs.declared.Operand.{Operand}
 use Rattle.places.specs.Places.{Blank, Fills}
 use Rattle.joins.specs.Joins.{JoinFits, JoinsIn}
-use Rattle.selections.specs.Selections.{OperandBelow, OperandIn}
+use Rattle.selections.specs.Selections.{OperandIn}
 use Rattle.nodes.specs.declared.Operand.the-variants.{Column, Constant}
 use Rattle.joins.specs.declared.Joining.{Joining}
-use Rattle.model.specs.Network.{columnsBelow, operandBelow, pairsBelow, isTable, fitsOn, evaluateOn, widthOn, evaluateSelect, evaluateSet}
-use Rattle.model.specs.Algebra.{Pair, agree, columnsOf, compareFields, differenceRows, holdsOf, intersectRows, joinOne, joinRows, projectRows, selectColumns, selectConstant, unionRows}
+use Rattle.model.specs.Network.{columnsBelow, operandBelow, pairsBelow, isTable, fitsOn, evaluateOn, widthOn, evaluateSet}
+use Rattle.model.specs.Algebra.{Pair, agree, columnsOf, differenceRows, intersectRows, joinOne, joinRows, projectRows, unionRows, passes, selectRows}
 use Rattle.model.proofs.Sets.{and-both, and-first, and-second}
 use Rattle.joins.proofs.Rows.{columns-more}
 use Rattle.places.proofs.Puts.{wide-each}
@@ -42,7 +42,7 @@ select-inside v w i c k o e =
     operand-inside (Constant x) f = tt
     operand-inside (Column x) f = ltb-true x v f
 
-pub operand-narrow : (v : ℕ) (o : Operand) → v ≤ 4 → OperandIn v o → OperandBelow o
+pub operand-narrow : (v : ℕ) (o : Operand) → v ≤ 4 → OperandIn v o → OperandIn 4 o
 operand-narrow v (Constant x) h f = tt
 operand-narrow v (Column x) h f = omega arith
 
@@ -96,11 +96,6 @@ wide-one : (pairs : List Pair) (columns : List ℕ) (right : Relation) (l : Row)
 unfolding joinOne
 wide-one pairs columns right l = wide-map (λ r. columnsOf columns (l ++ r)) (length columns) (keep (agree pairs l) right) (λ r. length-map columns (λ c. getD (l ++ r) c 0))
 
-wide-select : (v c k : ℕ) (o : model.Operand) (l : Relation) → Wide v l → Wide v (evaluateSelect c k o l)
-unfolding evaluateSelect selectConstant selectColumns
-wide-select v c k (model.constant x) l h = wide-keep v (λ r. holdsOf k (compareFields (getD r c 0) x)) l h
-wide-select v c k (model.column x) l h = wide-keep v (λ r. holdsOf k (compareFields (getD r c 0) (getD r x 0))) l h
-
 wide-operation : (v : ℕ) (o : model.SetOperation) (l r : Relation) → Wide v l → Wide v r → Wide v (evaluateSet o l r)
 unfolding evaluateSet unionRows differenceRows intersectRows
 wide-operation v model.union l r h g = wide-setOf 4 v (l ++ r) (wide-append v l r h g)
@@ -109,9 +104,9 @@ wide-operation v model.intersection l r h g = wide-keep v (λ x. member x r) l h
 
 -- what a node's kind gives has its width
 pub on-wide : (v w : ℕ) (n : model.Node) (l r : Relation) → isTable n ≡ false → fitsOn v w n ≡ true → Wide v l → Wide w r → Wide (widthOn v n) (evaluateOn n l r)
-unfolding evaluateOn projectRows joinRows
+unfolding evaluateOn selectRows projectRows joinRows
 on-wide v w (model.table x) l r e f h g = absurd (true≢false e)
-on-wide v w (model.select i c k o) l r e f h g = wide-select v c k o l h
+on-wide v w (model.select i c k o) l r e f h g = wide-keep v (passes c k o) l h
 on-wide v w (model.project i columns) l r e f h g = wide-setOf 4 (length columns) (map (columnsOf columns) l)
     (wide-map (columnsOf columns) (length columns) l (λ s. length-map columns (λ c. getD s c 0)))
 on-wide v w (model.join i j pairs columns) l r e f h g = wide-setOf 4 (length columns) (flatMap (joinOne pairs columns r) l)

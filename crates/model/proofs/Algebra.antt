@@ -4,11 +4,10 @@ use mathlib.Core.Bool.{Bool, true, false, not, _&&_, _||_, or-assoc, or-true, or
 use mathlib.Core.List.{List, [], _∷_, _++_, map, flatMap}
 use Prim.Native.Nat.{ℕ, Ordering, Ordering·lt, Ordering·eq, Ordering·gt, compare, _<_}
 use lib.Dec.{eqb, leb, ltb}
-use lib.ListN.{getD}
 use borrow.Author.Tests.{lt-ltb, le-ltb, le-leb, lt-leb, eq-eqb, ne-eqb}
 use native.Mathlib.Omega.{arith}
 use Rattle.model.specs.Row.{Row, Relation, sameRow, member, keep, keepIf, someOf, numbersBelow}
-use Rattle.model.specs.Algebra.{holdsOf, compareFields, columnsOf, Pair, agree, selectConstant, selectColumns, projectRows, joinOne, joinRows, unionRows, differenceRows, intersectRows}
+use Rattle.model.specs.Algebra.{holdsOf, compareFields, columnsOf, Pair, agree, Operand, passes, selectRows, projectRows, joinOne, joinRows, unionRows, differenceRows, intersectRows}
 use Rattle.model.proofs.Order.{compare-says, sameRow-refl, sameRow-eq}
 use Rattle.model.proofs.Sets.{Ascending, member-keep, member-setOf, asc-keep, asc-setOf, ext}
 
@@ -75,15 +74,10 @@ member-flatMap f r (x ∷ l) = member-append r (f x) (flatMap f l) ∙ ap (λ (b
 
 -- ---- the operators
 
--- kind 2: the input's rows whose column compares so with the constant
-pub member-selectConstant : (r : Row) (c k v : ℕ) (input : Relation) → member r (selectConstant c k v input) ≡ (holdsOf k (compareFields (getD r c 0) v) && member r input)
-unfolding selectConstant
-member-selectConstant r c k v input = member-keep (λ s. holdsOf k (compareFields (getD s c 0) v)) r input
-
--- kind 3: the input's rows whose two columns compare so
-pub member-selectColumns : (r : Row) (c k o : ℕ) (input : Relation) → member r (selectColumns c k o input) ≡ (holdsOf k (compareFields (getD r c 0) (getD r o 0)) && member r input)
-unfolding selectColumns
-member-selectColumns r c k o input = member-keep (λ s. holdsOf k (compareFields (getD s c 0) (getD s o 0))) r input
+-- kinds 2 and 3: the input's rows whose column compares so with the constant or the other column
+pub member-select : (r : Row) (c k : ℕ) (o : Operand) (input : Relation) → member r (selectRows c k o input) ≡ (passes c k o r && member r input)
+unfolding selectRows
+member-select r c k o input = member-keep (passes c k o) r input
 
 -- kind 4: what the named columns of some row of the input give
 pub member-project : (r : Row) (columns : List ℕ) (input : Relation) → member r (projectRows columns input) ≡ someOf (λ s. sameRow r (columnsOf columns s)) input
@@ -132,13 +126,9 @@ member-intersect r a b = member-keep (λ s. member s b) r a
 
 -- ---- each result is strictly ascending
 
-pub asc-selectConstant : (c k v : ℕ) (input : Relation) → Ascending input → Ascending (selectConstant c k v input)
-unfolding selectConstant
-asc-selectConstant c k v input a = asc-keep (λ s. holdsOf k (compareFields (getD s c 0) v)) input a
-
-pub asc-selectColumns : (c k o : ℕ) (input : Relation) → Ascending input → Ascending (selectColumns c k o input)
-unfolding selectColumns
-asc-selectColumns c k o input a = asc-keep (λ s. holdsOf k (compareFields (getD s c 0) (getD s o 0))) input a
+pub asc-select : (c k : ℕ) (o : Operand) (input : Relation) → Ascending input → Ascending (selectRows c k o input)
+unfolding selectRows
+asc-select c k o input a = asc-keep (passes c k o) input a
 
 pub asc-project : (columns : List ℕ) (input : Relation) → Ascending (projectRows columns input)
 unfolding projectRows

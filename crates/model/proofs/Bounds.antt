@@ -10,17 +10,15 @@ use lib.ListN.{getD, length, length-append, length-set, replicate, set}
 use lib.Dec.{eqb, leb, ltb}
 use borrow.Author.Tests.{eq-eqb, eqb-true, leb-false, leb-true, ltb-true, ne-eqb}
 use Rattle.model.specs.Row.{Relation, allOf, isEmpty, maxRows}
-use Rattle.model.specs.Record.{Bytes, Rule, SmallVerdict, Verdict, accepted, firstBroken, isAccepted, isBroken, kindAt, lengthAt}
-use Rattle.model.specs.Record.{offsets, offsetsFrom, refused, rule}
-use Rattle.model.specs.Network.{Item, Network, Node, nodeItem, watchItem, kindOf, build, buildOn, highest, levelOf, levels, inputsOf, isTable, isNode}
-use Rattle.model.specs.Network.{widths, isUnknown, within, hasShape, itemAt, itemFits, watchFits, recordFault}
-use Rattle.model.specs.Network.{noNetwork, withItem, readNetwork, readRecords, refusedReading}
+use Rattle.model.specs.Record.{Bytes, Rule, SmallVerdict, Verdict, accepted, firstBroken, isAccepted, isBroken, kindAt, lengthAt, offsets, offsetsFrom, refused, rule}
+use Rattle.model.specs.Network.{Item, Network, Node, nodeItem, watchItem, kindOf, build, buildOn, highest, levelOf, levels, inputsOf, isTable, isNode, widths, isUnknown, within}
+use Rattle.model.specs.Network.{hasShape, itemAt, itemFits, watchFits, recordFault, noNetwork, withItem, readNetwork, readRecords, refusedReading}
 use Rattle.model.specs.Batch.{Event, actAll, eventAt, eventFault, eventFits, readBatch, readEvents}
 use Rattle.model.specs.Evaluation.{evaluate, overfull}
 use Rattle.model.specs.Station.{State, Step, applyEvents, lastNumber, limit, refusedStep, step}
 use Rattle.model.specs.Areas.{Areas, coherent, goodForm, layout, longEnough, stateIn}
-use Rattle.model.specs.Calls.{Applied, Free, Keeps, Result, applyPromise, formVerdict, free, freelyAccepted, freelyRefused, isWatched}
-use Rattle.model.specs.Calls.{openVerdict, orElse, promiseOf, readCall, reportCall, reportIn, reportOf, resultOf, settled, unless}
+use Rattle.model.specs.Calls.{Applied, Free, Keeps, Result, applyPromise, formVerdict, free, freelyAccepted, freelyRefused, isWatched, openVerdict, orElse, promiseOf, readCall}
+use Rattle.model.specs.Calls.{reportCall, reportIn, reportOf, resultOf, settled, unless}
 use Rattle.model.proofs.Build.{length-evaluate}
 use Rattle.model.proofs.ByKind.{kind-most}
 use Rattle.model.proofs.Fits.{fault-fits, fault-shape, item-room, length-widths, most-more, read-small}

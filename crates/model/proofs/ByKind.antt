@@ -8,13 +8,12 @@ use lib.Dec.{eqb, leb}
 use lib.ListN.{getD, length}
 use borrow.Author.Tests.{leb-true}
 use Rattle.model.specs.Row.{Relation, maxWidth}
-use Rattle.model.specs.Algebra.{selectConstant, selectColumns, projectRows, joinRows, unionRows, differenceRows, intersectRows}
+use Rattle.model.specs.Algebra.{selectRows, projectRows, joinRows, unionRows, differenceRows, intersectRows, column, constant, Operand}
 use Rattle.model.specs.Record.{Bytes, fieldAt, fieldsAt, lengthAt}
-use Rattle.model.specs.Network.{Item, Kind, Node, column, constant, difference, hasShape, intersection, itemAt, itemFits, join, joinShape, kindOf, kinds, noKind}
-use Rattle.model.specs.Network.{nodeFits, nodeItem, project, projectShape, select, setOperation, table, union, watchItem, widthOf, within, fitsOn, Operand, SetOperation}
-use Rattle.model.specs.Network.{evaluateOn, evaluateSelect, evaluateSet}
+use Rattle.model.specs.Network.{Item, Kind, Node, difference, hasShape, intersection, itemAt, itemFits, join, joinShape, kindOf, kinds, noKind, nodeFits, nodeItem, project}
+use Rattle.model.specs.Network.{projectShape, select, setOperation, table, union, watchItem, widthOf, within, fitsOn, SetOperation, evaluateOn, evaluateSet}
 use Rattle.model.proofs.Sets.{Ascending, and-first, and-second}
-use Rattle.model.proofs.Algebra.{asc-selectConstant, asc-selectColumns, asc-project, asc-join, asc-union, asc-difference, asc-intersect}
+use Rattle.model.proofs.Algebra.{asc-select, asc-project, asc-join, asc-union, asc-difference, asc-intersect}
 
 -- ---- a kind's number
 
@@ -111,11 +110,6 @@ item-narrow k = narrow-in (noKind ∷ kinds) k (no-kind-narrow, kinds-narrow)
 
 -- ---- what a node's kind gives
 
-asc-select : (c k : ℕ) (o : Operand) (l : Relation) → Ascending l → Ascending (evaluateSelect c k o l)
-unfolding evaluateSelect
-asc-select c k (constant v) l a = asc-selectConstant c k v l a
-asc-select c k (column x) l a = asc-selectColumns c k x l a
-
 asc-set : (o : SetOperation) (l r : Relation) → Ascending l → Ascending (evaluateSet o l r)
 unfolding evaluateSet
 asc-set union l r a = asc-union l r
@@ -131,8 +125,8 @@ on-asc (project i columns) l r a = asc-project columns l
 on-asc (join i j pairs columns) l r a = asc-join pairs columns l r
 on-asc (setOperation o i j) l r a = asc-set o l r a
 
-select-none : (c k : ℕ) (o : Operand) → evaluateSelect c k o [] ≡ []
-unfolding evaluateSelect selectConstant selectColumns
+select-none : (c k : ℕ) (o : Operand) → selectRows c k o [] ≡ []
+unfolding selectRows
 select-none c k (constant v) = refl
 select-none c k (column x) = refl
 

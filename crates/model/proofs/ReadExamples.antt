@@ -6,7 +6,8 @@ use Prim.Native.Nat.{ℕ}
 use lib.ListN.{replicate}
 use Rattle.model.specs.Row.{sameRow, allOf, numbersBelow}
 use Rattle.model.specs.Record.{Bytes, u16, u32, bytes16, bytes32, Verdict, accepted, refused}
-use Rattle.model.specs.Network.{table, select, project, join, setOperation, constant, column, union, difference, intersection, readNetwork}
+use Rattle.model.specs.Algebra.{constant, column}
+use Rattle.model.specs.Network.{table, select, project, join, setOperation, union, difference, intersection, readNetwork}
 use Rattle.model.specs.Calls.{readCall}
 use Rattle.model.specs.Examples.{recordBytes, shown}
 

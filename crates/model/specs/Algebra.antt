@@ -29,9 +29,25 @@ outcomeColumn Ordering·gt = 2
 unfoldable pub holdsOf : ℕ → Ordering → Bool
 holdsOf code outcome = getD (getD comparisons code []) (outcomeColumn outcome) false
 
--- how a select compares two fields: "the first-named column is on the left". The order of rows is another definition.
+-- how a select compares two fields, left and right. The order of rows is another definition.
 unfoldable pub compareFields : ℕ → ℕ → Ordering
 compareFields left right = compare left right
+
+-- ---- select
+
+-- what a select compares its column with: a constant (kind 2) or another column (kind 3)
+pub data Operand : Type 0 where
+  constant : ℕ → Operand
+  column : ℕ → Operand
+
+-- the number that an operand is for a row: the constant, or the row's field
+abbrev pub operandIn : Operand → Row → ℕ
+operandIn (constant v) r = v
+operandIn (column c) r = getD r c 0
+
+-- a row passes the test of a column, a comparison and an operand: "the first-named column is on the left"
+abbrev pub passes : ℕ → ℕ → Operand → Row → Bool
+passes c code operand r = holdsOf code (compareFields (getD r c 0) (operandIn operand r))
 
 -- ---- rows made of rows
 
@@ -51,15 +67,10 @@ agree (p ∷ pairs) l r = eqb (getD l (p .left) 0) (getD r (p .right) 0) && agre
 
 -- ---- the operators
 
--- kind 2: "input rows that pass"
-unfoldable pub selectConstant : ℕ → ℕ → ℕ → Relation → Relation
+-- kind 2: "input rows that pass"; kind 3: "the same, two columns compared"
+unfoldable pub selectRows : ℕ → ℕ → Operand → Relation → Relation
 unfolding holdsOf compareFields
-selectConstant column code constant input = keep (λ r. holdsOf code (compareFields (getD r column 0) constant)) input
-
--- kind 3: "the same, two columns compared"
-unfoldable pub selectColumns : ℕ → ℕ → ℕ → Relation → Relation
-unfolding holdsOf compareFields
-selectColumns column code other input = keep (λ r. holdsOf code (compareFields (getD r column 0) (getD r other 0))) input
+selectRows c code operand input = keep (passes c code operand) input
 
 -- kind 4: "named columns, in order, repeats allowed"
 unfoldable pub projectRows : List ℕ → Relation → Relation

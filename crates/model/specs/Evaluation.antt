@@ -6,7 +6,7 @@ use lib.Dec.{ltb}
 use lib.ListN.{getD, length}
 use Rattle.model.specs.Row.{Relation, maxRows}
 use Rattle.model.specs.Network.{Node, build, isTable, inputsOf, leftOf, rightOf, evaluateOn}
-unfoldable pub use Rattle.model.specs.Network.{evaluateSelect, evaluateSet}
+unfoldable pub use Rattle.model.specs.Network.{evaluateSet}
 
 -- the rows of a node's input, given the rows of the nodes before it
 abbrev pub rowsAt : List Relation → ℕ → Relation

@@ -6,16 +6,11 @@ use Prim.Native.Nat.{ℕ, zero, suc, _+_, _*_, max, _<_}
 use lib.Dec.{leb, ltb, eqb}
 use lib.ListN.{getD, length, set, take}
 use Rattle.model.specs.Row.{Relation, maxWidth, maxNodes, allOf, isEmpty, place}
-use Rattle.model.specs.Algebra.{Pair, selectConstant, selectColumns, projectRows, joinRows, unionRows, differenceRows, intersectRows}
+use Rattle.model.specs.Algebra.{Operand, constant, column, Pair, selectRows, projectRows, joinRows, unionRows, differenceRows, intersectRows}
 use Rattle.model.specs.Record.{Bytes, u32, lengthAt, kindAt, fieldAt, fieldsAt, isBroken, offsets, Verdict, accepted, refused, rule}
 use Rattle.model.specs.Record.{firstBroken}
 
 -- ---- nodes
-
--- what a select compares its column with: a constant (kind 2) or another column (kind 3)
-pub data Operand : Type 0 where
-  constant : ℕ → Operand
-  column : ℕ → Operand
 
 -- kinds 6, 7, 8
 pub data SetOperation : Type 0 where
@@ -104,12 +99,6 @@ fitsOn v w (project i columns) = columnsBelow v columns
 fitsOn v w (join l r pairs columns) = pairsBelow v w pairs && columnsBelow (v + w) columns
 fitsOn v w (setOperation o l r) = eqb v w
 
--- kinds 2 and 3
-unfoldable pub evaluateSelect : ℕ → ℕ → Operand → Relation → Relation
-unfolding selectConstant selectColumns
-evaluateSelect c k (constant v) input = selectConstant c k v input
-evaluateSelect c k (column o) input = selectColumns c k o input
-
 -- kinds 6, 7, 8
 unfoldable pub evaluateSet : SetOperation → Relation → Relation → Relation
 unfolding unionRows differenceRows intersectRows
@@ -119,9 +108,9 @@ evaluateSet intersection l r = intersectRows l r
 
 -- what a node's kind gives from the rows of its first and its last input; a table's kind gives none
 unfoldable pub evaluateOn : Node → Relation → Relation → Relation
-unfolding evaluateSelect projectRows joinRows evaluateSet
+unfolding selectRows projectRows joinRows evaluateSet
 evaluateOn (table w) l r = []
-evaluateOn (select i c k o) l r = evaluateSelect c k o l
+evaluateOn (select i c k o) l r = selectRows c k o l
 evaluateOn (project i columns) l r = projectRows columns l
 evaluateOn (join i j pairs columns) l r = joinRows pairs columns l r
 evaluateOn (setOperation o i j) l r = evaluateSet o l r

@@ -9,7 +9,8 @@ use lib.ListN.{length, getD, take}
 use lib.Seq.{length-take-le, getD-take}
 use borrow.Author.Tests.{lt-ltb, le-ltb, le-leb, lt-leb, eq-eqb, ne-eqb, ltb-true, leb-true, eqb-true}
 use Rattle.model.specs.Record.{Bytes, u32, lengthAt, fieldAt, fieldsAt}
-use Rattle.model.specs.Network.{hasShape, projectShape, joinShape, itemAt, itemFits, nodeFits, watchFits, fitsOn, columnsBelow, pairsBelow, pairsAt, setAt, Operand, select, constant, column, operandBelow}
+use Rattle.model.specs.Network.{hasShape, projectShape, joinShape, itemAt, itemFits, nodeFits, watchFits, fitsOn, columnsBelow, pairsBelow, pairsAt, setAt, select, operandBelow}
+use Rattle.model.specs.Algebra.{Operand, constant, column}
 use Rattle.model.proofs.Sets.{and-first, and-second}
 use Rattle.nodes.specs.Nodes.{NodeRecord, WatchRecord, numberOf, itemOf, operationOf, setKind, bodyFault, selectFits, Fits, ReadsBody}
 use Rattle.nodes.specs.declared.Operand.the-variants.{Constant, Column}

@@ -5,11 +5,10 @@ use mathlib.Core.List.{List, [], _∷_}
 use Prim.Native.Nat.{ℕ, zero, suc, _+_, _*_, _≤_, _<_}
 use lib.Dec.{ltb}
 use lib.ListN.{getD, take, drop, length}
-use Rattle.model.specs.Algebra.{Pair}
+use Rattle.model.specs.Algebra.{Pair, constant, column}
 use Rattle.model.specs.Record.{Bytes, kindAt, fieldAt, fieldsAt, rule, firstBroken}
-use Rattle.model.specs.Network as model
-use Rattle.model.specs.Network.{Item, nodeItem, watchItem, table, select, project, join, setOperation, constant, column, union, difference}
-use Rattle.model.specs.Network.{intersection, kindOf, pairsAt, hasShape, itemAt, itemFits, recordFault}
+use Rattle.model.specs.Network.{Item, nodeItem, watchItem, table, select, project, join, setOperation, union}
+use Rattle.model.specs.Network.{difference, intersection, kindOf, pairsAt, hasShape, itemAt, itemFits, recordFault}
 use Rattle.nodes.specs.declared.Operand.{Operand}
 use Rattle.nodes.specs.declared.Operand.the-variants.{Constant, Column}
 use Rattle.nodes.specs.declared.SetOperation.{SetOperation}
@@ -17,14 +16,16 @@ use Rattle.nodes.specs.declared.SetOperation.the-variants.{Union, Differ
 use Rattle.nodes.specs.declared.Node.{Node}
 use Rattle.nodes.specs.declared.Node.the-variants.{Table, Select, Project, Join, Set}
 use Rattle.nodes.specs.declared.Record.{Record}
-use Rattle.nodes.specs.declared.Item as declaredItem
 use Rattle.nodes.specs.declared.Item.the-variants.{Node as NodeBrought, Watch as WatchBrought}
 use Rattle.nodes.specs.declared.Record.the-variants.{Item as Brought, Refused}
+use Rattle.model.specs.Algebra as algebra
+use Rattle.model.specs.Network as model
+use Rattle.nodes.specs.declared.Item as declaredItem
 
 -- ---- nodes
 
 -- what a select compares with
-abbrev pub operandOf : Operand → model.Operand
+abbrev pub operandOf : Operand → algebra.Operand
 operandOf (Constant v) = constant v
 operandOf (Column c) = column c
 

@@ -114,7 +114,7 @@ kept-copied p s i out after m e h f k a = rw a (kept-yes p s i out m e h f k)
 
 -- ---- fields of a row in words
 
-pub row-field : (n : ℕ) (s : List ℕ) (at k : ℕ) → k < n → getD (fields n s at) k 0 ≡ getD s (at + k) 0
+row-field : (n : ℕ) (s : List ℕ) (at k : ℕ) → k < n → getD (fields n s at) k 0 ≡ getD s (at + k) 0
 unfolding fields
 row-field zero s at k h = absurd (not-suc-le-zero h)
 row-field (suc n) s at zero h = let e : at + 0 ≡ at = omega arith in rw e
