@@ -1,11 +1,11 @@
 -- A test of every number below another, made one by one. Assumes nothing.
-use mathlib.Core.Bool.{Bool, false, true, true≢false, _&&_}
+use mathlib.Core.Bool.{Bool, false, not, true, true≢false, _&&_}
 use mathlib.Core.Path.{ap, refl, sym, _∙_, _≡_, ap₂}
 use Prim.Native.Nat.{_+_, _<_, ℕ, _≤_, suc, zero}
 use native.Mathlib.Omega.{arith}
 use native.Mathlib.Nat.{not-suc-le-zero, zero-add}
 use lib.Dec.{ltb}
-use borrow.Author.Tests.{ltb-false, ltb-true}
+use borrow.Author.Tests.{ltb-false, ltb-true, not-false, not-true}
 use Rattle.model.specs.Row.{allOf, numbersBelow, countFrom}
 use Rattle.rows.proofs.Place.{all-below, below-all}
 
@@ -17,25 +17,27 @@ module _ (p : ℕ → Bool) (n : ℕ) where
   pub all-none : AllTo 0
   all-none j h = absurd (not-suc-le-zero h)
 
-  pub all-more : (i : ℕ) → AllTo i → p i ≡ true → AllTo (i + 1)
-  all-more i a e j h = go (ltb j i) refl
+  -- an answer r says of one number more that it holds
+  pub all-more : (i : ℕ) (r : Bool) → AllTo i → r ≡ p i → not r ≡ false → AllTo (i + 1)
+  all-more i r a e t j h = go (ltb j i) refl
     where
       go : (t : Bool) → ltb j i ≡ t → p j ≡ true
       go true f = a j (ltb-true j i f)
       go false f =
           let k : i ≤ j = ltb-false j i f in
           let same : j ≡ i = omega arith in
-          rw same e
+          rw same (sym e ∙ not-false r t)
 
   pub all-done : (i : ℕ) → n ≤ i → AllTo i → allOf p (numbersBelow n) ≡ true
   all-done i h a = below-all p 0 n (λ j k. rw (zero-add j) (a j (omega arith)))
 
-  pub all-not : (i : ℕ) → i < n → p i ≡ false → allOf p (numbersBelow n) ≡ false
-  all-not i h e = go (allOf p (numbersBelow n)) refl
+  -- an answer r says of a number that it does not
+  pub all-not : (i : ℕ) (r : Bool) → i < n → r ≡ p i → not r ≡ true → allOf p (numbersBelow n) ≡ false
+  all-not i r h e t = go (allOf p (numbersBelow n)) refl
     where
       go : (t : Bool) → allOf p (numbersBelow n) ≡ t → t ≡ false
       go false f = refl
-      go true f = let holds : p (0 + i) ≡ true = all-below p 0 n f i h in absurd (true≢false (sym holds ∙ ap p (zero-add i) ∙ e))
+      go true f = let holds : p (0 + i) ≡ true = all-below p 0 n f i h in absurd (true≢false (sym holds ∙ ap p (zero-add i) ∙ sym e ∙ not-true r t))
 
 -- two tests that say the same
 pub all-ext : (p q : ℕ → Bool) (from n : ℕ) → ((i : ℕ) → p i ≡ q i) → allOf p (countFrom from n) ≡ allOf q (countFrom from n)

@@ -1,5 +1,5 @@
 -- Good form, part by part. Assumes nothing.
-use mathlib.Core.Bool.{_&&_, Bool, cond, false, true}
+use mathlib.Core.Bool.{_&&_, Bool, cond, false, not, true}
 use mathlib.Core.List.{List}
 use mathlib.Core.Path.{ap, ap₂, refl, sym, _∙_, _≡_}
 use Prim.Native.Nat.{_*_, _+_, _<_, ℕ, _≤_, _-_}
@@ -7,7 +7,7 @@ use native.Mathlib.Omega.{arith}
 use lib.ListN.{drop, getD, length, take}
 use lib.Dec.{eqb, ltb, leb}
 use lib.Seq.{getD-take, length-take-le, slice}
-use borrow.Author.Tests.{lt-leb, ltb-true, leb-true}
+use borrow.Author.Tests.{lt-leb, ltb-true, leb-true, not-false, not-true}
 use Rattle.model.specs.Row.{allOf, numbersBelow}
 use Rattle.model.specs.Areas.{allZero, emptyPlace, goodArea, goodPlace, heldIn, layout, goodForm, goodStamps, goodWorked, longEnough}
 use Rattle.rows.specs.Rows.{firstRows, goodRows}
@@ -92,7 +92,7 @@ long-parts rows gained lost head e =
     )
 
 -- good form from the widths alone
-pub form-is : (n : ℕ) (ws rows gained lost head : List ℕ) (nodes : List Node) → n ≤ length ws → take n ws ≡ widths nodes → goodForm layout nodes (lent rows gained lost head)
+form-is : (n : ℕ) (ws rows gained lost head : List ℕ) (nodes : List Node) → n ≤ length ws → take n ws ≡ widths nodes → goodForm layout nodes (lent rows gained lost head)
     ≡ (goodArea layout (take n ws) (countsFrom head 1) rows && goodArea layout (take n ws) (countsFrom head 65) gained && goodArea layout (take n ws)
     (countsFrom head 97) lost && goodStamps n head && goodWorked n head)
 unfolding goodForm
@@ -117,3 +117,42 @@ module _ (a b c d e : Bool) where
 
   pub form-last : a ≡ true → b ≡ true → c ≡ true → d ≡ true → (a && b && c && d && e) ≡ e
   form-last f g h i = rw (f, g, h, i)
+
+-- the check of the four areas and the head: the first answer that says no decides, else the last
+module _ (n : ℕ) (ws rows gained lost head : List ℕ) (h : n ≤ length ws) where
+  abbrev areaGood : ℕ → List ℕ → Bool
+  areaGood first area = goodArea layout (take n ws) (countsFrom head first) area
+
+  abbrev allGood : Bool
+  allGood = areaGood 1 rows && areaGood 65 gained && areaGood 97 lost && goodStamps n head && goodWorked n head
+
+  -- what the check answers, of any nodes with these widths
+  abbrev Judges : Bool → Type 0
+  Judges r = (nodes : List Node) → take n ws ≡ widths nodes → r ≡ goodForm layout nodes (lent rows gained lost head)
+
+  judged : (r : Bool) → allGood ≡ r → Judges r
+  judged r f nodes e = sym (form-is n ws rows gained lost head nodes h e ∙ f)
+
+  pub judges-rows : (a : Bool) → a ≡ areaGood 1 rows → not a ≡ true → Judges false
+  judges-rows a p t = judged false (form-first (areaGood 1 rows) (areaGood 65 gained) (areaGood 97 lost) (goodStamps n head) (goodWorked n head) (sym p ∙ not-true a t))
+
+  module _ (a : Bool) (p : a ≡ areaGood 1 rows) (i : not a ≡ false) where
+    pub judges-gained : (b : Bool) → b ≡ areaGood 65 gained → not b ≡ true → Judges false
+    judges-gained b q t = judged false
+        (form-second (areaGood 1 rows) (areaGood 65 gained) (areaGood 97 lost) (goodStamps n head) (goodWorked n head) (sym p ∙ not-false a i) (sym q ∙ not-true b t))
+
+    module _ (b : Bool) (q : b ≡ areaGood 65 gained) (j : not b ≡ false) where
+      pub judges-lost : (c : Bool) → c ≡ areaGood 97 lost → not c ≡ true → Judges false
+      judges-lost c r t = judged false
+          (form-third (areaGood 1 rows) (areaGood 65 gained) (areaGood 97 lost) (goodStamps n head) (goodWorked n head) (sym p ∙ not-false a i) (sym q ∙ not-false b j) (sym r ∙ not-true c t))
+
+      module _ (c : Bool) (r : c ≡ areaGood 97 lost) (k : not c ≡ false) where
+        pub judges-stamps : (d : Bool) → d ≡ goodStamps n head → not d ≡ true → Judges false
+        judges-stamps d u t = judged false
+            (form-fourth (areaGood 1 rows) (areaGood 65 gained) (areaGood 97 lost) (goodStamps n head) (goodWorked n head) (sym p ∙ not-false a i) (sym q ∙ not-false b j)
+            (sym r ∙ not-false c k) (sym u ∙ not-true d t))
+
+        pub judges-worked : (d : Bool) → d ≡ goodStamps n head → not d ≡ false → (e : Bool) → e ≡ goodWorked n head → Judges e
+        judges-worked d u l e v = judged e
+            (form-last (areaGood 1 rows) (areaGood 65 gained) (areaGood 97 lost) (goodStamps n head) (goodWorked n head) (sym p ∙ not-false a i) (sym q ∙ not-false b j)
+            (sym r ∙ not-false c k) (sym u ∙ not-false d l) ∙ sym v)

@@ -1,7 +1,6 @@
 use mathlib.Core.Path.{sym, _∙_}
 use Prim.Native.Nat.{_-_, _≤_}
 use native.Mathlib.Omega.{arith}
-use borrow.Author.Tests.{not-false, not-true}
 use borrow.Author.Needs.{needs}
 use Rattle.areas.proofs.good_area.Statement.{statement}
 use Rattle.areas.proofs.All.{AllTo, all-done, all-more, all-none, all-not}
@@ -28,8 +27,8 @@ good-node-requires c κs = search needs
 returns : tie.Need-returns Inv-loop μ-loop
 returns c = let a = c .before .before .before .before .before .before .before .args in sym
     (area-is (a .widths .now) (a .n) (countsFrom (a .head .now) (a .first)) (a .area .now) (c .before .before .before .before .before .before .before .pre .1)
-    ∙ all-not (nodeGood (a .widths .now) (a .n) (countsFrom (a .head .now) (a .first)) (a .area .now)) 32 (c .before .before .before .loop .i) (omega arith)
-    (sym (c .before .good-node .ensures) ∙ not-true (c .before .good-node .result) (c .if1 .taken)))
+    ∙ all-not (nodeGood (a .widths .now) (a .n) (countsFrom (a .head .now) (a .first)) (a .area .now)) 32 (c .before .before .before .loop .i) (c .before .good-node .result)
+    (omega arith) (c .before .good-node .ensures) (c .if1 .taken))
 
 add-i : tie.Need-add-i Inv-loop μ-loop
 add-i c = omega arith
@@ -42,7 +41,7 @@ loop-again c = let a = c .before .before .before .before .before .before .before
     in (
       omega arith,
       all-more (nodeGood (a .widths .now) (a .n) (countsFrom (a .head .now) (a .first)) (a .area .now)) 32 (c .before .before .before .loop .i)
-          (c .before .before .before .loop .inv .1) (sym (c .before .good-node .ensures) ∙ not-false (c .before .good-node .result) (c .if1 .left)),
+          (c .before .good-node .result) (c .before .before .before .loop .inv .1) (c .before .good-node .ensures) (c .if1 .left),
     )
 
 returns-2 : tie.Need-returns-2 Inv-loop μ-loop

@@ -3,8 +3,7 @@ use lib.Dec.{leb, ltb}
 use mathlib.Core.Bool.{cond}
 use native.Mathlib.Omega.{arith}
 use borrow.Author.Needs.{needs}
-use mathlib.Core.Path.{sym, _∙_}
-use borrow.Author.Tests.{not-true, not-false}
+use mathlib.Core.Path.{sym}
 use Rattle.areas.proofs.good_stamps.Statement.{statement}
 use Rattle.areas.proofs.All.{AllTo, all-none, all-not, all-more, all-done}
 use Rattle.model.specs.Areas.{stampAt, batchNumber, goodStamps}
@@ -31,8 +30,8 @@ good-stamp-requires c κs = search needs
 returns : tie.Need-returns Inv-loop μ-loop
 unfolding goodStamps
 returns c = let a = c .before .before .before .before .before .before .args in sym
-    (all-not (λ i. leb (stampAt (a .head .now) i) (cond (ltb i (a .n)) (batchNumber (a .head .now)) 0)) 32 (c .before .before .before .loop .node) (omega arith)
-    (sym (c .before .good-stamp .ensures) ∙ not-true (c .before .good-stamp .result) (c .if1 .taken)))
+    (all-not (λ i. leb (stampAt (a .head .now) i) (cond (ltb i (a .n)) (batchNumber (a .head .now)) 0)) 32 (c .before .before .before .loop .node)
+    (c .before .good-stamp .result) (omega arith) (c .before .good-stamp .ensures) (c .if1 .taken))
 
 add-node : tie.Need-add-node Inv-loop μ-loop
 add-node c = omega arith
@@ -45,7 +44,7 @@ loop-again c = let a = c .before .before .before .before .before .before .args
     in (
       omega arith,
       all-more (λ i. leb (stampAt (a .head .now) i) (cond (ltb i (a .n)) (batchNumber (a .head .now)) 0)) 32 (c .before .before .before .loop .node)
-          (c .before .before .before .loop .inv .1) (sym (c .before .good-stamp .ensures) ∙ not-false (c .before .good-stamp .result) (c .if1 .left)),
+          (c .before .good-stamp .result) (c .before .before .before .loop .inv .1) (c .before .good-stamp .ensures) (c .if1 .left),
     )
 
 returns-2 : tie.Need-returns-2 Inv-loop μ-loop

@@ -2,8 +2,8 @@ use Prim.Native.Nat.{_≤_, _-_}
 use mathlib.Core.Bool.{cond}
 use lib.Dec.{ltb, eqb}
 use native.Mathlib.Omega.{arith}
-use borrow.Author.Tests.{lt-leb, le-leb, not-true, not-false}
-use mathlib.Core.Path.{refl, sym, _∙_}
+use borrow.Author.Tests.{lt-leb, le-leb}
+use mathlib.Core.Path.{refl, sym}
 use borrow.Author.Needs.{needs}
 use Rattle.areas.proofs.good_worked.Statement.{statement}
 use Rattle.areas.proofs.All.{AllTo, all-none, all-not, all-more, all-done}
@@ -41,7 +41,7 @@ unfolding goodWorked
 returns-2 c = let a = c .before .before .before .before .before .before .before .args
     in rw (le-leb (workedCount (a .head .now)) (a .n) (omega (arith, c .before .before .before .before .if1 .left)))
     (sym (all-not (λ k. cond (ltb k (workedCount (a .head .now))) (ltb (workedAt (a .head .now) k) (a .n)) (eqb (workedAt (a .head .now) k) 0)) 32 (c .before .before .before .loop .k)
-    (omega arith) (sym (c .before .good-entry .ensures) ∙ not-true (c .before .good-entry .result) (c .if2 .taken))))
+    (c .before .good-entry .result) (omega arith) (c .before .good-entry .ensures) (c .if2 .taken)))
 
 add-k : tie.Need-add-k Inv-loop μ-loop
 add-k c = omega arith
@@ -54,7 +54,7 @@ loop-again c = let a = c .before .before .before .before .before .before .before
     in (
       omega arith,
       all-more (λ k. cond (ltb k (workedCount (a .head .now))) (ltb (workedAt (a .head .now) k) (a .n)) (eqb (workedAt (a .head .now) k) 0)) 32
-          (c .before .before .before .loop .k) (c .before .before .before .loop .inv .1) (sym (c .before .good-entry .ensures) ∙ not-false (c .before .good-entry .result) (c .if2 .left)),
+          (c .before .before .before .loop .k) (c .before .good-entry .result) (c .before .before .before .loop .inv .1) (c .before .good-entry .ensures) (c .if2 .left),
     )
 
 returns-3 : tie.Need-returns-3 Inv-loop μ-loop

@@ -2,7 +2,6 @@ use mathlib.Core.Path.{refl, sym, _∙_, _≡_}
 use Prim.Native.Nat.{_+_, _-_, _≤_}
 use native.Mathlib.Omega.{arith}
 use lib.ListN.{getD}
-use borrow.Author.Tests.{not-false, not-true}
 use Rattle.areas.proofs.All.{AllTo, all-none, all-more, all-done, all-not}
 use Rattle.coherence.proofs.is_coherent.Statement.{statement}
 use Rattle.coherence.proofs.Coherent.{coherent-is, level-derived, level-table}
@@ -53,8 +52,8 @@ returns c =
     sym (sym (coherent-is (a .t1) (c .before .before .before .before .before .before .before .before .before .before .before .pre .built)
     (c .before .before .before .before .before .before .before .before .before .before .before .pre .fit) (a .rows .now) (a .head .now))
     ∙ all-not (λ j. slotAgrees (getD (a .t1 .slots) j noSlot) (a .t1 .widths) (a .head .now) (a .rows .now) j) (a .t1 .count)
-    (c .before .before .before .before .before .before .before .before .loop .i) (omega arith)
-    (sym (c .before .node-agrees .ensures) ∙ not-true (c .before .node-agrees .result) (c .if1 .taken)))
+    (c .before .before .before .before .before .before .before .before .loop .i) (c .before .node-agrees .result)
+    (omega arith) (c .before .node-agrees .ensures) (c .if1 .taken))
 
 add-i : tie.Need-add-i Inv-loop μ-loop
 add-i c = omega arith
@@ -68,8 +67,8 @@ loop-again c = let a = c .before .before .before .before .before .before .before
       omega arith,
       c .before .before .before .before .before .before .before .before .loop .inv .1,
       all-more (λ j. slotAgrees (getD (a .t1 .slots) j noSlot) (a .t1 .widths) (a .head .now) (a .rows .now) j) (a .t1 .count)
-          (c .before .before .before .before .before .before .before .before .loop .i) (c .before .before .before .before .before .before .before .before .loop .inv .2)
-          (sym (c .before .node-agrees .ensures) ∙ not-false (c .before .node-agrees .result) (c .if1 .left)),
+          (c .before .before .before .before .before .before .before .before .loop .i) (c .before .node-agrees .result)
+          (c .before .before .before .before .before .before .before .before .loop .inv .2) (c .before .node-agrees .ensures) (c .if1 .left),
     )
 
 returns-2 : tie.Need-returns-2 Inv-loop μ-loop
