@@ -21,7 +21,8 @@ use Rattle.network.specs.Reading.{nodesOf}
 use Rattle.model.specs.Batch.{readBatch}
 use Rattle.states.proofs.Batches.{batch-within}
 use Rattle.propagation.specs.Propagated.{Ready, tablesAfter, newRows, limitVerdict}
-use Rattle.working.specs.Working.{WorkedTo, working}
+use Rattle.working.specs.Worked.{WorkedTo}
+use Rattle.new_rows.specs.Working.{working}
 use Rattle.coherence.specs.Held.{rowsHeld}
 use Rattle.model.specs.Evaluation.{overfull, evaluate}
 use Rattle.evaluation.proofs.Fresh.{same-eq}

@@ -25,7 +25,8 @@ use Rattle.states.proofs.Written.{sized}
 use Rattle.model.specs.Delta.{netChanges, netChange, Change, isChanged, changeAt}
 use Rattle.states.proofs.Changes.{changes-length, gained-fits, lost-fits, map-at, changes-at, changed-is}
 use Rattle.model.specs.Algebra.{differenceRows}
-use Rattle.working.specs.Working.{Worked, working, oldRows}
+use Rattle.working.specs.Worked.{Worked}
+use Rattle.new_rows.specs.Working.{working, oldRows}
 use Rattle.places.specs.Places.{Place, relationIn}
 use Rattle.working.proofs.Differ.{fills-place, same-flag}
 use Rattle.model.proofs.Sets.{ascending-holds}
@@ -33,13 +34,10 @@ use Rattle.places.proofs.Places.{place-count}
 use Rattle.changes.proofs.Filled.{filled-later, filled-length, filled-more, filled-none}
 use Rattle.changes.specs.declared.Sizes.{Sizes}
 use Rattle.states.proofs.Head.{padded-length}
+use Rattle.model.proofs.Parts.{map-append}
 
 lengths-more : (rels : List Relation) (i : ℕ) → i < length rels → map length (take (i + 1) rels) ≡ map length (take i rels) ++ (length (getD rels i []) ∷ [])
-lengths-more rels i h = let e : i + 1 ≡ suc i = omega arith in ap (λ (k : ℕ). map length (take k rels)) e ∙ ap (map length) (take-suc rels i [] h) ∙ map-snoc (take i rels) (getD rels i [])
-  where
-    map-snoc : (l : List Relation) (r : Relation) → map length (l ++ (r ∷ [])) ≡ map length l ++ (length r ∷ [])
-    map-snoc [] r = refl
-    map-snoc (x ∷ l) r = ap (λ (m : List ℕ). length x ∷ m) (map-snoc l r)
+lengths-more rels i h = let e : i + 1 ≡ suc i = omega arith in ap (λ (k : ℕ). map length (take k rels)) e ∙ ap (map length) (take-suc rels i [] h) ∙ map-append {A = Relation} {B = ℕ} length (take i rels) (getD rels i [] ∷ [])
 
 -- a count set in an array of 32
 sizes-more : (rels : List Relation) (i : ℕ) (array : List ℕ) (x : ℕ) → i < length rels → length rels ≤ 32 → array ≡ padded 32 (map length (take i rels)) → x ≡ length (getD rels i []) →

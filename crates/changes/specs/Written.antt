@@ -14,7 +14,8 @@ use Rattle.network.specs.declared.Network.{Network}
 use Rattle.network.specs.Reading.{nodesOf, Built}
 use Rattle.areas.specs.Lent.{lent}
 use Rattle.states.specs.Fitting.{Fitting}
-use Rattle.working.specs.Working.{working, WorkedTo}
+use Rattle.new_rows.specs.Working.{working}
+use Rattle.working.specs.Worked.{WorkedTo}
 use Rattle.changes.specs.declared.Sizes.{Sizes}
 
 -- ---- one node

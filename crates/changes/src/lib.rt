@@ -53,7 +53,8 @@ pub struct Sizes {
     pub lost: usize,
 }
 
-// Node i's change written, from its n new rows in the working rows and its m old ones in the rows area; the new ones are put in the rows area last.
+// Node i's change written, from its n new rows in the working rows and its m old ones in the rows area, over which
+// the new ones are put last.
 fn write_change(
     i: usize,
     work: &[u32],

@@ -19,13 +19,9 @@ use Rattle.model.specs.Evaluation.{evaluate, rowsAt}
 use Rattle.evaluation.proofs.Fresh.{fresh-derived, fresh-table, inputs-before}
 use Rattle.model.proofs.Build.{length-evaluate}
 use Rattle.model.proofs.ByKind.{on-none}
+use Rattle.model.proofs.Parts.{same-at}
 use Rattle.model.specs.Station.{opened}
 use Rattle.states.proofs.Worked.{worked-few, worked-low}
-
-none-at : (n i : ℕ) → getD (replicate {A = Relation} n []) i [] ≡ []
-none-at zero i = refl
-none-at (suc n) zero = refl
-none-at (suc n) (suc i) = none-at n i
 
 -- ---- an evaluation of empty tables is empty
 
@@ -36,7 +32,7 @@ module _ (nodes : List Node) (fit : AllFit nodes) where
     where
       go : (t : Bool) → isTable (nodeAt nodes i) ≡ t → ((j : ℕ) → j < k → rowsAt (evaluate nodes (replicate (length nodes) [])) j ≡ []) →
           rowsAt (evaluate nodes (replicate (length nodes) [])) i ≡ []
-      go true e ih = fresh-table nodes fit (replicate (length nodes) []) i (omega arith) e ∙ none-at (length nodes) i
+      go true e ih = fresh-table nodes fit (replicate (length nodes) []) i (omega arith) e ∙ same-at {A = Relation} [] (length nodes) i
       go false e ih =
           let b : (leftOf (nodeAt nodes i) < i) × (rightOf (nodeAt nodes i) < i) = inputs-before nodes fit i (omega arith) e in
           fresh-derived nodes fit (replicate (length nodes) []) i (omega arith) e
@@ -48,7 +44,7 @@ module _ (nodes : List Node) (fit : AllFit nodes) where
   fresh-none =
       let size : length (evaluate nodes (replicate (length nodes) [])) ≡ length nodes = length-evaluate nodes (replicate (length nodes) []) in
       ext-getD [] (evaluate nodes (replicate (length nodes) [])) (replicate (length nodes) []) (size ∙ sym (length-replicate {A = Relation} (length nodes) []))
-      (λ i h. none-to (length nodes) (le-refl (length nodes)) i (rw size at h) ∙ sym (none-at (length nodes) i))
+      (λ i h. none-to (length nodes) (le-refl (length nodes)) i (rw size at h) ∙ sym (same-at {A = Relation} [] (length nodes) i))
 
 none-fits : (ws : List ℕ) → length ws ≤ 32 → ((i : ℕ) → getD ws i 0 ≤ 4) → Fitting ws (replicate (length ws) [])
 none-fits ws few narrow =
@@ -56,9 +52,9 @@ none-fits ws few narrow =
       size = length-replicate {A = Relation} (length ws) [];
       few = few;
       narrow = narrow;
-      wide = λ i h. rw (none-at (length ws) i) tt;
-      small = λ i h. rw (none-at (length ws) i) zero-le;
-      asc = λ i h. rw (none-at (length ws) i) refl;
+      wide = λ i h. rw (same-at {A = Relation} [] (length ws) i) tt;
+      small = λ i h. rw (same-at {A = Relation} [] (length ws) i) zero-le;
+      asc = λ i h. rw (same-at {A = Relation} [] (length ws) i) refl;
     }
 
 only-none : (nodes : List Node) → tablesOf nodes (replicate (length nodes) []) ≡ replicate (length nodes) []
@@ -73,11 +69,6 @@ only-none (n ∷ nodes) = ap₂ {A = Relation} {B = List Relation} {C = List Rel
 map-none : (g : Change → Relation) (n : ℕ) → g noChange ≡ [] → map g (replicate n noChange) ≡ replicate n []
 map-none g zero e = refl
 map-none g (suc n) e = ap₂ {A = Relation} {B = List Relation} {C = List Relation} (λ a b. a ∷ b) e (map-none g n e)
-
-zeros-low : (n i : ℕ) → getD (replicate {A = ℕ} n 0) i 0 ≤ 0
-zeros-low zero i = zero-le
-zeros-low (suc n) zero = zero-le
-zeros-low (suc n) (suc i) = zeros-low n i
 
 module _ (nodes : List Node) (fit : AllFit nodes) (small : Small nodes) where
   ws-few : length (widths nodes) ≤ 32
@@ -100,7 +91,7 @@ module _ (nodes : List Node) (fit : AllFit nodes) (small : Small nodes) where
         gained = rw (map-none (λ c. c .gained) (length nodes) refl) none-fitting;
         lost = rw (map-none (λ c. c .lost) (length nodes) refl) none-fitting;
         stamps-size = length-replicate {A = ℕ} (length nodes) 0;
-        stamps-low = zeros-low (length nodes);
+        stamps-low = λ i. omega (arith, same-at {A = ℕ} 0 (length nodes) i);
         worked-few = zero-le;
         worked-low = λ k h. absurd (not-suc-le-zero h);
       }

@@ -13,7 +13,8 @@ use Rattle.model.specs.Row.{Row, Relation, ascending, keep, keepIf}
 use Rattle.model.specs.Areas.{layout, fields, unusedZero, goodPlace, padded, placeOf}
 use Rattle.model.proofs.Sets.{and-first, and-second}
 use Rattle.rows.specs.Rows.{rowAt, rowsFrom, firstRows, words, stored, Wide}
-use Rattle.rows.proofs.Words.{length-row, length-words, rows-snoc, keep-append, wide-keep, wide-rows, stored-push, paste-sets, fields-part, drop-zeros}
+use Rattle.rows.proofs.Words.{length-row, length-words, rows-snoc, wide-keep, wide-rows, stored-push, paste-sets, fields-part, drop-zeros}
+use Rattle.model.proofs.Parts.{keep-append}
 use Rattle.rows.proofs.Place.{held-wide, length-held, length-map-padded, place-words, words-map}
 use Rattle.rows.proofs.Padding.{ascending-padded, keep-padded}
 use Rattle.rows.proofs.Checked.{placed-rows}

@@ -1,6 +1,6 @@
 -- All nodes worked, one after the other, from areas of good form. Assumes nothing.
 use mathlib.Core.List.{List, [], _∷_}
-use Prim.Native.Nat.{ℕ, _<_, _≤_, _+_, zero, suc}
+use Prim.Native.Nat.{ℕ, _<_, _≤_, _+_}
 use lib.ListN.{length, getD, replicate, length-replicate}
 use mathlib.Core.Path.{_≡_, _∙_, refl, sym, ap, ap₂}
 use lib.Dec.{ltb, eqb}
@@ -12,7 +12,8 @@ use Rattle.model.specs.Network.{Node, AllFit, widths, nodeAt, isTable, table, l
 use Rattle.network.specs.declared.Network.{Network}
 use Rattle.model.specs.Record.{Bytes, Verdict, refused, offsets}
 use Rattle.propagation.specs.Propagated.{Ready, tablesAfter, newRows, changedIn, limitVerdict, Propagates}
-use Rattle.working.specs.Working.{Working, working, Worked, Present, presentRows, presentPlace, WorkedTo, Workable, nextRows, WorksNode}
+use Rattle.new_rows.specs.Working.{Working, working, Present, presentRows, presentPlace, Workable}
+use Rattle.working.specs.Worked.{Worked, WorkedTo, nextRows, WorksNode}
 use Rattle.worklist.specs.Listed.{inputChanged}
 use Rattle.propagation.specs.declared.Propagated.the-variants.{All, Over}
 use Rattle.network.specs.Reading.{nodesOf, Built, noSlot, slotNode}
@@ -20,6 +21,7 @@ use Rattle.model.specs.Row.{Relation, ascending, sameRows, place}
 use Rattle.coherence.specs.Held.{rowsHeld, Places, heldAt, Derived}
 use Rattle.coherence.proofs.Coherent.{nodes-count, rows-held, width-is, rows-length, slot-node, level-derived, level-table, narrow-widths}
 use Rattle.model.proofs.Fits.{length-widths}
+use Rattle.model.proofs.Parts.{same-at}
 use Rattle.model.specs.Evaluation.{rowsAt, overfull}
 use Rattle.states.specs.Fitting.{Fitting}
 use Rattle.states.proofs.Written.{sized}
@@ -40,11 +42,6 @@ use Rattle.network.specs.declared.Slot.{Slot}
 use Rattle.tables.proofs.Acts.{accepted-folds, acts-fold}
 use Rattle.tables.specs.Fold.{foldRows}
 use Rattle.evaluation.proofs.Fresh.{tables-at}
-
-none : {A : Type 0} (d : A) (j n : ℕ) → getD (replicate {A = A} n d) j d ≡ d
-none d j zero = refl
-none d zero (suc n) = refl
-none d (suc j) (suc n) = none d j n
 
 module _ (net : Network) (rows head : List ℕ) (bs : Bytes) (ready : Ready net rows head bs) where
   abbrev nodes : List Node
@@ -273,8 +270,8 @@ module _ (net : Network) (rows head : List ℕ) (bs : Bytes) (ready : Ready net 
           changed = length-replicate {A = Bool} 32 false;
         };
         worked = λ j h. absurd (not-suc-le-zero h);
-        unchanged = λ j h. none false j 32;
-        uncounted = λ j h. none 0 j 32;
+        unchanged = λ j h. same-at false 32 j;
+        uncounted = λ j h. same-at 0 32 j;
       }
 
 -- ---- the verdict

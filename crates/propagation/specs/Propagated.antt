@@ -1,4 +1,5 @@
--- The nodes' rows after a batch, as they are worked out: document 000's propagation, with a node's own kind in place of its differentials.
+-- The nodes' rows after a batch, as they are worked out: document 000's propagation, with a node's own kind in place
+-- of its differentials.
 use mathlib.Core.Path.{_≡_}
 use mathlib.Core.Bool.{Bool, true, not, _||_, cond}
 use mathlib.Core.List.{List, [], _∷_}
@@ -13,7 +14,8 @@ use Rattle.model.specs.Areas.{tablesOf}
 use Rattle.network.specs.declared.Network.{Network}
 use Rattle.network.specs.Reading.{nodesOf}
 use Rattle.coherence.specs.Held.{Checkable, rowsHeld}
-use Rattle.working.specs.Working.{Working, WorkedTo}
+use Rattle.new_rows.specs.Working.{Working}
+use Rattle.working.specs.Worked.{WorkedTo}
 use Rattle.propagation.specs.declared.Propagated.{Propagated}
 use Rattle.propagation.specs.declared.Propagated.the-variants.{All, Over}
 
@@ -23,7 +25,8 @@ use Rattle.propagation.specs.declared.Propagated.the-variants.{All, Over
 abbrev pub changedIn : List Relation → List Relation → ℕ → Bool
 changedIn old new j = not (sameRows (rowsAt new j) (rowsAt old j))
 
--- the next node's rows: of a table those after the events; of a derived node its own where no input changed, else what its kind gives
+-- the next node's rows: of a table those after the events; of a derived node its own where no input changed,
+-- else what its kind gives
 abbrev pub nextOf : List Relation → List Relation → Node → List Relation → Relation
 nextOf old copy n done =
     cond (isTable n) (rowsAt copy (length done))

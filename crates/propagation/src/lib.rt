@@ -3,7 +3,7 @@ ghost use mathlib.Core.Path.{_≡_};
 ghost use mathlib.Core.Bool.{false};
 ghost use lib.ListN.{length, replicate};
 ghost use Rattle.network.specs.Reading.{verdictOf};
-ghost use Rattle.working.specs.Working.{working};
+ghost use Rattle.new_rows.specs.Working.{working};
 ghost use Rattle.propagation.specs.Propagated.{newRows, Ready, verdictBy, Propagates};
 ghost use Prim.Native.Nat.{_+_, _<_};
 use places::Made;

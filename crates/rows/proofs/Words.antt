@@ -13,6 +13,7 @@ use Rattle.model.specs.Row.{Row, andThen, order, keep, keepIf, place, insertRow
 use Rattle.model.specs.Areas.{fields}
 use Rattle.model.proofs.Order.{lt-compare, gt-compare, eq-compare}
 use Rattle.rows.specs.Rows.{rowAt, rowsFrom, words, stored}
+pub use Rattle.model.proofs.Parts.{keep-append}
 pub use Rattle.rows.specs.Rows.{Wide}
 
 -- ---- comparing field by field
@@ -202,14 +203,6 @@ rows-snoc w s j (suc n) =
     let e : suc n + 1 ≡ suc (n + 1) = omega arith in
     let f : j + suc n ≡ suc j + n = omega arith in
     rw (e, f, rows-snoc w s (suc j) n)
-
-pub keep-append : (p : Row → Bool) (a b : List Row) → keep p (a ++ b) ≡ keep p a ++ keep p b
-keep-append p [] b = refl
-keep-append p (x ∷ a) b = go (p x) (keep-append p a b)
-  where
-    go : (t : Bool) → keep p (a ++ b) ≡ keep p a ++ keep p b → keepIf t x (keep p (a ++ b)) ≡ keepIf t x (keep p a) ++ keep p b
-    go true ih = rw ih
-    go false ih = ih
 
 pub wide-keep : (w : ℕ) (p : Row → Bool) (l : List Row) → Wide w l → Wide w (keep p l)
 wide-keep w p [] h = tt

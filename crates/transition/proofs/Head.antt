@@ -8,9 +8,8 @@ use lib.ListN.{length, length-append, getD, set, drop, take}
 use lib.Seq.{paste, drop-append-add, drop-drop, take-at, take-all, drop-cons, set-at, append-snoc}
 use Rattle.model.specs.Row.{numbersBelow}
 use Rattle.model.specs.Areas.{padded, stampAt, over}
-use Rattle.model.proofs.Parts.{length-counted}
+use Rattle.model.proofs.Parts.{length-counted, numbers-more, map-append}
 use Rattle.rows.proofs.Padding.{padded-more}
-use Rattle.worklist.proofs.Listing.{numbers-more}
 use Rattle.transition.specs.Head.{stampsFrom, headFrom}
 
 -- ---- stamps
@@ -23,11 +22,7 @@ stamps-more head changed number i stamps x h e f =
     ∙ padded-more 32 (stampsFrom head changed number i) (cond (getD changed i false) number (stampAt head i)) i
     (length-counted (λ j. cond (getD changed j false) number (stampAt head j)) 0 i) h
     ∙ ap (padded 32) (sym
-    (ap (map (λ j. cond (getD changed j false) number (stampAt head j))) (numbers-more i) ∙ map-snoc (λ j. cond (getD changed j false) number (stampAt head j)) (numbersBelow i) i))
-  where
-    map-snoc : (f : ℕ → ℕ) (l : List ℕ) (y : ℕ) → map f (l ++ (y ∷ [])) ≡ map f l ++ (f y ∷ [])
-    map-snoc f [] y = refl
-    map-snoc f (z ∷ l) y = ap (λ (m : List ℕ). f z ∷ m) (map-snoc f l y)
+    (ap (map (λ j. cond (getD changed j false) number (stampAt head j))) (numbers-more i) ∙ map-append (λ j. cond (getD changed j false) number (stampAt head j)) (numbersBelow i) (i ∷ [])))
 
 -- ---- words written one after the other
 

@@ -20,7 +20,8 @@ use Rattle.model.specs.Areas.{goodPlace, placeOf, layout, heldIn, unusedZero}
 use Rattle.rows.proofs.Checked.{place-length}
 use Rattle.rows.proofs.Place.{place-reads, place-clean}
 use Rattle.areas.specs.Lent.{placeAt}
-use Rattle.working.specs.Working.{Puts, working}
+use Rattle.working.specs.Worked.{Puts}
+use Rattle.new_rows.specs.Working.{working}
 use Rattle.areas.proofs.Pasted.{place-pasted, place-other}
 
 -- rows that do not differ are the same

@@ -1,4 +1,2 @@
-pub mod Folding
-pub mod Inputs
 pub mod Differ
 pub mod Nodes

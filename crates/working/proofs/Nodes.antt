@@ -10,7 +10,8 @@ use lib.Seq.{getD-set-same, getD-set-other}
 use native.Mathlib.Omega.{arith}
 use Rattle.network.specs.declared.Slot.{Slot}
 use Rattle.model.specs.Record.{Bytes, offsets}
-use Rattle.working.specs.Working.{Working, Workable, oldRows, Present, presentRows, presentPlace, workedRows, mustWork, WorksNode, nextRows, working, Puts}
+use Rattle.new_rows.specs.Working.{Working, Workable, oldRows, Present, presentRows, presentPlace, workedRows, working}
+use Rattle.working.specs.Worked.{mustWork, WorksNode, nextRows, Puts}
 use Rattle.places.specs.Places.{Place, Fills, relationIn}
 use Rattle.areas.specs.Lent.{placeAt}
 use Rattle.model.specs.Areas.{rowCount, layout, placeOf}

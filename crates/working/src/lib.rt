@@ -1,101 +1,22 @@
-// A node's rows after a batch: a table's by its events, a derived node's from its inputs' present rows.
+// A node worked: its new rows put beside the old ones, if they are others, with their count.
 ghost use mathlib.Core.Path.{_≡_};
-ghost use mathlib.Core.Bool.{true, false, not, cond};
+ghost use mathlib.Core.Bool.{false, not};
 ghost use mathlib.Core.List.{List};
-ghost use Prim.Native.Nat.{ℕ, _+_, _≤_, _<_};
+ghost use Prim.Native.Nat.{ℕ, _≤_, _<_};
 ghost use lib.ListN.{length, getD};
 ghost use Rattle.model.specs.Row.{sameRows};
-ghost use Rattle.model.specs.Record.{offsets};
-ghost use Rattle.places.specs.Places.{Place, Blank, relationIn, Makes};
-ghost use Rattle.network.specs.Reading.{slotNode, Shaped};
+ghost use Rattle.places.specs.Places.{Place, relationIn};
+ghost use Rattle.network.specs.Reading.{slotNode};
 ghost use Rattle.areas.specs.Lent.{placeAt};
-ghost use Rattle.model.specs.Network.{leftOf, rightOf, evaluateOn, fitsOn};
-ghost use Rattle.tables.specs.Fold.{Foldable, foldRows};
-ghost use Rattle.working.specs.Working.{working, Sized, Present, presentRows, mustWork, workedRows, nextRows};
-ghost use Rattle.working.specs.Working.{Workable, WorksNode, Puts};
+ghost use Rattle.model.specs.Network.{leftOf, rightOf};
+ghost use Rattle.new_rows.specs.Working.{working, Workable};
+ghost use Rattle.working.specs.Worked.{mustWork, nextRows, WorksNode, Puts};
 use places::Made;
 use areas::CAPACITY;
+use places::Made;
 use areas::COUNTS;
 use areas::PLACE;
-use evaluation::Held;
 use network::Slot;
-use rows::STRIDE;
-
-// How many words the rows of a table take at most while a batch is folded: 128 rows.
-const FOLDED: usize = 512;
-
-// The place of node i's present rows: in the working rows where they changed, else in the rows area.
-fn place_of<'a>(changed: bool, work: &'a [u32], rows: &'a [u32], i: usize) -> &'a [u32]
-    requires { ⌜ (i < 32) × (8192 ≤ length (now work)) × (8192 ≤ length (now rows)) ⌝ }
-    ensures { λ r. ⌜ now r ≡ placeAt (cond changed (now (work .entry)) (now (rows .entry))) i ⌝ }
-{
-    if changed {
-        return &work[i * PLACE..i * PLACE + PLACE];
-    }
-    &rows[i * PLACE..i * PLACE + PLACE]
-}
-
-// A table's rows after its events, in an empty place: how many, or that they are more than 64.
-fn work_table(
-    bytes: &[u8],
-    table: usize,
-    width: usize,
-    rows: &[u32],
-    n: usize,
-    out: &mut [u32],
-) -> Made
-    requires { ⌜ Foldable (now bytes) table width × (table < 32) × (8192 ≤ length (now rows)) × Place width (placeAt (now rows) table) n
-        × Blank (now out) ⌝ }
-    ensures { λ r. ⌜ Makes
-        (foldRows (now (bytes .entry)) table width (offsets (now (bytes .entry))) (relationIn width (placeAt (now (rows .entry)) table) n))
-        (now (out .exit)) r ⌝ }
-{
-    let mut words = [0u32; FOLDED];
-    words::copy_run(rows, table * PLACE, &mut words, 0, n * STRIDE);
-    let count = tables::fold(&mut words, n, bytes, table, width);
-    if CAPACITY < count {
-        return Made::Over;
-    }
-    words::copy_run(&words, 0, out, 0, PLACE);
-    Made::Rows(count)
-}
-
-// What a derived node's kind gives from its inputs' present rows, in an empty place: how many rows, or that they are more than 64.
-fn work_derived<'a>(
-    slot: Slot,
-    widths: &[usize],
-    rows: &'a [u32],
-    work: &'a [u32],
-    counts: &[u32],
-    changed: &[bool],
-    out: &mut [u32],
-) -> Made
-    requires { ⌜ Sized (working (now widths) (now rows) (now work) (now counts) (now changed)) × Shaped slot × (leftOf (slotNode slot) < 32)
-        × (rightOf (slotNode slot) < 32) × Present (working (now widths) (now rows) (now work) (now counts) (now changed)) (leftOf (slotNode slot))
-        × Present (working (now widths) (now rows) (now work) (now counts) (now changed)) (rightOf (slotNode slot))
-        × (fitsOn (getD (now widths) (leftOf (slotNode slot)) 0) (getD (now widths) (rightOf (slotNode slot)) 0) (slotNode slot) ≡ true)
-        × Blank (now out) ⌝ }
-    ensures { λ r. ⌜ Makes
-        (evaluateOn (slotNode slot)
-        (presentRows (working (now (widths .entry)) (now (rows .entry)) (now (work .entry)) (now (counts .entry)) (now (changed .entry)))
-        (leftOf (slotNode slot)))
-        (presentRows (working (now (widths .entry)) (now (rows .entry)) (now (work .entry)) (now (counts .entry)) (now (changed .entry)))
-        (rightOf (slotNode slot)))) (now (out .exit)) r ⌝ }
-{
-    let l = evaluation::left_of(slot);
-    let r = evaluation::right_of(slot);
-    let left = Held {
-        width: widths[l],
-        count: counts[l] as usize,
-    };
-    let right = Held {
-        width: widths[r],
-        count: counts[r] as usize,
-    };
-    let from = place_of(changed[l], work, rows, l);
-    let with = place_of(changed[r], work, rows, r);
-    evaluation::evaluate(slot, from, left, with, right, out)
-}
 
 // Whether node i, of a level, must be worked: it is a table, or an input changed.
 fn must_work(slot: Slot, level: usize, changed: &[bool]) -> bool
@@ -120,7 +41,8 @@ fn differs(new: &[u32], n: usize, rows: &[u32], i: usize, m: usize) -> bool
     !words::same_words(new, &rows[i * PLACE..i * PLACE + PLACE], PLACE)
 }
 
-// The rows of a place put as node i's new rows, with their count; whether they are others than the old ones, and then the rows in the working rows.
+// The rows of a place put as node i's new rows: their count, whether they are others than the old ones, and if so
+// the rows themselves, in the working rows.
 fn put_node(
     out: &[u32],
     n: usize,
@@ -146,33 +68,8 @@ fn put_node(
     words::copy_run(out, 0, work, i * PLACE, PLACE);
 }
 
-// Node i's rows, of a level, worked in an empty place: how many, or that they are more than 64.
-fn work_rows<'a>(
-    slot: Slot,
-    level: usize,
-    i: usize,
-    bytes: &[u8],
-    widths: &[usize],
-    rows: &'a [u32],
-    head: &[u32],
-    work: &'a [u32],
-    counts: &[u32],
-    changed: &[bool],
-    out: &mut [u32],
-) -> Made
-    requires { ⌜ Workable slot level (now bytes) (now head) (working (now widths) (now rows) (now work) (now counts) (now changed)) i
-        × Blank (now out) ⌝ }
-    ensures { λ r. ⌜ Makes
-        (workedRows slot level (now (bytes .entry)) (now (head .entry))
-        (working (now (widths .entry)) (now (rows .entry)) (now (work .entry)) (now (counts .entry)) (now (changed .entry))) i) (now (out .exit)) r ⌝ }
-{
-    if level == 0 {
-        return work_table(bytes, i, widths[i], rows, head[COUNTS + i] as usize, out);
-    }
-    work_derived(slot, widths, rows, work, counts, changed, out)
-}
-
-// Node i, of a level, worked: its new rows are ready, or false if they are more than 64. Without a changed input it keeps its rows.
+// Node i, of a level, worked: its new rows are ready, or false if they are more than 64. Without a changed input it
+// keeps its rows.
 pub fn work_node(
     slot: Slot,
     level: usize,
@@ -198,7 +95,7 @@ pub fn work_node(
         return true;
     }
     let mut out = [0u32; PLACE];
-    let Made::Rows(count) = work_rows(
+    let Made::Rows(count) = new_rows::work_rows(
         slot,
         level,
         i,

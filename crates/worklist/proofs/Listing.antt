@@ -2,34 +2,19 @@
 use Prim.Native.Nat.{ℕ, suc, _+_, zero, _≤_, _<_, _-_}
 use mathlib.Core.Path.{_≡_, ap, sym, _∙_, refl}
 use mathlib.Core.List.{_++_, _∷_, List, flatMap, map, []}
-use native.Mathlib.Nat.{add-zero, zero-add, le-refl, le-trans}
+use native.Mathlib.Nat.{zero-add, le-refl, le-trans}
 use native.Mathlib.Omega.{arith}
 use mathlib.Core.Bool.{Bool, true, false, _&&_}
 use lib.ListN.{length, length-append, getD, replicate, length-replicate, set}
 use lib.Seq.{sets, getD-set-other, getD-set-same, ext-getD}
 use lib.Dec.{ltb}
 use borrow.Author.Tests.{lt-ltb, ltb-true, ltb-false}
-use Rattle.model.specs.Row.{countFrom, numbersBelow, keep, keepIf}
+use Rattle.model.specs.Row.{numbersBelow, keep, keepIf}
 use Rattle.worklist.specs.Listed.{isOfLevel, levelList, listTo}
-use Rattle.model.proofs.Parts.{sets-more, flat-append, flat-one, sets-first, counted-at, length-counted}
+use Rattle.model.proofs.Parts.{numbers-more, keep-append, sets-more, flat-append, flat-one, sets-first, counted-at, length-counted}
 use Rattle.states.proofs.Worked.{at-most-once, length-numbers}
 use Rattle.model.specs.Areas.{padded}
 use Rattle.rows.proofs.Words.{drop-zeros}
-
-pub count-more : (from n : ℕ) → countFrom from (suc n) ≡ countFrom from n ++ ((from + n) ∷ [])
-count-more from zero = ap (λ (x : ℕ). x ∷ []) (sym (add-zero from))
-count-more from (suc n) = let e : suc from + n ≡ from + suc n = omega arith in ap (λ (l : List ℕ). from ∷ l) (count-more (suc from) n ∙ ap (λ (x : ℕ). countFrom (suc from) n ++ (x ∷ [])) e)
-
-pub numbers-more : (n : ℕ) → numbersBelow (n + 1) ≡ numbersBelow n ++ (n ∷ [])
-numbers-more n = let e : n + 1 ≡ suc n = omega arith in ap numbersBelow e ∙ count-more 0 n ∙ ap (λ (x : ℕ). numbersBelow n ++ (x ∷ [])) (zero-add n)
-
-keep-append : (p : ℕ → Bool) (a b : List ℕ) → keep p (a ++ b) ≡ keep p a ++ keep p b
-keep-append p [] b = refl
-keep-append p (x ∷ a) b = ap (keepIf (p x) x) (keep-append p a b) ∙ go (p x)
-  where
-    go : (t : Bool) → keepIf t x (keep p a ++ keep p b) ≡ keepIf t x (keep p a) ++ keep p b
-    go true = refl
-    go false = refl
 
 pub keep-more : (p : ℕ → Bool) (n : ℕ) → keep p (numbersBelow (n + 1)) ≡ keep p (numbersBelow n) ++ keepIf (p n) n []
 keep-more p n = ap (keep p) (numbers-more n) ∙ keep-append p (numbersBelow n) (n ∷ [])

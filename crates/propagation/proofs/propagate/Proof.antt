@@ -4,7 +4,8 @@ use mathlib.Core.Path.{ap, _≡_}
 use lib.ListN.{length}
 use borrow.Author.Tests.{not-true, not-false}
 use Rattle.propagation.proofs.propagate.Statement.{statement}
-use Rattle.working.specs.Working.{WorkedTo, working}
+use Rattle.working.specs.Worked.{WorkedTo}
+use Rattle.new_rows.specs.Working.{working}
 use Rattle.propagation.specs.Propagated.{newRows}
 use Rattle.propagation.proofs.Network.{new-many, worked-none, can-work, next-is, worked-more, propagates-over, propagates-all}
 use Rattle.propagation.proofs.propagate.Tie as tie

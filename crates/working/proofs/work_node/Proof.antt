@@ -6,14 +6,9 @@ use Prim.Native.Nat.{_+_}
 use lib.ListN.{getD}
 use Rattle.working.proofs.work_node.Statement.{statement}
 use Rattle.working.proofs.Nodes.{kept-works, made-place, put-works}
-use Rattle.working.specs.Working.{working}
+use Rattle.new_rows.specs.Working.{working}
 use Rattle.places.proofs.Places.{place-few}
 use Rattle.working.proofs.work_node.Tie as tie
-use Rattle.working.proofs.work_node.Reads as reads
-use Rattle.working.proofs.work_node.Lts as lts
-use Rattle.working.proofs.must_work.Reads as must-work-reads
-use Rattle.working.proofs.put_node.Reads as put-node-reads
-use Rattle.working.proofs.work_rows.Reads as work-rows-reads
 
 add-n : tie.Need-add-n
 add-n c = omega (arith, c .before .before .before .before .before .before .before .pre .inside)

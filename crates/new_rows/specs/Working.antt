@@ -1,14 +1,13 @@
 -- A node's rows after a batch, as they are worked out in words.
 use mathlib.Core.Path.{_≡_}
-use mathlib.Core.Bool.{Bool, true, false, not, _||_, cond}
+use mathlib.Core.Bool.{Bool, false, cond}
 use mathlib.Core.List.{List}
 use Prim.Native.Nat.{ℕ, _≤_, _<_}
 use lib.Dec.{eqb}
-use lib.ListN.{getD, length, set}
-use Rattle.model.specs.Row.{Relation, sameRows}
+use lib.ListN.{getD, length}
+use Rattle.model.specs.Row.{Relation}
 use Rattle.model.specs.Record.{Bytes, offsets}
-use Rattle.model.specs.Evaluation.{rowsAt}
-use Rattle.model.specs.Areas.{layout, placeOf, rowCount}
+use Rattle.model.specs.Areas.{rowCount}
 use Rattle.nodes.specs.Nodes.{Narrow}
 use Rattle.network.specs.declared.Slot.{Slot}
 use Rattle.network.specs.Reading.{slotNode}
@@ -17,7 +16,6 @@ use Rattle.places.specs.Places.{Place, relationIn}
 use Rattle.model.specs.Network.{leftOf, rightOf, evaluateOn}
 use Rattle.coherence.specs.Held.{heldAt, Derived}
 use Rattle.tables.specs.Fold.{Foldable, foldRows}
-use Rattle.worklist.specs.Listed.{inputChanged}
 
 -- ---- what is read and written
 
@@ -60,19 +58,12 @@ oldRows head m i = heldAt (m .widths) head (m .rows) i
 
 -- ---- one node
 
--- what working node i's record, of a level, gives: a table's rows after its events, or what a derived node's kind gives from its inputs' present rows
+-- what working node i's record, of a level, gives: a table's rows after its events,
+-- or what a derived node's kind gives from its inputs' present rows
 abbrev pub workedRows : Slot → ℕ → Bytes → List ℕ → Working → ℕ → Relation
 workedRows slot level bs head m i =
     cond (eqb level 0) (foldRows bs i (getD (m .widths) i 0) (offsets bs) (oldRows head m i))
     (evaluateOn (slotNode slot) (presentRows m (leftOf (slotNode slot))) (presentRows m (rightOf (slotNode slot))))
-
--- node i must be worked: it is a table, or an input changed
-abbrev pub mustWork : Slot → ℕ → List Bool → Bool
-mustWork slot level changed = eqb level 0 || inputChanged slot changed
-
--- node i's new rows
-abbrev pub nextRows : Slot → ℕ → Bytes → List ℕ → Working → ℕ → Relation
-nextRows slot level bs head m i = cond (mustWork slot level (m .changed)) (workedRows slot level bs head m i) (oldRows head m i)
 
 -- a node that can be worked, number i of a level
 pub record Workable (slot : Slot) (level : ℕ) (bs : Bytes) (head : List ℕ) (m : Working) (i : ℕ) : Type 0 where
@@ -86,39 +77,3 @@ pub record Workable (slot : Slot) (level : ℕ) (bs : Bytes) (head : List ℕ) (
   pub derived : (level ≡ 0 → ⊥) → Derived slot (m .widths) i
   pub left : (level ≡ 0 → ⊥) → Present m (leftOf (slotNode slot))
   pub right : (level ≡ 0 → ⊥) → Present m (rightOf (slotNode slot))
-
--- node i's new rows are there, with their count, and whether they are others than the old ones
-pub record Worked (head : List ℕ) (m : Working) (new : Relation) (i : ℕ) : Type 0 where
-  pub count : getD (m .counts) i 0 ≡ length new
-  pub few : length new ≤ 64
-  pub changed : getD (m .changed) i false ≡ not (sameRows new (oldRows head m i))
-  pub place : presentPlace m i ≡ placeOf layout new
-
--- nothing is written but for node i
-pub record KeepsOthers (m after : Working) (i : ℕ) : Type 0 where
-  pub sized : Sized after
-  pub counts : (j : ℕ) → (j ≡ i → ⊥) → getD (after .counts) j 0 ≡ getD (m .counts) j 0
-  pub changed : (j : ℕ) → (j ≡ i → ⊥) → getD (after .changed) j false ≡ getD (m .changed) j false
-  pub work : (j : ℕ) → j < 32 → (j ≡ i → ⊥) → placeAt (after .work) j ≡ placeAt (m .work) j
-
--- rows of a place put as node i's new ones
-pub record Puts (old : Relation) (new : Relation) (out : List ℕ) (n : ℕ) (m after : Working) (i : ℕ) : Type 0 where
-  pub counts : after .counts ≡ set (m .counts) i n
-  pub changed : after .changed ≡ set (m .changed) i (not (sameRows new old))
-  pub place : presentPlace after i ≡ out
-  pub work-long : length (after .work) ≡ 8192
-  pub work : (j : ℕ) → j < 32 → (j ≡ i → ⊥) → placeAt (after .work) j ≡ placeAt (m .work) j
-
--- a node is worked: its new rows are there, or they are more than 64
-abbrev pub WorksNode : List ℕ → Relation → Working → Working → ℕ → Bool → Type 0
-WorksNode head new m after i true = Worked head after new i × KeepsOthers m after i
-WorksNode head new m after i false = 64 < length new
-
--- ---- the nodes so far
-
--- the first n nodes are worked
-pub record WorkedTo (head : List ℕ) (new : List Relation) (m : Working) (n : ℕ) : Type 0 where
-  pub sized : Sized m
-  pub worked : (j : ℕ) → j < n → Worked head m (rowsAt new j) j
-  pub unchanged : (j : ℕ) → n ≤ j → getD (m .changed) j false ≡ false
-  pub uncounted : (j : ℕ) → n ≤ j → getD (m .counts) j 0 ≡ 0

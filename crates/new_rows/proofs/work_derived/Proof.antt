@@ -1,15 +1,15 @@
 use borrow.Author.Needs.{needs}
 use native.Mathlib.Omega.{arith}
-use Rattle.working.proofs.work_derived.Statement.{statement}
-use Rattle.working.proofs.Inputs.{as-present}
-use Rattle.working.specs.Working.{working}
-use Rattle.working.proofs.work_derived.Tie as tie
-use Rattle.working.proofs.work_derived.Reads as reads
-use Rattle.working.proofs.work_derived.Lts as lts
+use Rattle.new_rows.proofs.work_derived.Statement.{statement}
+use Rattle.new_rows.proofs.Inputs.{as-present}
+use Rattle.new_rows.specs.Working.{working}
+use Rattle.new_rows.proofs.work_derived.Tie as tie
+use Rattle.new_rows.proofs.work_derived.Reads as reads
+use Rattle.new_rows.proofs.work_derived.Lts as lts
 use Rattle.evaluation.proofs.evaluate.Reads as evaluate-reads
 use Rattle.evaluation.proofs.left_of.Reads as left-of-reads
 use Rattle.evaluation.proofs.right_of.Reads as right-of-reads
-use Rattle.working.proofs.place_of.Reads as place-of-reads
+use Rattle.new_rows.proofs.place_of.Reads as place-of-reads
 
 left-of-requires : tie.Need-left-of-requires
 left-of-requires c κs = tt

@@ -2,15 +2,11 @@ use borrow.Author.Needs.{needs}
 use native.Mathlib.Omega.{arith}
 use mathlib.Core.Path.{ap, _∙_}
 use lib.ListN.{length}
-use Rattle.working.proofs.work_table.Statement.{statement}
+use Rattle.new_rows.proofs.work_table.Statement.{statement}
 use Rattle.places.proofs.Places.{place-few}
 use Rattle.areas.specs.Lent.{placeAt}
-use Rattle.working.proofs.Folding.{table-ready, after-over, after-fills}
-use Rattle.working.proofs.work_table.Tie as tie
-use Rattle.working.proofs.work_table.Reads as reads
-use Rattle.working.proofs.work_table.Lts as lts
-use Rattle.words.proofs.copy_run.Reads as copy-run-reads
-use Rattle.tables.proofs.fold.Reads as fold-reads
+use Rattle.new_rows.proofs.Folding.{table-ready, after-over, after-fills}
+use Rattle.new_rows.proofs.work_table.Tie as tie
 
 mul-copy-run : tie.Need-mul-copy-run
 mul-copy-run c = search needs

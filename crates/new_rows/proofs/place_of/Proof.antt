@@ -1,9 +1,9 @@
 use borrow.Author.Needs.{needs}
 use mathlib.Core.Path.{refl}
-use Rattle.working.proofs.place_of.Statement.{statement}
-use Rattle.working.proofs.place_of.Tie as tie
-use Rattle.working.proofs.place_of.Reads as reads
-use Rattle.working.proofs.place_of.Lts as lts
+use Rattle.new_rows.proofs.place_of.Statement.{statement}
+use Rattle.new_rows.proofs.place_of.Tie as tie
+use Rattle.new_rows.proofs.place_of.Reads as reads
+use Rattle.new_rows.proofs.place_of.Lts as lts
 
 mul-result : tie.Need-mul-result
 mul-result c = search needs

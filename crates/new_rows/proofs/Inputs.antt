@@ -5,7 +5,7 @@ use mathlib.Core.List.{List}
 use mathlib.Core.Path.{_≡_, refl}
 use lib.ListN.{getD}
 use mathlib.Core.Bool.{true}
-use Rattle.working.specs.Working.{Working, presentPlace, Present, presentRows}
+use Rattle.new_rows.specs.Working.{Working, presentPlace, Present, presentRows}
 use Rattle.model.specs.Network.{leftOf, rightOf, fitsOn}
 use Rattle.network.specs.Reading.{slotNode}
 use Rattle.places.specs.Places.{Place, relationIn}

@@ -2,12 +2,12 @@ use borrow.Author.Needs.{needs}
 use native.Mathlib.Omega.{arith}
 use Prim.Native.Nat.{_+_}
 use borrow.Author.Tests.{eq-eqb, ne-eqb}
-use Rattle.working.proofs.work_rows.Statement.{statement}
-use Rattle.working.proofs.work_rows.Tie as tie
-use Rattle.working.proofs.work_rows.Reads as reads
-use Rattle.working.proofs.work_rows.Lts as lts
-use Rattle.working.proofs.work_derived.Reads as work-derived-reads
-use Rattle.working.proofs.work_table.Reads as work-table-reads
+use Rattle.new_rows.proofs.work_rows.Statement.{statement}
+use Rattle.new_rows.proofs.work_rows.Tie as tie
+use Rattle.new_rows.proofs.work_rows.Reads as reads
+use Rattle.new_rows.proofs.work_rows.Lts as lts
+use Rattle.new_rows.proofs.work_derived.Reads as work-derived-reads
+use Rattle.new_rows.proofs.work_table.Reads as work-table-reads
 
 mul-work-table : tie.Need-mul-work-table
 mul-work-table c = search needs
