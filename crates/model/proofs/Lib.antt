@@ -6,6 +6,7 @@ pub mod Delta
 pub mod Folded
 pub mod Fits
 pub mod Parts
+pub mod Watched
 pub mod Events
 pub mod Bounds
 pub mod ReadExamples

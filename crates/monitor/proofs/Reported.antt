@@ -2,7 +2,7 @@
 use mathlib.Core.Bool.{_&&_, Bool, cond, false, not, true}
 use mathlib.Core.List.{List, [], zipWith, _∷_}
 use mathlib.Core.Path.{ap, ap₂, refl, sym, _∙_, _≡_}
-use Prim.Native.Nat.{_*_, _+_, _<_, suc, zero, ℕ, _≤_}
+use Prim.Native.Nat.{_<_, suc, zero, ℕ, _≤_}
 use native.Mathlib.Omega.{arith}
 use native.Mathlib.Nat.{le-of-suc-le-suc, not-suc-le-zero}
 use lib.ListN.{List·getD-eq-default, getD, length, take}
@@ -16,11 +16,12 @@ use Rattle.model.specs.Record.{Bytes, accepted, isAccepted, refused, Verdict}
 use Rattle.model.specs.Delta.{Change, changeAt}
 use Rattle.monitor.specs.Promises.{Forms, changeIn, reportIn}
 use Rattle.model.specs.Row.{Relation}
-use Rattle.model.specs.Calls.{allowsGained, allowsLost, formVerdict, isWatched, reportBytes, reportCall, reportOf, reportRule, reportVerdict, writtenTo, ReportAnswer, orElse}
+use Rattle.model.specs.Calls.{formVerdict, isWatched, reportBytes, reportCall, reportOf, reportRule, reportVerdict, writtenTo, ReportAnswer, orElse}
 use Rattle.monitor.proofs.Checks.{form-accepted}
 use Rattle.coherence.proofs.Coherent.{nodes-count, width-is, relation-at, relations-length}
 use Rattle.model.proofs.Fits.{length-widths}
 use Rattle.areas.specs.Lent.{lent}
+use Rattle.reports.specs.Written.{reportSize}
 use Rattle.reports.proofs.Bytes.{report-length}
 use Rattle.model.specs.Network.{widths, readNetwork}
 use Rattle.network.specs.declared.Reading.{Reading}
@@ -91,8 +92,7 @@ module _ (net : Network) (b : Built net) (node : ℕ) (gained lost head : List �
         ap₂ {A = Bool} {B = Bool} {C = Bool} (λ x y. x && not y) inside set
 
     module _ (sign size : ℕ) (e : sign ≡ getD (take (net .count) (net .signs)) node 0) (n : sign ≡ 0 → ⊥)
-        (s : size ≡ cond (allowsGained sign) (gainedCount head node * (6 + 4 * getD (net .widths) node 0)) 0 + cond (allowsLost sign)
-        (lostCount head node * (6 + 4 * getD (net .widths) node 0)) 0) where
+        (s : size ≡ reportSize sign (getD (net .widths) node 0) (gainedCount head node) (lostCount head node)) where
       inside : node < net .count
       inside = sign-inside sign e n
 

@@ -8,7 +8,8 @@ use lib.ListN.{getD, length}
 use lib.Dec.{eqb, leb, ltb}
 use borrow.Author.Tests.{ltb-true}
 use Rattle.model.specs.Areas.{Areas, changesIn, gainedCount, goodForm, heldIn, layout, lostCount, relationsIn}
-use Rattle.model.specs.Calls.{allowsGained, allowsLost, formVerdict, isWatched, openVerdict, orElse, reportBytes, reportCall, reportOf, reportVerdict, unless}
+use Rattle.model.specs.Watched.{allows, wasGained, wasLost}
+use Rattle.model.specs.Calls.{formVerdict, isWatched, openVerdict, orElse, reportBytes, reportCall, reportOf, reportVerdict, unless}
 use Rattle.model.specs.Delta.{Change, changeAt}
 use Rattle.model.specs.Network.{Node, readNetwork, signOf, widths}
 use Rattle.model.specs.Record.{Bytes, Verdict, isAccepted}
@@ -72,8 +73,8 @@ module _ (net : Bytes) (a : Areas) where
         arith,
         ap (λ (c : Change). length (reportBytes sign node c)) (change-is node inside),
         report-length sign node w (gainedCount (a .head) node) (lostCount (a .head) node) (a .gained) (a .lost),
-        allowed-bound (allowsGained sign) (gainedCount (a .head) node) w gained-few (read-small net .narrow node),
-        allowed-bound (allowsLost sign) (lostCount (a .head) node) w lost-few (read-small net .narrow node),
+        allowed-bound (allows sign wasGained) (gainedCount (a .head) node) w gained-few (read-small net .narrow node),
+        allowed-bound (allows sign wasLost) (lostCount (a .head) node) w lost-few (read-small net .narrow node),
       )
 
   -- the length that a report answers

@@ -11,9 +11,9 @@ ghost use Rattle.areas.specs.Lent.{lent};
 ghost use Rattle.batch.specs.Applying.{resultWith};
 ghost use Rattle.monitor.specs.Promises.{checkAnswerOf, reportAnswerOf, reportIn, Forms, Changes};
 use areas::AREA;
-use areas::GAINED;
+use areas::GAINED_COUNTS;
 use areas::HEAD;
-use areas::LOST;
+use areas::LOST_COUNTS;
 use network::Network;
 use network::Reading;
 use network::Verdict;
@@ -176,8 +176,8 @@ fn report_node(
         };
     }
     let w = network.widths[node];
-    let g = head[GAINED + node] as usize;
-    let l = head[LOST + node] as usize;
+    let g = head[GAINED_COUNTS + node] as usize;
+    let l = head[LOST_COUNTS + node] as usize;
     let size = reports::report_size(sign, w, g, l);
     if out.len() < size {
         return ReportAnswer {

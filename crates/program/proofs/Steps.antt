@@ -25,8 +25,8 @@ use Rattle.areas.proofs.Good.{long-parts}
 use Rattle.coherence.proofs.Coherent.{nodes-count}
 use Rattle.monitor.specs.Promises.{Changes}
 use Rattle.monitor.proofs.Checks.{changes-good}
-use Rattle.station_text.specs.Lines.{Put, PutIfRoom, linesIn}
-use Rattle.station_text.specs.Pieces.{piecesOn}
+use Rattle.station_lines.specs.Lines.{Put, PutIfRoom, linesIn}
+use Rattle.pieces.specs.Pieces.{piecesOn}
 use Rattle.program.specs.declared.Said.{Said}
 use Rattle.program.specs.declared.Stage.{Stage}
 use Rattle.program.specs.declared.Stage.the-variants.{Begin, Cut, End, Tell}

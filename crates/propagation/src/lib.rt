@@ -15,8 +15,8 @@ ghost use Rattle.propagation.specs.Propagated.{newRows, Ready, working, 
 ghost use Rattle.propagation.specs.Propagated.{nextRows, Workable, WorksNode, Puts, verdictBy, Propagates};
 use algebra::Made;
 use areas::CAPACITY;
-use areas::COUNTS;
 use areas::PLACE;
+use areas::ROW_COUNTS;
 use evaluation::Held;
 use network::Network;
 use network::Slot;
@@ -182,7 +182,14 @@ fn work_rows<'a>(
         (working (now (widths .entry)) (now (rows .entry)) (now (work .entry)) (now (counts .entry)) (now (changed .entry))) i) (now (out .exit)) r ⌝ }
 {
     if level == 0 {
-        return work_table(bytes, i, widths[i], rows, head[COUNTS + i] as usize, out);
+        return work_table(
+            bytes,
+            i,
+            widths[i],
+            rows,
+            head[ROW_COUNTS + i] as usize,
+            out,
+        );
     }
     work_derived(slot, widths, rows, work, counts, changed, out)
 }
@@ -207,7 +214,7 @@ fn work_node(
         (working (now (widths .entry)) (now (rows .entry)) (now (work .entry)) (now (counts .entry)) (now (changed .entry)))
         (working (now (widths .entry)) (now (rows .entry)) (now (work .exit)) (now (counts .exit)) (now (changed .exit))) i r ⌝ }
 {
-    let n = head[COUNTS + i];
+    let n = head[ROW_COUNTS + i];
     if !must_work(slot, level, changed) {
         counts[i] = n;
         return true;

@@ -18,11 +18,11 @@ ghost use Rattle.evaluation.specs.Derived.{leftOf, rightOf};
 ghost use Rattle.propagation.specs.Propagated.{inputChanged};
 ghost use Rattle.transition.specs.Written.{isOfLevel, placed, WritesNode, WritesNodes, stampsFrom, listedMarks, levelList, listTo, headFrom};
 ghost use Rattle.transition.specs.Written.{nextState, holdingRows, WorkedOut};
-use areas::COUNTS;
-use areas::GAINED;
-use areas::LOST;
+use areas::GAINED_COUNTS;
+use areas::LOST_COUNTS;
 use areas::NODES;
 use areas::PLACE;
+use areas::ROW_COUNTS;
 use areas::STAMPS;
 use areas::WORKED;
 use network::Network;
@@ -141,9 +141,9 @@ fn write_nodes(
     let mut i = 0;
     while i < net.count {
         let n = counts[i] as usize;
-        let m = head[COUNTS + i] as usize;
-        let g = head[GAINED + i] as usize;
-        let l = head[LOST + i] as usize;
+        let m = head[ROW_COUNTS + i] as usize;
+        let g = head[GAINED_COUNTS + i] as usize;
+        let l = head[LOST_COUNTS + i] as usize;
         let sizes = write_node(i, changed[i], work, n, rows, m, gained, g, lost, l);
         gains[i] = sizes.gained as u32;
         losses[i] = sizes.lost as u32;
@@ -283,10 +283,10 @@ fn write_head(
         (now (head .entry)) ⌝ }
 {
     head[0] = number;
-    words::copy_run(counts, 0, head, COUNTS, NODES);
+    words::copy_run(counts, 0, head, ROW_COUNTS, NODES);
     words::copy_run(stamps, 0, head, STAMPS, NODES);
-    words::copy_run(gains, 0, head, GAINED, NODES);
-    words::copy_run(losses, 0, head, LOST, NODES);
+    words::copy_run(gains, 0, head, GAINED_COUNTS, NODES);
+    words::copy_run(losses, 0, head, LOST_COUNTS, NODES);
     head[WORKED] = k as u32;
     words::copy_run(entries, 0, head, WORKED + 1, NODES);
 }
