@@ -24,13 +24,13 @@ pub const AREA: usize = 8192;
 pub const HEAD: usize = 162;
 
 // Where the head's lists begin.
-pub const COUNTS: usize = 1;
+pub const ROW_COUNTS: usize = 1;
 
 pub const STAMPS: usize = 33;
 
-pub const GAINED: usize = 65;
+pub const GAINED_COUNTS: usize = 65;
 
-pub const LOST: usize = 97;
+pub const LOST_COUNTS: usize = 97;
 
 pub const WORKED: usize = 129;
 
@@ -180,13 +180,13 @@ pub fn good_form(
     ensures { λ r. ⌜ ((nodes : List Node) → take n (now (widths .entry)) ≡ Rattle.model.specs.Network.widths nodes →
         r ≡ goodForm layout nodes (lent (now (rows .entry)) (now (gained .entry)) (now (lost .entry)) (now (head .entry)))) ⌝ }
 {
-    if !good_area(rows, widths, n, head, COUNTS) {
+    if !good_area(rows, widths, n, head, ROW_COUNTS) {
         return false;
     }
-    if !good_area(gained, widths, n, head, GAINED) {
+    if !good_area(gained, widths, n, head, GAINED_COUNTS) {
         return false;
     }
-    if !good_area(lost, widths, n, head, LOST) {
+    if !good_area(lost, widths, n, head, LOST_COUNTS) {
         return false;
     }
     if !good_stamps(head, n) {

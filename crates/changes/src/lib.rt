@@ -11,9 +11,9 @@ ghost use Rattle.network.specs.Reading.{nodesOf};
 ghost use Rattle.areas.specs.Lent.{placeAt};
 ghost use Rattle.places.specs.Places.{Place, relationIn};
 ghost use Rattle.changes.specs.Written.{placed, WritesNode, WritesNodes, WorkedOut};
-use areas::COUNTS;
-use areas::GAINED;
-use areas::LOST;
+use areas::ROW_COUNTS;
+use areas::GAINED_COUNTS;
+use areas::LOST_COUNTS;
 use areas::PLACE;
 use network::Network;
 use rows::STRIDE;
@@ -131,9 +131,9 @@ pub fn write_nodes(
     let mut i = 0;
     while i < net.count {
         let n = counts[i] as usize;
-        let m = head[COUNTS + i] as usize;
-        let g = head[GAINED + i] as usize;
-        let l = head[LOST + i] as usize;
+        let m = head[ROW_COUNTS + i] as usize;
+        let g = head[GAINED_COUNTS + i] as usize;
+        let l = head[LOST_COUNTS + i] as usize;
         let sizes = write_node(i, changed[i], work, n, rows, m, gained, g, lost, l);
         gains[i] = sizes.gained as u32;
         losses[i] = sizes.lost as u32;

@@ -9,12 +9,12 @@ ghost use Rattle.model.specs.Areas.{rowCount, coherent};
 ghost use Rattle.network.specs.Reading.{slotNode};
 ghost use Rattle.places.specs.Places.{Blank, Makes};
 ghost use Rattle.coherence.specs.Held.{heldAt, Places, Derived, givenAt, Checkable, slotAgrees, freshIn};
-use areas::COUNTS;
+use areas::ROW_COUNTS;
+use places::Made;
 use areas::PLACE;
 use evaluation::Held;
 use network::Network;
 use network::Slot;
-use nodes::Node;
 use places::Made;
 
 // The width and the count of node i's rows.
@@ -24,7 +24,7 @@ fn held(widths: &[usize], head: &[u32], i: usize) -> Held
 {
     Held {
         width: widths[i],
-        count: head[COUNTS + i] as usize,
+        count: head[ROW_COUNTS + i] as usize,
     }
 }
 
@@ -64,7 +64,7 @@ fn rows_agree(slot: Slot, widths: &[usize], rows: &[u32], head: &[u32], i: usize
     match evaluate_held(slot, widths, rows, head, i, &mut out) {
         Made::Over => false,
         Made::Rows(count) => {
-            if head[COUNTS + i] as usize != count {
+            if head[ROW_COUNTS + i] as usize != count {
                 return false;
             }
             words::same_words(&rows[i * PLACE..i * PLACE + PLACE], &out, PLACE)

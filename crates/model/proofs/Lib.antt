@@ -8,6 +8,7 @@ pub mod ByKind
 pub mod Inputs
 pub mod Fits
 pub mod Parts
+pub mod Watched
 pub mod Events
 pub mod Bounds
 pub mod ReadExamples

@@ -1,12 +1,15 @@
 -- Computed examples of the station program's text. Each says in its comment what it pins.
 use mathlib.Core.Path.{_≡_, refl, ap₂}
 use mathlib.Core.Bool.{_&&_, cond}
-use mathlib.Core.List.{[], _∷_, _++_, map}
+use mathlib.Core.List.{[], _∷_, _++_, map, flatMap}
 use Prim.Native.Nat.{ℕ}
 use lib.Dec.{leb}
 use lib.ListN.{length}
 use Rattle.model.specs.Record.{Bytes}
-use Rattle.model.specs.Text.{batch, broken, unfinished, pieces, decimal, line, noInputWords, runFiles, File, missing, file, maxFile, programOutput}
+use Rattle.model.specs.Network.{table}
+use Rattle.model.specs.Delta.{Change}
+use Rattle.model.specs.Watched.{watchedChanges}
+use Rattle.model.specs.Text.{batch, broken, unfinished, pieces, changeLine, decimal, line, noInputWords, runFiles, File, missing, file, maxFile, programOutput}
 use Rattle.model.specs.Examples.{recordBytes, put, networkN, batch1, batch2, batch3, batch4}
 
 -- the record that ends a batch
@@ -37,19 +40,30 @@ decimals : map decimal (0 ∷ 10 ∷ 4294967295 ∷ []) ≡ (48 ∷ []) ∷ (49 
 unfolding decimal
 decimals = refl
 
+-- a row gained, and 0 lost
+abbrev moved : ℕ → Change
+moved n = record { gained = (n ∷ []) ∷ []; lost = (0 ∷ []) ∷ [] }
+
+-- the lines of watched changes: "nodes ascending, gained first", each node's as its sign allows
+watched-lines :
+    flatMap changeLine (watchedChanges (record { nodes = table 1 ∷ table 1 ∷ table 1 ∷ []; signs = 3 ∷ 0 ∷ 2 ∷ [] }) (moved 1 ∷ moved 2 ∷ moved 3 ∷ []))
+    ≡ (43 ∷ 32 ∷ 48 ∷ 32 ∷ 49 ∷ 10 ∷ []) ++ (45 ∷ 32 ∷ 48 ∷ 32 ∷ 48 ∷ 10 ∷ []) ++ (45 ∷ 32 ∷ 50 ∷ 32 ∷ 48 ∷ 10 ∷ [])
+unfolding watchedChanges changeLine flatMap
+watched-lines = refl
+
 -- "batch" and a digit
 batchLine : ℕ → Bytes
 batchLine digit = 98 ∷ 97 ∷ 116 ∷ 99 ∷ 104 ∷ 32 ∷ digit ∷ 10 ∷ []
 
 -- a sign, and 4 5
-changeLine : ℕ → Bytes
-changeLine sign = sign ∷ 32 ∷ 52 ∷ 32 ∷ 53 ∷ 10 ∷ []
+line45 : ℕ → Bytes
+line45 sign = sign ∷ 32 ∷ 52 ∷ 32 ∷ 53 ∷ 10 ∷ []
 
 -- "the whole output" on N with its four batches
 output-on-N :
     runFiles networkN (batch1 ++ mark ++ batch2 ++ mark ++ batch3 ++ mark ++ batch4 ++ mark)
-    ≡ batchLine 49 ++ changeLine 43 ++ batchLine 50 ++ batchLine 51 ++ changeLine 45 ++ batchLine 52
-unfolding runFiles networkN batch1 batch2 batch3 batch4 mark batchLine changeLine
+    ≡ batchLine 49 ++ line45 43 ++ batchLine 50 ++ batchLine 51 ++ line45 45 ++ batchLine 52
+unfolding runFiles networkN batch1 batch2 batch3 batch4 mark batchLine line45
 output-on-N = refl
 
 -- "refused", number, place: 11 at the second record, the next batch gets number 1, a broken length ends the program

@@ -9,6 +9,7 @@ use Rattle.model.specs.Row.{Row, maxNodes}
 use Rattle.model.specs.Record.{Bytes, bytes16, bytes32, Verdict, accepted, refused, isAccepted}
 use Rattle.model.specs.Network.{Node, Network, Reading, readNetwork, kindOf, widths, levels, signOf, within}
 use Rattle.model.specs.Delta.{Change, changeAt}
+use Rattle.model.specs.Watched.{Direction, wasGained, wasLost, WatchedChange, changesOf}
 use Rattle.model.specs.Station.{Step, step}
 use Rattle.model.specs.Areas.{Areas, layout, goodForm, coherent, stateIn, changesIn, holding, cleared, padded, longEnough, KeepsRest}
 
@@ -135,20 +136,19 @@ unfoldable pub changeRecord : ℕ → ℕ → Row → Bytes
 unfolding flatMap
 changeRecord kind node r = bytes16 (6 + 4 * length r) ++ bytes16 kind ++ bytes16 node ++ flatMap bytes32 r
 
--- signs 1 and 3 allow gained rows
-abbrev pub allowsGained : ℕ → Bool
-allowsGained sign = eqb sign 1 || eqb sign 3
+-- "gained rows (kind 64), then lost (kind 65)"
+abbrev pub recordKind : Direction → ℕ
+recordKind wasGained = 64
+recordKind wasLost = 65
 
--- signs 2 and 3 allow lost rows
-abbrev pub allowsLost : ℕ → Bool
-allowsLost sign = eqb sign 2 || eqb sign 3
+-- a watched change as its record
+abbrev pub recordOf : WatchedChange → Bytes
+recordOf c = changeRecord (recordKind (c .direction)) (c .node) (c .row)
 
--- "gained rows (kind 64), then lost (kind 65), as the sign allows, ascending"
+-- the records of one node's changes, in their order
 unfoldable pub reportBytes : ℕ → ℕ → Change → Bytes
-unfolding changeRecord flatMap
-reportBytes sign node change =
-    cond (allowsGained sign) (flatMap (changeRecord 64 node) (change .gained)) []
-    ++ cond (allowsLost sign) (flatMap (changeRecord 65 node) (change .lost)) []
+unfolding changeRecord changesOf flatMap
+reportBytes sign node change = flatMap recordOf (changesOf sign node change)
 
 -- the report of a node from the areas
 unfoldable pub reportOf : Network → ℕ → Areas → Bytes

@@ -7,6 +7,7 @@ pub mod Batch
 pub mod Delta
 pub mod Station
 pub mod Areas
+pub mod Watched
 pub mod Calls
 pub mod Text
 pub mod Examples

@@ -4,12 +4,11 @@ use mathlib.Core.List.{List, [], _∷_, _++_, flatMap}
 use Prim.Native.Nat.{ℕ, zero, suc, _+_, _-_, _/_, _%_}
 use lib.Dec.{leb, ltb, eqb}
 use lib.ListN.{length, take, drop}
-use Rattle.model.specs.Row.{Relation, numbersBelow}
 use Rattle.model.specs.Record.{Bytes, lengthAt, kindAt, isBroken, offsets, isAccepted}
 use Rattle.model.specs.Network.{Network, Reading, readNetwork, signOf}
 use Rattle.model.specs.Delta.{Change, changeAt}
 use Rattle.model.specs.Station.{State, opened, Step, step}
-use Rattle.model.specs.Calls.{allowsGained, allowsLost}
+use Rattle.model.specs.Watched.{Direction, wasGained, wasLost, WatchedChange, changesOf, watchedChanges}
 
 -- ---- cutting the file into batches
 
@@ -89,22 +88,25 @@ unfoldable pub refusedLine : ℕ → ℕ → Bytes
 unfolding line
 refusedLine number place = line refusedWord (number ∷ place ∷ [])
 
--- "+ or -, node, fields"
-unfoldable pub changeLines : ℕ → ℕ → Relation → Bytes
-unfolding line flatMap
-changeLines sign node rel = flatMap (λ r. line (sign ∷ []) (node ∷ r)) rel
+-- "+ or -"
+abbrev pub changeSign : Direction → ℕ
+changeSign wasGained = 43
+changeSign wasLost = 45
 
--- one node's lines, as its watch's sign allows: "gained first"
+-- a watched change as its line: "+ or -, node, fields"
+unfoldable pub changeLine : WatchedChange → Bytes
+unfolding line
+changeLine c = line (changeSign (c .direction) ∷ []) (c .node ∷ c .row)
+
+-- the lines of one node's changes, in their order
 unfoldable pub nodeLines : Network → List Change → ℕ → Bytes
-unfolding changeLines
-nodeLines net changes i =
-    cond (allowsGained (signOf net i)) (changeLines 43 i (changeAt changes i .gained)) []
-    ++ cond (allowsLost (signOf net i)) (changeLines 45 i (changeAt changes i .lost)) []
+unfolding changeLine changesOf flatMap
+nodeLines net changes i = flatMap changeLine (changesOf (signOf net i) i (changeAt changes i))
 
--- an accepted batch: "batch" and the new number, then a line per watched change, "nodes ascending"
+-- an accepted batch: "batch" and the new number, then "a line per watched change"
 unfoldable pub batchLines : Network → State → Bytes
-unfolding line nodeLines flatMap
-batchLines net s = line batchWord (s .number ∷ []) ++ flatMap (nodeLines net (s .changes)) (numbersBelow (length (net .nodes)))
+unfolding line changeLine watchedChanges flatMap
+batchLines net s = line batchWord (s .number ∷ []) ++ flatMap changeLine (watchedChanges net (s .changes))
 
 -- what a batch prints
 unfoldable pub stepLines : Network → Step → Bytes

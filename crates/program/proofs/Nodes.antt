@@ -1,5 +1,5 @@
 -- The lines of a batch's nodes: those of a node without change, those past the last node, and all of them. Assumes nothing.
-use mathlib.Core.Bool.{Bool, _&&_, cond, false, true}
+use mathlib.Core.Bool.{Bool, _&&_, false, true}
 use mathlib.Core.List.{List, [], _∷_, _++_, append-nil, flatMap, zipWith}
 use mathlib.Core.Path.{ap, ap₂, refl, sym, _∙_, _≡_}
 use Prim.Native.Nat.{ℕ, zero, suc, _+_, _-_, _≤_, _<_}
@@ -14,25 +14,19 @@ use Rattle.model.specs.Record.{Bytes}
 use Rattle.model.specs.Network.{Network, readNetwork, signOf, widths}
 use Rattle.model.specs.Delta.{Change, changeAt, noChange}
 use Rattle.model.specs.Areas.{Areas, changesIn, gainedCount, heldIn, layout, lostCount, relationsIn, stateIn}
-use Rattle.model.specs.Calls.{allowsGained, allowsLost}
-use Rattle.model.specs.Text.{changeLines, nodeLines}
+use Rattle.model.specs.Watched.{changesOf}
+use Rattle.model.specs.Text.{changeLine, nodeLines}
+use Rattle.model.proofs.Watched.{none-changed}
 use Rattle.model.proofs.Fits.{length-widths, read-small}
 use Rattle.model.proofs.Parts.{flat-append}
 use Rattle.model.proofs.Sets.{and-first, and-second}
 use Rattle.coherence.proofs.Coherent.{relation-at, relations-length}
 use Rattle.program.specs.Stages.{stateOf}
 
-nothing-either : (t : Bool) → cond {A = List ℕ} t [] [] ≡ []
-nothing-either true = refl
-nothing-either false = refl
-
 -- a node without change prints nothing
 pub silent : (net : Network) (changes : List Change) (i : ℕ) → changeAt changes i ≡ noChange → nodeLines net changes i ≡ []
-unfolding nodeLines changeLines flatMap
-silent net changes i e =
-    let lines : nodeLines net changes i ≡ cond (allowsGained (signOf net i)) [] [] ++ cond (allowsLost (signOf net i)) [] [] =
-    ap (λ (c : Change). cond (allowsGained (signOf net i)) (changeLines 43 i (c .gained)) [] ++ cond (allowsLost (signOf net i)) (changeLines 45 i (c .lost)) []) e in
-    lines ∙ ap₂ {A = List ℕ} {B = List ℕ} {C = List ℕ} (λ x y. x ++ y) (nothing-either (allowsGained (signOf net i))) (nothing-either (allowsLost (signOf net i)))
+unfolding nodeLines flatMap
+silent net changes i e = ap (λ (c : Change). flatMap changeLine (changesOf (signOf net i) i c)) e ∙ ap (flatMap changeLine) (none-changed (signOf net i) i)
 
 zip-none : (a b : List Relation) (i : ℕ) → getD a i [] ≡ [] → getD b i [] ≡ [] → changeAt (zipWith (λ g l. record { gained = g; lost = l }) a b) i ≡ noChange
 unfolding zipWith

@@ -10,10 +10,8 @@ use lib.Seq.{length-take-le, sets}
 use borrow.Author.Tests.{eq-eqb, le-leb, ne-eqb}
 use Rattle.model.specs.Record.{Bytes, isAccepted}
 use Rattle.model.specs.Network.{readNetwork}
-use Rattle.model.specs.Network as model
 use Rattle.model.specs.Station.{State}
 use Rattle.model.specs.Areas.{Areas, coherent, goodForm, layout, longEnough, rowsIn, sameRelations, stateIn, tablesOf}
-use Rattle.model.specs.Areas as areas
 use Rattle.model.specs.Evaluation.{evaluate}
 use Rattle.model.specs.Calls.{Applied, Result, openCall, resultOf}
 use Rattle.model.specs.Text.{Piece, batch, batchWord, broken, bytesBetween, line, noInputWords, nodeLines, refusedLine, unfinished, unfinishedWord}
@@ -25,13 +23,15 @@ use Rattle.areas.proofs.Good.{long-parts}
 use Rattle.coherence.proofs.Coherent.{nodes-count}
 use Rattle.admission.specs.Admission.{Changes}
 use Rattle.admission.proofs.Admitted.{changes-good}
-use Rattle.station_text.specs.Lines.{Put, PutIfRoom, linesIn}
-use Rattle.station_text.specs.Pieces.{piecesOn}
+use Rattle.station_lines.specs.Lines.{Put, PutIfRoom, linesIn}
+use Rattle.pieces.specs.Pieces.{piecesOn}
 use Rattle.program.specs.declared.Said.{Said}
 use Rattle.program.specs.declared.Stage.{Stage}
 use Rattle.program.specs.declared.Stage.the-variants.{Begin, Cut, End, Tell}
 use Rattle.program.specs.Stages.{Applies, Files, Opened, Says, Wrote, areasAfter, batchLine, hasInput, pieceAreas, pieceStage, pieceText, refusal, stageOf, stateOf, stepOf}
 use Rattle.program.proofs.Batches.{open-verdict, opened-again, result-is, state-is}
+use Rattle.model.specs.Network as model
+use Rattle.model.specs.Areas as areas
 
 pub wrote-put : (text all : Bytes) (most : ℕ) (before out : Bytes) (size : ℕ) → Put text most 0 before out size → text ≡ all → most ≤ length before → Wrote all before out size
 wrote-put text all most before out size p e h =

@@ -14,13 +14,14 @@ use Rattle.model.specs.Network.{readNetwork}
 use Rattle.model.specs.Station.{State, Step}
 use Rattle.model.specs.Areas.{Areas, layout, longEnough}
 use Rattle.model.specs.Text.{Piece, batch, broken, unfinished, bytesBetween, maxFile, batchWord, noInputWords, unfinishedWord, line, nodeLines}
-use Rattle.model.specs.Text.{batchLines, programOutput, runFiles, runPieces, stepLines}
+use Rattle.model.specs.Text.{programOutput, runFiles, runPieces, stepLines}
 use Rattle.model.proofs.Parts.{sets-first}
-use Rattle.station_text.specs.declared.Piece as declared
-use Rattle.station_text.specs.declared.Piece.the-variants.{Batch, Broken, Unfinished}
-use Rattle.station_text.specs.declared.Piece.the-variants as piece
-use Rattle.station_text.specs.Pieces.{Next, piecesOn, refusalOf}
-use Rattle.station_text.proofs.Cut.{found, pieces-all}
+use Rattle.pieces.specs.declared.Piece as declared
+use Rattle.pieces.specs.declared.Piece.the-variants.{Batch, Broken, Unfinished}
+use Rattle.pieces.specs.declared.Piece.the-variants as piece
+use Rattle.pieces.specs.Pieces.{Next, piecesOn, refusalOf}
+use Rattle.model.proofs.Watched.{batch-by-node}
+use Rattle.pieces.proofs.Cut.{found, pieces-all}
 use Rattle.program.specs.declared.Stage.{Stage}
 use Rattle.program.specs.declared.Stage.the-variants.{Begin, Cut, End, Tell}
 use Rattle.program.specs.Stages.{Files, Opened, Ready, Says, Wrote, fileOf, hasInput, isOver, stateOf, stepOf}
@@ -92,14 +93,15 @@ module _ (f : Files) where
     batch-output : (b : Bytes) (next : ℕ) (t : Bool) → isAccepted (stepOf (f .net) a b .verdict) ≡ t →
         stepLines (readNetwork (f .net) .network) (stepOf (f .net) a b) ++ runPieces (readNetwork (f .net) .network) (stepOf (f .net) a b .state) (piecesOn (f .batches) next)
         ≡ batchLine (stepOf (f .net) a b) ++ outputFrom (stageOf (stepOf (f .net) a b) next) (areasAfter (f .net) a b)
-    unfolding stepLines batchLines
+    unfolding stepLines
     batch-output b next true e =
         let st : Step = stepOf (f .net) a b in
         let s : stateOf (f .net) (areasAfter (f .net) a b) ≡ stepOf (f .net) a b .state = state-is (f .net) a k b in
         let rest : State → Bytes = λ x. runPieces (readNetwork (f .net) .network) x (piecesOn (f .batches) next) in
         let all : told (stepOf (f .net) a b .state) ≡ nodesFrom (f .net) (areasAfter (f .net) a b) 0 = ap told (sym s) ∙ nodes-all (f .net) (areasAfter (f .net) a b) in
         rw e
-        (append-assoc (line batchWord (st .state .number ∷ [])) (told (st .state)) (rest (st .state))
+        (ap (λ (l : Bytes). l ++ rest (st .state)) (batch-by-node (readNetwork (f .net) .network) (st .state))
+        ∙ append-assoc (line batchWord (st .state .number ∷ [])) (told (st .state)) (rest (st .state))
         ∙ ap₂ {A = Bytes} {B = State} {C = Bytes} (λ l x. line batchWord (st .state .number ∷ []) ++ (l ++ rest x)) all (sym s))
     batch-output b next false e =
         rw e

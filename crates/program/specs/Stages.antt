@@ -15,8 +15,8 @@ use Rattle.model.specs.Areas.{Areas, layout, longEnough, coherent, stateIn}
 use Rattle.model.specs.Calls.{openCall, resultOf}
 use Rattle.model.specs.Text.{File, missing, file, Piece, batch, broken, unfinished, maxFile}
 use Rattle.model.specs.Text.{batchWord, unfinishedWord, noInputWords, line, refusedLine, nodeLines}
-use Rattle.station_text.specs.declared.Piece.the-variants.{Broken}
-use Rattle.station_text.specs.Pieces.{piecesOn, refusalOf}
+use Rattle.pieces.specs.declared.Piece.the-variants.{Broken}
+use Rattle.pieces.specs.Pieces.{piecesOn, refusalOf}
 use Rattle.program.specs.declared.Stage.{Stage}
 use Rattle.program.specs.declared.Stage.the-variants.{Begin, Cut, Tell, End}
 use Rattle.program.specs.declared.Said.{Said}

@@ -8,19 +8,19 @@ ghost use Rattle.model.specs.Network.{readNetwork};
 ghost use Rattle.model.specs.Areas.{gainedCount, lostCount};
 ghost use Rattle.model.specs.Text.{nodeLines};
 ghost use Rattle.areas.specs.Lent.{lent};
-ghost use Rattle.station_text.specs.Lines.{Put, nodeRoom};
+ghost use Rattle.station_lines.specs.Lines.{Put, nodeRoom};
 ghost use Rattle.program.specs.declared.Stage.the-variants.{Begin, Cut, Tell};
 ghost use Rattle.program.specs.Stages.{Opened, Ready, Says, Applies, files, hasInput, isOver, stateOf};
-use areas::GAINED;
-use areas::LOST;
+use areas::GAINED_COUNTS;
+use areas::LOST_COUNTS;
 use areas::NODES;
-use station_text::Piece;
+use pieces::Piece;
 
 // The most bytes of a file.
-const MAX_FILE: usize = 65536;
+pub const MAX_FILE: usize = 65536;
 
 // The most bytes that a step writes.
-pub const ROOM: usize = station_text::NODE_ROOM;
+pub const ROOM: usize = station_lines::NODE_ROOM;
 
 // Where the program stands: before everything; at the piece of the file that starts at an offset; at a node's lines of the batch just applied,
 // and then the piece that starts at an offset; at the end.
@@ -92,7 +92,7 @@ fn begin(
     }
     let opened = opening::open(net, rows, gained, lost, head);
     if opened.number != 0 {
-        let size = station_text::put_refused(out, opened.number, opened.place);
+        let size = station_lines::put_refused(out, opened.number, opened.place);
         return Said {
             size,
             stage: Stage::End,
@@ -122,13 +122,13 @@ fn apply(
 {
     let verdict = applying::apply(net, batch, rows, gained, lost, head);
     if verdict.number != 0 {
-        let size = station_text::put_refused(out, verdict.number, verdict.place);
+        let size = station_lines::put_refused(out, verdict.number, verdict.place);
         return Said {
             size,
             stage: Stage::Cut(next),
         };
     }
-    let size = station_text::put_batch(out, head[0] as usize);
+    let size = station_lines::put_batch(out, head[0] as usize);
     Said {
         size,
         stage: Stage::Tell(0, next),
@@ -154,7 +154,7 @@ fn cut(
         (lent (now (rows .entry)) (now (gained .entry)) (now (lost .entry)) (now (head .entry)))
         (lent (now (rows .exit)) (now (gained .exit)) (now (lost .exit)) (now (head .exit))) (now (out .entry)) (now (out .exit)) r ⌝ }
 {
-    match station_text::next_piece(file, start) {
+    match pieces::next_piece(file, start) {
         Piece::Batch(end) => apply(
             net,
             &file[start..end],
@@ -166,7 +166,7 @@ fn cut(
             out,
         ),
         Piece::Broken(at) => {
-            let size = station_text::put_refused(out, 10, at);
+            let size = station_lines::put_refused(out, 10, at);
             Said {
                 size,
                 stage: Stage::End,
@@ -191,10 +191,10 @@ fn is_unchanged(head: &[u32], node: usize) -> bool
     requires { ⌜ (162 ≤ length (now head)) × (node < 32) ⌝ }
     ensures { λ r. ⌜ r ≡ (eqb (gainedCount (now (head .entry)) node) 0 && eqb (lostCount (now (head .entry)) node) 0) ⌝ }
 {
-    if head[GAINED + node] != 0 {
+    if head[GAINED_COUNTS + node] != 0 {
         return false;
     }
-    head[LOST + node] == 0
+    head[LOST_COUNTS + node] == 0
 }
 
 // A node's lines, from the first byte on: their length.
@@ -220,7 +220,7 @@ fn node_lines(
     if network.count <= node {
         return 0;
     }
-    station_text::put_watched(out, 0, network, node, gained, lost, head)
+    station_lines::put_watched(out, 0, network, node, gained, lost, head)
 }
 
 // A node's lines of the batch just applied; then those of the next node, or the piece that starts at an offset.

@@ -6,11 +6,6 @@ ghost use Rattle.network.specs.Reading.{verdictOf};
 ghost use Rattle.new_rows.specs.Working.{working};
 ghost use Rattle.propagation.specs.Propagated.{newRows, Ready, verdictBy, Propagates};
 ghost use Prim.Native.Nat.{_+_, _<_};
-use places::Made;
-use areas::CAPACITY;
-use areas::COUNTS;
-use areas::PLACE;
-use evaluation::Held;
 use network::Network;
 use network::Verdict;
 

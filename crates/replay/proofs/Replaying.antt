@@ -12,8 +12,8 @@ use Rattle.model.specs.Calls.{Result, Applied, openCall}
 use Rattle.demand3.specs.Runs.{Meets, Runs, endOf}
 use Rattle.replay.specs.Replayed.{Reaches, callsOf, Replayed}
 use Rattle.model.specs.Text.{pieces, batch, bytesBetween, Piece, piecesFrom}
-use Rattle.station_text.specs.Pieces.{piecesOn}
-use Rattle.station_text.proofs.Cut.{pieces-all}
+use Rattle.pieces.specs.Pieces.{piecesOn}
+use Rattle.pieces.proofs.Cut.{pieces-all}
 use Rattle.records.proofs.Offsets.{remaining-none}
 use Rattle.demand3.proofs.Theorem.{demand-3, demand-words}
 use Rattle.model.specs.Station.{Call, apply}

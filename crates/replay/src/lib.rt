@@ -5,7 +5,7 @@ ghost use Rattle.areas.specs.Lent.{lent};
 ghost use Rattle.network.specs.Reading.{resultWith};
 ghost use Rattle.replay.specs.Replayed.{Reaches, Replayed, callsOf};
 use network::Verdict;
-use station_text::Piece;
+use pieces::Piece;
 
 // Every marked batch of a file applied in turn, refused ones too.
 fn replay_batches(
@@ -22,7 +22,7 @@ fn replay_batches(
     let mut start = 0;
     while start < file.len() {
         let from = start;
-        match station_text::next_piece(file, from) {
+        match pieces::next_piece(file, from) {
             Piece::Batch(end) => {
                 applying::apply(net, &file[from..end], rows, gained, lost, head);
                 start = end + 4;

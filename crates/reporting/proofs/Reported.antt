@@ -13,7 +13,8 @@ use Rattle.model.specs.Areas.{changesIn, gainedCount, lostCount}
 use Rattle.network.specs.Reading.{Built, networkOf, nodesOf, verdictOf}
 use Rattle.model.specs.Record.{Bytes, accepted, refused, Verdict}
 use Rattle.model.specs.Delta.{Change}
-use Rattle.model.specs.Calls.{allowsGained, allowsLost, isWatched, reportBytes, reportCall, reportIn, reportOf, writtenTo, ReportAnswer}
+use Rattle.reports.specs.Written.{reportSize}
+use Rattle.model.specs.Calls.{isWatched, reportBytes, reportCall, reportIn, reportOf, writtenTo, ReportAnswer}
 use Rattle.coherence.proofs.Coherent.{nodes-count}
 use Rattle.areas.specs.Lent.{lent}
 use Rattle.reports.proofs.Bytes.{report-length}
@@ -66,8 +67,7 @@ module _ (net : Network) (b : Built net) (node : ℕ) (gained lost head : List �
         ap₂ {A = Bool} {B = Bool} {C = Bool} (λ x y. x && not y) inside set
 
     module _ (sign size : ℕ) (e : sign ≡ getD (take (net .count) (net .signs)) node 0) (n : sign ≡ 0 → ⊥)
-        (s : size ≡ cond (allowsGained sign) (gainedCount head node * (6 + 4 * getD (net .widths) node 0)) 0 + cond (allowsLost sign)
-        (lostCount head node * (6 + 4 * getD (net .widths) node 0)) 0) where
+        (s : size ≡ reportSize sign (getD (net .widths) node 0) (gainedCount head node) (lostCount head node)) where
       inside : node < net .count
       inside = sign-inside net b node sign e n
 

@@ -8,7 +8,8 @@ use lib.ListN.{getD, length}
 use lib.Dec.{eqb, leb, ltb}
 use borrow.Author.Tests.{ltb-true}
 use Rattle.model.specs.Areas.{Areas, gainedCount, goodForm, layout, lostCount}
-use Rattle.model.specs.Calls.{allowsGained, allowsLost, formVerdict, isWatched, reportBytes, reportCall, reportIn, reportOf, reportRule, unless}
+use Rattle.model.specs.Watched.{allows, wasGained, wasLost}
+use Rattle.model.specs.Calls.{formVerdict, isWatched, reportBytes, reportCall, reportIn, reportOf, reportRule, unless}
 use Rattle.model.specs.Delta.{Change}
 use Rattle.model.specs.Network.{Node, readNetwork, signOf, widths}
 use Rattle.model.specs.Record.{Bytes, isAccepted}
@@ -37,8 +38,8 @@ module _ (net : Bytes) (a : Areas) where
         arith,
         ap (λ (c : Change). length (reportBytes sign node c)) (change-held nodes a node inside),
         report-length sign node w (gainedCount (a .head) node) (lostCount (a .head) node) (a .gained) (a .lost),
-        allowed-bound (allowsGained sign) (gainedCount (a .head) node) w gained-few (read-small net .narrow node),
-        allowed-bound (allowsLost sign) (lostCount (a .head) node) w lost-few (read-small net .narrow node),
+        allowed-bound (allows sign wasGained) (gainedCount (a .head) node) w gained-few (read-small net .narrow node),
+        allowed-bound (allows sign wasLost) (lostCount (a .head) node) w lost-few (read-small net .narrow node),
       )
 
   -- the length that a report answers, once 1 to 8 let pass

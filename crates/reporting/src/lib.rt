@@ -8,8 +8,8 @@ ghost use Rattle.network.specs.Reading.{Built, networkOf};
 ghost use Rattle.areas.specs.Lent.{lent};
 ghost use Rattle.admission.specs.Admission.{Changes};
 ghost use Rattle.reporting.specs.Answer.{reportAnswerOf};
-use areas::GAINED;
-use areas::LOST;
+use areas::GAINED_COUNTS;
+use areas::LOST_COUNTS;
 use network::Network;
 
 // A verdict, and how many bytes the report takes (0 beside a refusal).
@@ -54,8 +54,8 @@ fn report_node(
         };
     }
     let w = network.widths[node];
-    let g = head[GAINED + node] as usize;
-    let l = head[LOST + node] as usize;
+    let g = head[GAINED_COUNTS + node] as usize;
+    let l = head[LOST_COUNTS + node] as usize;
     let size = reports::report_size(sign, w, g, l);
     if out.len() < size {
         return ReportAnswer {

@@ -9,9 +9,12 @@ use lib.ListN.{getD, length, length-append}
 use Rattle.model.specs.Row.{Relation, Row, countFrom, numbersBelow}
 use Rattle.rows.specs.Rows.{Wide}
 use Rattle.rows.proofs.Words.{length-fields}
-use Rattle.reports.specs.Written.{allowedOf, recordsOf}
+use Rattle.reports.specs.Written.{allowedOf, recordsOf, reportSize}
 use Rattle.model.specs.Record.{bytes16, bytes32}
-use Rattle.model.specs.Calls.{changeRecord, allowsGained, allowsLost, reportBytes}
+use Rattle.model.specs.Calls.{changeRecord, recordOf, reportBytes}
+use Rattle.model.specs.Watched.{allows, wasGained, wasLost}
+use Rattle.model.proofs.Watched.{flat-changes}
+use Rattle.model.specs.Delta.{Change}
 use Rattle.model.specs.Areas.{fields, heldIn, layout}
 use Rattle.rows.proofs.Place.{fields-split, held-wide, length-held}
 use Rattle.model.proofs.Parts.{flat-append, flat-one}
@@ -106,10 +109,18 @@ step-inside n j s at len h f =
     let e : suc j * s ≡ j * s + s = suc-mul j s in
     omega (arith, more, e)
 
+-- ---- a node's report
+
+-- gained rows, then lost ones
+pub report-parts : (sign node : ℕ) (change : Change) → reportBytes sign node change
+    ≡ allowedOf (allows sign wasGained) 64 node (change .gained) ++ allowedOf (allows sign wasLost) 65 node (change .lost)
+unfolding reportBytes
+report-parts sign node change = flat-changes recordOf sign node change
+
 -- the size of a node's report
 pub report-length : (sign node w g l : ℕ) (gained lost : List ℕ) → length (reportBytes sign node (record { gained = heldIn layout w g gained node; lost = heldIn layout w l lost node }))
-    ≡ cond (allowsGained sign) (g * (6 + 4 * w)) 0 + cond (allowsLost sign) (l * (6 + 4 * w)) 0
-unfolding reportBytes
+    ≡ reportSize sign w g l
 report-length sign node w g l gained lost =
-    length-append (allowedOf (allowsGained sign) 64 node (heldIn layout w g gained node)) (allowedOf (allowsLost sign) 65 node (heldIn layout w l lost node))
-    ∙ ap₂ {A = ℕ} {B = ℕ} {C = ℕ} (λ x y. x + y) (allowed-size-is (allowsGained sign) 64 node w g gained) (allowed-size-is (allowsLost sign) 65 node w l lost)
+    ap length (report-parts sign node (record { gained = heldIn layout w g gained node; lost = heldIn layout w l lost node }))
+    ∙ length-append (allowedOf (allows sign wasGained) 64 node (heldIn layout w g gained node)) (allowedOf (allows sign wasLost) 65 node (heldIn layout w l lost node))
+    ∙ ap₂ {A = ℕ} {B = ℕ} {C = ℕ} (λ x y. x + y) (allowed-size-is (allows sign wasGained) 64 node w g gained) (allowed-size-is (allows sign wasLost) 65 node w l lost)

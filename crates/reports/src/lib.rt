@@ -7,15 +7,22 @@ ghost use lib.ListN.{length};
 ghost use lib.Seq.{sets};
 ghost use Rattle.model.specs.Record.{bytes16, bytes32};
 ghost use Rattle.model.specs.Areas.{layout, fields, heldIn};
-ghost use Rattle.model.specs.Calls.{changeRecord, allowsGained, allowsLost, reportBytes, writtenTo};
-ghost use Rattle.reports.specs.Written.{recordsOf, allowedOf};
+ghost use Rattle.model.specs.Watched.{allows};
+ghost use Rattle.model.specs.Calls.{changeRecord, reportBytes, writtenTo};
+ghost use Rattle.reports.specs.Written.{recordsOf, allowedOf, directionOf, reportSize};
 use areas::PLACE;
 use rows::STRIDE;
 
 // The kinds of the records of gained and of lost rows.
-const GAINED: usize = 64;
+const GAINED_RECORD: usize = 64;
 
-const LOST: usize = 65;
+const LOST_RECORD: usize = 65;
+
+// Whether a row was gained or lost.
+pub enum Direction {
+    Gained,
+    Lost,
+}
 
 // A number in 2 bytes.
 fn put16(out: &mut [u8], at: usize, x: usize)
@@ -95,24 +102,17 @@ fn put_records(
     }
 }
 
-// Whether a watch's sign allows gained rows.
-pub fn allows_gained(sign: usize) -> bool
-    ensures { λ r. ⌜ r ≡ allowsGained sign ⌝ }
+// Whether a watch's sign allows gained rows, or lost ones.
+pub fn allows(sign: usize, direction: Direction) -> bool
+    ensures { λ r. ⌜ r ≡ allows sign (directionOf direction) ⌝ }
 {
-    if sign == 1 {
+    if sign == 3 {
         return true;
     }
-    sign == 3
-}
-
-// Whether a watch's sign allows lost rows.
-pub fn allows_lost(sign: usize) -> bool
-    ensures { λ r. ⌜ r ≡ allowsLost sign ⌝ }
-{
-    if sign == 2 {
-        return true;
+    match direction {
+        Direction::Gained => sign == 1,
+        Direction::Lost => sign == 2,
     }
-    sign == 3
 }
 
 // How many bytes the records of so many rows take, where they are allowed.
@@ -148,9 +148,10 @@ fn put_allowed(
 // How many bytes the report of a node takes, given its watch's sign, its width and how many rows it gained and lost.
 pub fn report_size(sign: usize, w: usize, gained: usize, lost: usize) -> usize
     requires { ⌜ (w ≤ 4) × (gained ≤ 64) × (lost ≤ 64) ⌝ }
-    ensures { λ r. ⌜ r ≡ cond (allowsGained sign) (gained * (6 + 4 * w)) 0 + cond (allowsLost sign) (lost * (6 + 4 * w)) 0 ⌝ }
+    ensures { λ r. ⌜ r ≡ reportSize sign w gained lost ⌝ }
 {
-    allowed_size(allows_gained(sign), gained, w) + allowed_size(allows_lost(sign), lost, w)
+    allowed_size(allows(sign, Direction::Gained), gained, w)
+        + allowed_size(allows(sign, Direction::Lost), lost, w)
 }
 
 // The report of a node from the first lent byte on.
@@ -165,15 +166,15 @@ pub fn put_report(
     l: usize,
 )
     requires { ⌜ (w ≤ 4) × (g ≤ 64) × (l ≤ 64) × (node < 32) × (8192 ≤ length (now gained)) × (8192 ≤ length (now lost))
-        × (cond (allowsGained sign) (g * (6 + 4 * w)) 0 + cond (allowsLost sign) (l * (6 + 4 * w)) 0 ≤ length (now out)) ⌝ }
+        × (reportSize sign w g l ≤ length (now out)) ⌝ }
     ensures { λ _. ⌜ now (out .exit)
         ≡ writtenTo (now (out .entry))
         (reportBytes sign node (record { gained = heldIn layout w g (now (gained .entry)) node; lost = heldIn layout w l (now (lost .entry)) node }))
         ⌝ }
 {
-    let more = allows_gained(sign);
-    let less = allows_lost(sign);
+    let more = allows(sign, Direction::Gained);
+    let less = allows(sign, Direction::Lost);
     let at = allowed_size(more, g, w);
-    put_allowed(more, out, 0, GAINED, node, gained, g, w);
-    put_allowed(less, out, at, LOST, node, lost, l, w);
+    put_allowed(more, out, 0, GAINED_RECORD, node, gained, g, w);
+    put_allowed(less, out, at, LOST_RECORD, node, lost, l, w);
 }

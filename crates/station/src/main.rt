@@ -6,7 +6,7 @@ ghost use Prim.Native.Nat.{_≤_};
 ghost use lib.ListN.{length};
 ghost use Rattle.model.specs.Areas.{layout, longEnough};
 ghost use Rattle.areas.specs.Lent.{lent};
-ghost use Rattle.station_text.specs.Lines.{nodeRoom};
+ghost use Rattle.station_lines.specs.Lines.{nodeRoom};
 ghost use Rattle.program.specs.Stages.{files};
 ghost use Rattle.station.specs.Moves.{Told, Within};
 use areas::AREA;

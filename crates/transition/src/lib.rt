@@ -12,9 +12,9 @@ ghost use Rattle.network.specs.Reading.{nodesOf};
 ghost use Rattle.areas.specs.Lent.{lent};
 ghost use Rattle.changes.specs.Written.{WorkedOut};
 ghost use Rattle.transition.specs.Head.{stampsFrom, headFrom};
-use areas::COUNTS;
-use areas::GAINED;
-use areas::LOST;
+use areas::ROW_COUNTS;
+use areas::GAINED_COUNTS;
+use areas::LOST_COUNTS;
 use areas::NODES;
 use areas::STAMPS;
 use areas::WORKED;
@@ -62,10 +62,10 @@ fn write_head(
         (now (head .entry)) ⌝ }
 {
     head[0] = number;
-    words::copy_run(counts, 0, head, COUNTS, NODES);
+    words::copy_run(counts, 0, head, ROW_COUNTS, NODES);
     words::copy_run(stamps, 0, head, STAMPS, NODES);
-    words::copy_run(gains, 0, head, GAINED, NODES);
-    words::copy_run(losses, 0, head, LOST, NODES);
+    words::copy_run(gains, 0, head, GAINED_COUNTS, NODES);
+    words::copy_run(losses, 0, head, LOST_COUNTS, NODES);
     head[WORKED] = k as u32;
     words::copy_run(entries, 0, head, WORKED + 1, NODES);
 }

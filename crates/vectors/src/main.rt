@@ -7,19 +7,17 @@ ghost use Rattle.model.specs.Row.{sameRow};
 ghost use Rattle.model.specs.Areas.{layout, longEnough};
 ghost use Rattle.model.specs.Text.{programOutput};
 ghost use Rattle.areas.specs.Lent.{lent};
-ghost use Rattle.station_text.specs.Lines.{nodeRoom};
+ghost use Rattle.station_lines.specs.Lines.{nodeRoom};
 ghost use Rattle.program.specs.Stages.{fileOf};
 ghost use Rattle.vectors.specs.Packed.{Counted, Inside, comesOut, packedSize, standsAt, vectorAt};
 use areas::AREA;
 use areas::HEAD;
 use libc::STDOUT_FILENO;
+use program::MAX_FILE;
 use program::Stage;
 
 // The most bytes of a packed file.
 const PACKED: usize = 409600;
-
-// The most bytes of a vector's file.
-const MAX_FILE: usize = 65536;
 
 // A vector: the sizes of its two files, where its network, its batches and the text that it must print begin, and where the next vector does.
 pub struct Vector {

@@ -12,9 +12,7 @@ ghost use Rattle.model.specs.Network.{leftOf, rightOf};
 ghost use Rattle.new_rows.specs.Working.{working, Workable};
 ghost use Rattle.working.specs.Worked.{mustWork, nextRows, WorksNode, Puts};
 use places::Made;
-use areas::CAPACITY;
-use places::Made;
-use areas::COUNTS;
+use areas::ROW_COUNTS;
 use areas::PLACE;
 use network::Slot;
 
@@ -89,7 +87,7 @@ pub fn work_node(
         (working (now (widths .entry)) (now (rows .entry)) (now (work .entry)) (now (counts .entry)) (now (changed .entry)))
         (working (now (widths .entry)) (now (rows .entry)) (now (work .exit)) (now (counts .exit)) (now (changed .exit))) i r ⌝ }
 {
-    let n = head[COUNTS + i];
+    let n = head[ROW_COUNTS + i];
     if !must_work(slot, level, changed) {
         counts[i] = n;
         return true;

@@ -5,11 +5,6 @@ use Rattle.network.specs.Reading.{resultWith}
 use Rattle.areas.specs.Lent.{lent}
 use Rattle.program.proofs.apply.Statement.{statement}
 use Rattle.program.proofs.apply.Tie as tie
-use Rattle.program.proofs.apply.Reads as reads
-use Rattle.program.proofs.apply.Lts as lts
-use Rattle.applying.proofs.apply.Reads as apply-reads
-use Rattle.station_text.proofs.put_batch.Reads as put-batch-reads
-use Rattle.station_text.proofs.put_refused.Reads as put-refused-reads
 
 apply-requires : tie.Need-apply-requires
 apply-requires c κs = search needs

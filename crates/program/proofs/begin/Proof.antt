@@ -12,7 +12,7 @@ use Rattle.program.proofs.begin.Lts as lts
 use Rattle.lines.proofs.put_line_at.Reads as put-line-at-reads
 use Rattle.opening.proofs.open.Reads as open-reads
 use Rattle.program.proofs.has_input.Reads as has-input-reads
-use Rattle.station_text.proofs.put_refused.Reads as put-refused-reads
+use Rattle.station_lines.proofs.put_refused.Reads as put-refused-reads
 
 has-input-requires : tie.Need-has-input-requires
 has-input-requires c κs = search needs

@@ -9,8 +9,8 @@ use Rattle.program.proofs.cut.Reads as reads
 use Rattle.program.proofs.cut.Lts as lts
 use Rattle.lines.proofs.put_line_at.Reads as put-line-at-reads
 use Rattle.program.proofs.apply.Reads as apply-reads
-use Rattle.station_text.proofs.next_piece.Reads as next-piece-reads
-use Rattle.station_text.proofs.put_refused.Reads as put-refused-reads
+use Rattle.pieces.proofs.next_piece.Reads as next-piece-reads
+use Rattle.station_lines.proofs.put_refused.Reads as put-refused-reads
 
 next-piece-requires : tie.Need-next-piece-requires
 next-piece-requires c κs = search needs

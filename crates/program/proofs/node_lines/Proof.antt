@@ -1,7 +1,7 @@
 use borrow.Author.Needs.{needs}
 use Rattle.program.proofs.Steps.{changes-are, count-is, head-long, lines-are, put-nothing}
 use Rattle.program.proofs.Nodes.{silent-past, silent-unchanged}
-use Rattle.station_text.specs.Lines.{Put}
+use Rattle.station_lines.specs.Lines.{Put}
 use Prim.Native.Nat.{ℕ}
 use mathlib.Core.List.{List}
 use mathlib.Core.Path.{sym, subst, _∙_}
@@ -13,7 +13,7 @@ use Rattle.program.proofs.node_lines.Reads as reads
 use Rattle.program.proofs.node_lines.Lts as lts
 use Rattle.network.proofs.read_network.Reads as read-network-reads
 use Rattle.program.proofs.is_unchanged.Reads as is-unchanged-reads
-use Rattle.station_text.proofs.put_watched.Reads as put-watched-reads
+use Rattle.station_lines.proofs.put_watched.Reads as put-watched-reads
 
 is-unchanged-requires : tie.Need-is-unchanged-requires
 is-unchanged-requires c κs = let a = c .before .before .before .before .before .before .args

@@ -9,10 +9,6 @@ use Rattle.areas.specs.Lent.{lent}
 use Rattle.network.specs.Reading.{resultWith}
 use Rattle.replay.specs.Replayed.{callsOf}
 use Rattle.replay.proofs.replay_batches.Tie as tie
-use Rattle.replay.proofs.replay_batches.Reads as reads
-use Rattle.replay.proofs.replay_batches.Lts as lts
-use Rattle.applying.proofs.apply.Reads as apply-reads
-use Rattle.station_text.proofs.next_piece.Reads as next-piece-reads
 
 abbrev Inv-loop : tie.InvT-loop
 Inv-loop net file rows₀ gained₀ lost₀ head₀ start₀ rows gained lost head start = Replaying net file (lent rows₀ gained₀ lost₀ head₀) (lent rows gained lost head) start

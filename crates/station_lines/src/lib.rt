@@ -1,0 +1,174 @@
+// The station program's lines, of a batch, of a node's watched changes and of a refusal, written into lent bytes.
+ghost use mathlib.Core.Path.{_≡_};
+ghost use mathlib.Core.Bool.{cond};
+ghost use mathlib.Core.List.{_∷_, [], flatMap};
+ghost use Prim.Native.Nat.{_+_, _*_, _≤_, _<_};
+ghost use lib.ListN.{length};
+ghost use lib.Seq.{sets};
+ghost use Rattle.model.specs.Areas.{layout, fields, heldIn, padded};
+ghost use Rattle.model.specs.Watched.{changesOf};
+ghost use Rattle.model.specs.Text.{line, batchWord, changeLine, refusedLine};
+ghost use Rattle.network.specs.Reading.{Built};
+ghost use Rattle.admission.specs.Admission.{Changes};
+ghost use Rattle.station_lines.specs.Lines.{Put, PutIfRoom, batchRoom, linesIn, nodeRoom, refusedRoom};
+ghost use Rattle.station_lines.specs.Lines.{changeLines};
+use areas::GAINED_COUNTS;
+use areas::LOST_COUNTS;
+use areas::PLACE;
+use network::Network;
+use reports::Direction;
+use rows::STRIDE;
+
+// The signs of gained and of lost rows.
+const PLUS: u8 = 43;
+
+const MINUS: u8 = 45;
+
+// The most bytes of a refusal's line.
+const LINE: usize = 50;
+
+// The most bytes of a node's lines: 128 lines of at most 107 bytes.
+pub const NODE_ROOM: usize = 13696;
+
+// The numbers of a changed row's line: the node, then the row's fields, then zeros.
+fn change_numbers(node: usize, words: &[u32], from: usize, w: usize) -> [usize; 5]
+    requires { ⌜ (w ≤ 4) × (from + w ≤ length (now words)) ⌝ }
+    ensures { λ r. ⌜ r ≡ padded 5 (node ∷ fields w (now (words .entry)) from) ⌝ }
+{
+    let mut numbers = [0usize; 5];
+    numbers[0] = node;
+    let mut k = 0;
+    while k < w {
+        numbers[k + 1] = words[from + k] as usize;
+        k += 1;
+    }
+    numbers
+}
+
+// The line of a changed row, from an offset on: where the bytes after it begin.
+fn put_change(
+    out: &mut [u8],
+    at: usize,
+    sign: u8,
+    node: usize,
+    words: &[u32],
+    from: usize,
+    w: usize,
+) -> usize
+    requires { ⌜ (w ≤ 4) × (from + w ≤ length (now words)) × (at + 107 ≤ length (now out)) ⌝ }
+    ensures { λ r. ⌜ (now (out .exit) ≡ sets (now (out .entry)) at (line (sign ∷ []) (node ∷ fields w (now (words .entry)) from)))
+        × (r ≡ at + length (line (sign ∷ []) (node ∷ fields w (now (words .entry)) from))) × (r ≤ at + 107) ⌝ }
+{
+    let numbers = change_numbers(node, words, from, w);
+    lines::put_line_at(out, at, &[sign], &numbers[..w + 1])
+}
+
+// The lines of the rows in a node's place, from an offset on: where the bytes after them begin.
+fn put_changes(
+    out: &mut [u8],
+    at: usize,
+    sign: u8,
+    node: usize,
+    area: &[u32],
+    n: usize,
+    w: usize,
+) -> usize
+    requires { ⌜ (w ≤ 4) × (n ≤ 64) × (node < 32) × (8192 ≤ length (now area)) × (at + 107 * n ≤ length (now out)) ⌝ }
+    ensures { λ r. ⌜ (now (out .exit) ≡ sets (now (out .entry)) at (changeLines sign node (heldIn layout w n (now (area .entry)) node)))
+        × (r ≡ at + length (changeLines sign node (heldIn layout w n (now (area .entry)) node))) × (r ≤ at + 107 * n) ⌝ }
+{
+    let mut to = at;
+    let mut j = 0;
+    while j < n {
+        to = put_change(out, to, sign, node, area, node * PLACE + j * STRIDE, w);
+        j += 1;
+    }
+    to
+}
+
+// The lines of the rows in a node's place, where they are allowed: where the bytes after them begin.
+fn put_allowed(
+    allowed: bool,
+    out: &mut [u8],
+    at: usize,
+    sign: u8,
+    node: usize,
+    area: &[u32],
+    n: usize,
+    w: usize,
+) -> usize
+    requires { ⌜ (w ≤ 4) × (n ≤ 64) × (node < 32) × (8192 ≤ length (now area)) × (at + 107 * n ≤ length (now out)) ⌝ }
+    ensures { λ r. ⌜ (now (out .exit) ≡ sets (now (out .entry)) at (cond allowed (changeLines sign node
+        (heldIn layout w n (now (area .entry)) node)) [])) × (r ≡ at + length (cond allowed (changeLines sign node
+        (heldIn layout w n (now (area .entry)) node)) [])) × (r ≤ at + 107 * n) ⌝ }
+{
+    if allowed {
+        return put_changes(out, at, sign, node, area, n, w);
+    }
+    at
+}
+
+// The lines of a node from an offset on, as its watch's sign allows: where the bytes after them begin.
+fn put_node(
+    out: &mut [u8],
+    at: usize,
+    sign: usize,
+    node: usize,
+    w: usize,
+    gained: &[u32],
+    g: usize,
+    lost: &[u32],
+    l: usize,
+) -> usize
+    requires { ⌜ (w ≤ 4) × (g ≤ 64) × (l ≤ 64) × (node < 32) × (8192 ≤ length (now gained)) × (8192 ≤ length (now lost))
+        × (at + nodeRoom ≤ length (now out)) ⌝ }
+    ensures { λ r. ⌜ Put (flatMap changeLine (changesOf sign node
+        (record { gained = heldIn layout w g (now (gained .entry)) node; lost = heldIn layout w l (now (lost .entry)) node }))) nodeRoom at
+        (now (out .entry)) (now (out .exit)) r ⌝ }
+{
+    let more = reports::allows(sign, Direction::Gained);
+    let less = reports::allows(sign, Direction::Lost);
+    let to = put_allowed(more, out, at, PLUS, node, gained, g, w);
+    put_allowed(less, out, to, MINUS, node, lost, l, w)
+}
+
+// The lines of a node of a network from an offset on: where the bytes after them begin.
+pub fn put_watched(
+    out: &mut [u8],
+    at: usize,
+    network: Network,
+    node: usize,
+    gained: &[u32],
+    lost: &[u32],
+    head: &[u32],
+) -> usize
+    requires { ⌜ Built network × Changes network (now gained) (now lost) (now head) × (node < network .count)
+        × (at + nodeRoom ≤ length (now out)) ⌝ }
+    ensures { λ r. ⌜ Put (linesIn network (now (gained .entry)) (now (lost .entry)) (now (head .entry)) node) nodeRoom at
+        (now (out .entry)) (now (out .exit)) r ⌝ }
+{
+    let sign = network.signs[node];
+    let w = network.widths[node];
+    let g = head[GAINED_COUNTS + node] as usize;
+    let l = head[LOST_COUNTS + node] as usize;
+    put_node(out, at, sign, node, w, gained, g, lost, l)
+}
+
+// The line of an accepted batch's number from the first byte on: its length.
+pub fn put_batch(out: &mut [u8], number: usize) -> usize
+    requires { ⌜ batchRoom ≤ length (now out) ⌝ }
+    ensures { λ r. ⌜ Put (line batchWord (number ∷ [])) batchRoom 0 (now (out .entry)) (now (out .exit)) r ⌝ }
+{
+    lines::put_line_at(out, 0, b"batch", &[number])
+}
+
+// The line of a refusal from the first byte on: its length. Where there is no room for the longest one nothing is
+// written, and the answer is 0.
+pub fn put_refused(out: &mut [u8], number: usize, place: usize) -> usize
+    ensures { λ r. ⌜ PutIfRoom (refusedLine number place) refusedRoom (now (out .entry)) (now (out .exit)) r ⌝ }
+{
+    if out.len() < LINE {
+        return 0;
+    }
+    lines::put_line_at(out, 0, b"refused", &[number, place])
+}
