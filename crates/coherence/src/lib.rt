@@ -15,7 +15,6 @@ use areas::PLACE;
 use evaluation::Held;
 use network::Network;
 use network::Slot;
-use places::Made;
 
 // The width and the count of node i's rows.
 fn held(widths: &[usize], head: &[u32], i: usize) -> Held
