@@ -1,5 +1,5 @@
 -- Batches read record by record. Assumes nothing.
-use mathlib.Core.Bool.{_&&_, Bool, cond, false, not, true, _||_}
+use mathlib.Core.Bool.{_&&_, Bool, cond, false, not, true}
 use mathlib.Core.List.{_++_, List, [], _∷_}
 use mathlib.Core.Path.{_≡_, ap, ap₂, refl, sym, _∙_}
 use mathlib.Core.Logic.{inl, inr}
@@ -13,9 +13,9 @@ use lib.ListN.{getD, length, length-append, take}
 use borrow.Author.Tests.{eq-eqb, ltb-true, ne-eqb, leb-false}
 use Rattle.network.specs.Reading.{Built, noSlot, nodesOf, slotNode}
 use Rattle.model.specs.Record.{Bytes, Verdict, accepted, fieldAt, firstBroken, isBroken, kindAt, lengthAt, offsets, refused, rule}
-use Rattle.model.specs.Batch.{Event, eventAt, eventFault, eventFits, maxEvents, readBatch, readEvents}
+use Rattle.model.specs.Batch.{Event, eventAt, eventFault, eventFaultBy, eventFits, eventFitsBy, isEventKind, maxEvents, readBatch, readEvents}
 use Rattle.records.proofs.Header.{Whole, whole}
-use Rattle.events.specs.Reading.{ReadsEvent, eventFaultIn, eventFitsIn, numberOf, sizeOf}
+use Rattle.events.specs.Reading.{ReadsEvent, isTableIn, numberOf, sizeOf}
 use Rattle.events.specs.declared.EventRecord.{EventRecord}
 use Rattle.events.specs.declared.EventRecord.the-variants.{Event as Brought, Broken, NoEvent, TooMany, Misfit}
 use Rattle.coherence.proofs.Coherent.{level-at, nodes-count, slot-node, width-is}
@@ -41,13 +41,13 @@ module _ (a b c d : Bool) where
 module _ (count : ℕ) (ws ls : List ℕ) (before : ℕ) (bs : Bytes) (at : ℕ) where
   -- its kind is one of events
   abbrev pub eventKind : Bool
-  eventKind = eqb (kindAt bs at) 32 || eqb (kindAt bs at) 33
+  eventKind = isEventKind (kindAt bs at)
 
   abbrev Reads : EventRecord → Type 0
   Reads r = ReadsEvent count ws ls before bs at r
 
   abbrev Fits : Bool
-  Fits = eventFitsIn count ws ls bs at
+  Fits = eventFitsBy count (isTableIn ls) ws bs at
 
   pub reads-broken : isBroken bs at ≡ true → Reads Broken
   reads-broken e = record { number = rw e; size = λ z. absurd (omega arith) }
@@ -67,13 +67,13 @@ module _ (count : ℕ) (ws ls : List ℕ) (before : ℕ) (bs : Bytes) (at : ℕ)
 -- ---- the network's numbers are those of its nodes
 
 module _ (net : Network) (b : Built net) (bs : Bytes) where
-  level-says : (t : ℕ) → t < net .count → eqb (getD (net .levels) t 0) 0 ≡ model.isTable (model.nodeAt (nodesOf net) t)
+  level-says : (t : ℕ) → t < net .count → isTableIn (net .levels) t ≡ model.isTable (model.nodeAt (nodesOf net) t)
   level-says t h = go (model.isTable (slotNode (getD (net .slots) t noSlot))) refl
     where
       node : model.isTable (model.nodeAt (nodesOf net) t) ≡ model.isTable (slotNode (getD (net .slots) t noSlot))
       node = ap model.isTable (slot-node net b t h)
 
-      go : (u : Bool) → model.isTable (slotNode (getD (net .slots) t noSlot)) ≡ u → eqb (getD (net .levels) t 0) 0 ≡ model.isTable (model.nodeAt (nodesOf net) t)
+      go : (u : Bool) → model.isTable (slotNode (getD (net .slots) t noSlot)) ≡ u → isTableIn (net .levels) t ≡ model.isTable (model.nodeAt (nodesOf net) t)
       go true e = eq-eqb (getD (net .levels) t 0) 0
           (level-at net b t h ∙ ap (λ (u : Bool). cond u 0 (suc (model.highest (take t (model.levels (nodesOf net))) (model.inputsOf (slotNode (getD (net .slots) t noSlot)))))) e)
           ∙ sym (node ∙ e)
@@ -82,14 +82,14 @@ module _ (net : Network) (b : Built net) (bs : Bytes) where
           ∙ ap (λ (u : Bool). cond u 0 (suc (model.highest (take t (model.levels (nodesOf net))) (model.inputsOf (slotNode (getD (net .slots) t noSlot)))))) e in
           ne-eqb (getD (net .levels) t 0) 0 (λ z. absurd (omega arith)) ∙ sym (node ∙ e)
 
-  fits-same : (at : ℕ) → eventFitsIn (net .count) (net .widths) (net .levels) bs at ≡ eventFits (nodesOf net) bs at
+  fits-same : (at : ℕ) → eventFitsBy (net .count) (isTableIn (net .levels)) (net .widths) bs at ≡ eventFits (nodesOf net) bs at
   unfolding eventFits
   fits-same at = go (ltb (fieldAt bs at 0) (net .count)) refl
     where
       t : ℕ
       t = fieldAt bs at 0
 
-      go : (u : Bool) → ltb (fieldAt bs at 0) (net .count) ≡ u → eventFitsIn (net .count) (net .widths) (net .levels) bs at ≡ eventFits (nodesOf net) bs at
+      go : (u : Bool) → ltb (fieldAt bs at 0) (net .count) ≡ u → eventFitsBy (net .count) (isTableIn (net .levels)) (net .widths) bs at ≡ eventFits (nodesOf net) bs at
       go true e =
           let h : fieldAt bs at 0 < net .count = ltb-true (fieldAt bs at 0) (net .count) e in
           rw (nodes-count net b, width-is net b (fieldAt bs at 0) h, level-says (fieldAt bs at 0) h)
@@ -101,15 +101,10 @@ module _ (net : Network) (b : Built net) (bs : Bytes) where
           both true q r s u = refl
           both false q r s u = refl
 
-  fault-same : (before at : ℕ) → eventFaultIn (net .count) (net .widths) (net .levels) before bs at ≡ eventFault (nodesOf net) before bs at
-  unfolding eventFault
-  fault-same before at =
-      ap (λ (f : Bool). firstBroken (rule 10 (isBroken bs at) ∷ rule 11 (not (eqb (kindAt bs at) 32 || eqb (kindAt bs at) 33)) ∷ rule 12 (leb maxEvents before) ∷ rule 13 (not f) ∷ []))
-      (fits-same at)
-
   -- a reading by the arrays says what the rules say of the nodes
   pub reads-number : (before at : ℕ) (r : EventRecord) → ReadsEvent (net .count) (net .widths) (net .levels) before bs at r → numberOf r ≡ eventFault (nodesOf net) before bs at
-  reads-number before at r e = e .number ∙ fault-same before at
+  unfolding eventFault
+  reads-number before at r e = e .number ∙ ap (λ (f : Bool). eventFaultBy f before bs at) (fits-same at)
 
   pub reads-size : (before at : ℕ) (r : EventRecord) (n : ℕ) → ReadsEvent (net .count) (net .widths) (net .levels) before bs at r → r ≡ Brought n → n ≡ lengthAt bs at
   reads-size before at r n e f = sym (ap sizeOf f) ∙ e .size (ap numberOf f)
@@ -168,7 +163,7 @@ module _ (nodes : List model.Node) (bs : Bytes) where
   -- an event that is read is not the 65th
   pub event-few : (k at : ℕ) → eventFault nodes k bs at ≡ 0 → k + 1 ≤ 64
   unfolding eventFault
-  event-few k at e = go (isBroken bs at) (eqb (kindAt bs at) 32 || eqb (kindAt bs at) 33) (leb maxEvents k) (eventFits nodes bs at) refl e
+  event-few k at e = go (isBroken bs at) (isEventKind (kindAt bs at)) (leb maxEvents k) (eventFits nodes bs at) refl e
     where
       go : (p q r u : Bool) → leb maxEvents k ≡ r → firstBroken (rule 10 p ∷ rule 11 (not q) ∷ rule 12 r ∷ rule 13 (not u) ∷ []) ≡ 0 → k + 1 ≤ 64
       go true q r u f z = absurd (omega arith)

@@ -1,14 +1,13 @@
 // Batches read from bytes: refusals 10 to 13.
 ghost use mathlib.Core.Path.{_≡_};
-ghost use mathlib.Core.Bool.{true, false, _||_};
+ghost use mathlib.Core.Bool.{true, false};
 ghost use Prim.Native.Nat.{_+_, _*_, _≤_, _<_};
-ghost use lib.Dec.{eqb};
 ghost use lib.ListN.{length};
 ghost use Rattle.model.specs.Record.{isBroken};
-ghost use Rattle.model.specs.Batch.{readBatch};
+ghost use Rattle.model.specs.Batch.{isEventKind, eventFitsBy, readBatch};
 ghost use Rattle.nodes.specs.Nodes.{Narrow};
 ghost use Rattle.network.specs.Reading.{verdictOf, nodesOf, Built};
-ghost use Rattle.events.specs.Reading.{eventFitsIn, ReadsEvent, numberOf};
+ghost use Rattle.events.specs.Reading.{isTableIn, ReadsEvent, numberOf};
 use network::Network;
 use network::Verdict;
 
@@ -23,7 +22,7 @@ const MAX_EVENTS: usize = 64;
 fn event_fits(bytes: &[u8], at: usize, count: usize, widths: &[usize], levels: &[usize]) -> bool
     requires { ⌜ (isBroken (now bytes) at ≡ false) × (count ≤ length (now widths)) × (count ≤ length (now levels)) × (count ≤ 32)
         × Narrow (now widths) ⌝ }
-    ensures { λ r. ⌜ r ≡ eventFitsIn count (now (widths .entry)) (now (levels .entry)) (now (bytes .entry)) at ⌝ }
+    ensures { λ r. ⌜ r ≡ eventFitsBy count (isTableIn (now (levels .entry))) (now (widths .entry)) (now (bytes .entry)) at ⌝ }
 {
     let size = records::u16_at(bytes, at);
     if size < 6 {
@@ -41,7 +40,7 @@ fn event_fits(bytes: &[u8], at: usize, count: usize, widths: &[usize], levels: &
 
 // Whether a kind is one of events.
 fn is_event(kind: usize) -> bool
-    ensures { λ r. ⌜ r ≡ (eqb kind 32 || eqb kind 33) ⌝ }
+    ensures { λ r. ⌜ r ≡ isEventKind kind ⌝ }
 {
     if kind == PUT {
         return true;

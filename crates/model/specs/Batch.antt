@@ -30,29 +30,41 @@ eventOf false t r = remove t r
 unfoldable pub eventAt : List ℕ → Bytes → ℕ → Event
 eventAt ws bs at = eventOf (eqb (kindAt bs at) 32) (fieldAt bs at 0) (rowIn bs (at + 6) (getD ws (fieldAt bs at 0) 0))
 
--- rule 13: long enough to name a node, that node a table, and "6 + 4 × width bytes"
+-- rule 11: the kinds of events
+abbrev pub isEventKind : ℕ → Bool
+isEventKind kind = eqb kind 32 || eqb kind 33
+
+-- rule 13, by the nodes' count and widths: long enough to name a node, that node a table, and "6 + 4 × width bytes"
+abbrev pub eventFitsBy : ℕ → (ℕ → Bool) → List ℕ → Bytes → ℕ → Bool
+eventFitsBy count isTableAt ws bs at =
+    leb 6 (lengthAt bs at)
+    && ltb (fieldAt bs at 0) count
+    && isTableAt (fieldAt bs at 0)
+    && eqb (lengthAt bs at) (6 + 4 * getD ws (fieldAt bs at 0) 0)
+
+-- rule 13 for a network's nodes
 unfoldable pub eventFits : List Node → Bytes → ℕ → Bool
 unfolding widths
-eventFits nodes bs at =
-    leb 6 (lengthAt bs at)
-    && ltb (fieldAt bs at 0) (length nodes)
-    && isTable (nodeAt nodes (fieldAt bs at 0))
-    && eqb (lengthAt bs at) (6 + 4 * getD (widths nodes) (fieldAt bs at 0) 0)
+eventFits nodes bs at = eventFitsBy (length nodes) (λ t. isTable (nodeAt nodes t)) (widths nodes) bs at
 
 -- the most events of a batch
 abbrev pub maxEvents : ℕ
 maxEvents = 64
 
 -- the lowest number that the record at an offset breaks, 0 if none; so many events stand before it
-unfoldable pub eventFault : List Node → ℕ → Bytes → ℕ → ℕ
-unfolding isBroken eventFits
-eventFault nodes before bs at =
+abbrev pub eventFaultBy : Bool → ℕ → Bytes → ℕ → ℕ
+eventFaultBy fits before bs at =
     firstBroken (
     rule 10 (isBroken bs at)
-    ∷ rule 11 (not (eqb (kindAt bs at) 32 || eqb (kindAt bs at) 33))
+    ∷ rule 11 (not (isEventKind (kindAt bs at)))
     ∷ rule 12 (leb maxEvents before)
-    ∷ rule 13 (not (eventFits nodes bs at))
+    ∷ rule 13 (not fits)
     ∷ [])
+
+-- the same for a network's nodes
+unfoldable pub eventFault : List Node → ℕ → Bytes → ℕ → ℕ
+unfolding isBroken eventFits
+eventFault nodes before bs at = eventFaultBy (eventFits nodes bs at) before bs at
 
 -- what reading a batch gives: the verdict, and the events where it is accepted
 pub record BatchReading : Type 0 where

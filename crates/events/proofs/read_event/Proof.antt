@@ -1,13 +1,10 @@
 use mathlib.Core.Path.{ap, sym, _∙_}
-use mathlib.Core.Bool.{_||_}
-use Prim.Native.Nat.{ℕ}
 use native.Mathlib.Omega.{arith}
-use lib.Dec.{eqb}
 use borrow.Author.Needs.{needs}
 use borrow.Author.Tests.{le-leb, lt-leb, not-false, not-true}
 use Rattle.events.proofs.read_event.Statement.{statement}
 use Rattle.events.proofs.Events.{reads-broken, reads-no-event, reads-too-many, reads-misfit, reads-event}
-use Rattle.model.specs.Batch.{maxEvents}
+use Rattle.model.specs.Batch.{isEventKind, maxEvents}
 use Rattle.records.proofs.Header.{whole}
 use Rattle.events.proofs.read_event.Tie as tie
 use Rattle.events.proofs.read_event.Reads as reads
@@ -43,7 +40,7 @@ returns-2 c =
     let i = c .before .is-event in
     reads-no-event (a .count) (a .widths .now) (a .levels .now) (a .before) (a .bytes .now) (a .at)
     (sym (c .before .before .before .before .is-broken .ensures) ∙ c .before .before .before .if1 .left)
-    (ap (λ (k : ℕ). eqb k 32 || eqb k 33) (sym (c .before .before .u16-at .ensures .is)) ∙ sym (i .ensures) ∙ not-true (i .result) (c .if2 .taken))
+    (ap isEventKind (sym (c .before .before .u16-at .ensures .is)) ∙ sym (i .ensures) ∙ not-true (i .result) (c .if2 .taken))
 
 returns-3 : tie.Need-returns-3
 returns-3 c =
@@ -51,7 +48,7 @@ returns-3 c =
     let i = c .before .before .is-event in
     reads-too-many (a .count) (a .widths .now) (a .levels .now) (a .before) (a .bytes .now) (a .at)
     (sym (c .before .before .before .before .before .is-broken .ensures) ∙ c .before .before .before .before .if1 .left)
-    (ap (λ (k : ℕ). eqb k 32 || eqb k 33) (sym (c .before .before .before .u16-at .ensures .is)) ∙ sym (i .ensures) ∙ not-false (i .result) (c .before .if2 .left))
+    (ap isEventKind (sym (c .before .before .before .u16-at .ensures .is)) ∙ sym (i .ensures) ∙ not-false (i .result) (c .before .if2 .left))
     (le-leb maxEvents (a .before) (c .if3 .taken))
 
 event-fits-requires : tie.Need-event-fits-requires
@@ -65,7 +62,7 @@ returns-4 c =
     let i = c .before .before .before .before .is-event in
     reads-misfit (a .count) (a .widths .now) (a .levels .now) (a .before) (a .bytes .now) (a .at)
     (sym (c .before .before .before .before .before .before .before .is-broken .ensures) ∙ c .before .before .before .before .before .before .if1 .left)
-    (ap (λ (k : ℕ). eqb k 32 || eqb k 33) (sym (c .before .before .before .before .before .u16-at .ensures .is)) ∙ sym (i .ensures)
+    (ap isEventKind (sym (c .before .before .before .before .before .u16-at .ensures .is)) ∙ sym (i .ensures)
     ∙ not-false (i .result) (c .before .before .before .if2 .left))
     (lt-leb maxEvents (a .before) (omega (arith, c .before .before .if3 .left)))
     (sym (c .before .event-fits .ensures) ∙ not-true (c .before .event-fits .result) (c .if4 .taken))
@@ -84,7 +81,7 @@ returns-5 c =
     let u = c .before .before .before .before .before .before .u16-at in
     reads-event (a .count) (a .widths .now) (a .levels .now) (a .before) (a .bytes .now) (a .at) (c .u16-at2 .result)
     (sym (c .before .before .before .before .before .before .before .before .is-broken .ensures) ∙ c .before .before .before .before .before .before .before .if1 .left)
-    (ap (λ (k : ℕ). eqb k 32 || eqb k 33) (sym (u .ensures .is)) ∙ sym (i .ensures) ∙ not-false (i .result) (c .before .before .before .before .if2 .left))
+    (ap isEventKind (sym (u .ensures .is)) ∙ sym (i .ensures) ∙ not-false (i .result) (c .before .before .before .before .if2 .left))
     (lt-leb maxEvents (a .before) (omega (arith, c .before .before .before .if3 .left)))
     (sym (c .before .before .event-fits .ensures) ∙ not-false (c .before .before .event-fits .result) (c .before .if4 .left))
     (c .u16-at2 .ensures .is)
