@@ -1,4 +1,5 @@
 use borrow.Author.Needs.{needs}
+use native.Mathlib.Omega.{arith}
 use Rattle.changes.proofs.write_node.Statement.{statement}
 use Rattle.changes.proofs.Kept.{keeps-node}
 use Rattle.changes.proofs.write_node.Tie as tie
@@ -34,14 +35,17 @@ returns c = λ w p q g l. rw (c .before .before .before .before .before .before 
     (c .before .before .before .before .before .before .write-change .ensures w (rw (c .before .before .before .before .before .before .before .before .before .before .if1 .taken) at p) q)
 
 clear-place-requires : tie.Need-clear-place-requires
-clear-place-requires c κs =
-    (c .before .before .before .before .before .before .pre .0, c .before .before .before .before .before .before .pre .3, c .before .before .before .before .before .before .pre .7)
+clear-place-requires c κs = (
+  c .before .before .before .before .before .before .pre .0,
+  c .before .before .before .before .before .before .pre .3,
+  omega (arith, c .before .before .before .before .before .before .pre .7),
+)
 
 clear-place-requires-2 : tie.Need-clear-place-requires-2
 clear-place-requires-2 c κs = (
   c .before .before .before .before .before .before .before .before .before .before .pre .0,
   c .before .before .before .before .before .before .before .before .before .before .pre .4,
-  c .before .before .before .before .before .before .before .before .before .before .pre .8,
+  omega (arith, c .before .before .before .before .before .before .before .before .before .before .pre .8),
 )
 
 same-length-4 : tie.Need-same-length-4
