@@ -6,8 +6,8 @@ use lib.Dec.{ltb}
 use lib.ListN.{getD, length}
 use Rattle.model.specs.Row.{Relation, maxRows}
 use Rattle.model.specs.Algebra.{selectRows, projectRows, joinRows, unionRows, differenceRows, intersectRows}
-use Rattle.model.specs.Network.{Node, table, select, project, join, setOperation, SetOperation, union, difference, intersection}
-use Rattle.model.specs.Network.{build, isTable, inputsOf}
+use Rattle.model.specs.Network.{Node, table, select, project, join, setOperation, SetOperation, union, difference}
+use Rattle.model.specs.Network.{intersection, build, isTable, inputsOf}
 
 -- the rows of a node's input, given the rows of the nodes before it
 abbrev pub rowsAt : List Relation → ℕ → Relation

@@ -9,8 +9,8 @@ use Rattle.model.specs.Algebra as algebra
 use Rattle.model.specs.Algebra.{Pair, constant, column}
 use Rattle.model.specs.Record.{Bytes, kindAt, fieldAt, fieldsAt, rule, firstBroken}
 use Rattle.model.specs.Network as model
-use Rattle.model.specs.Network.{Kind, Item, nodeItem, watchItem, table, select, project, join, setOperation, union, difference, intersection}
-use Rattle.model.specs.Network.{pairsAt, kindNumbered, hasShape, itemAt, itemFits, recordFault}
+use Rattle.model.specs.Network.{Kind, Item, nodeItem, watchItem, table, select, project, join, setOperation, union, difference}
+use Rattle.model.specs.Network.{intersection, pairsAt, kindNumbered, hasShape, itemAt, itemFits, recordFault}
 use Rattle.nodes.specs.declared.Operand.{Operand}
 use Rattle.nodes.specs.declared.Operand.the-variants.{Constant, Column}
 use Rattle.nodes.specs.declared.SetOperation.{SetOperation}
