@@ -40,7 +40,7 @@ module _ (how : Joining) (fits : JoinFits how) where
       go false = tt
 
   -- a left row with all right rows
-  pub each-joined : (l : Row) (right : List Row) → flatMap (joinedIf how l) right ≡ joinedWith how right l
+  each-joined : (l : Row) (right : List Row) → flatMap (joinedIf how l) right ≡ joinedWith how right l
   unfolding flatMap
   each-joined l [] = refl
   each-joined l (r ∷ right) = go (agree (pairsOf (how .p) (how .pairs)) l r) (each-joined l right)

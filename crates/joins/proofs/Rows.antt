@@ -69,7 +69,7 @@ columns-same k (c ∷ columns) f g e h =
 -- ---- a row of four words
 
 -- a row of four words is its own row
-pub row-itself : (r : Row) → length r ≡ 4 → rowAt 4 r 0 ≡ r
+row-itself : (r : Row) → length r ≡ 4 → rowAt 4 r 0 ≡ r
 unfolding rowAt
 row-itself r e = fields-part 4 r 0 (omega (arith, e)) ∙ take-all 4 r (omega (arith, e))
 

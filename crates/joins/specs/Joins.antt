@@ -22,7 +22,8 @@ joinedRow split columns l r = padded 4 (map (joinedField split l r) columns)
 
 -- a left row with each right row that agrees
 abbrev pub joinedWith : Joining → List Row → Row → List Row
-joinedWith how right l = map (joinedRow (how .split) (take (how .n) (how .columns)) l) (keep (agree (pairsOf (how .p) (how .pairs)) l) right)
+joinedWith how right l =
+    map (joinedRow (how .split) (take (how .n) (how .columns)) l) (keep (agree (pairsOf (how .p) (how .pairs)) l) right)
 
 -- a join's columns are inside the words of its rows
 pub record JoinFits (how : Joining) : Type 0 where

@@ -16,8 +16,10 @@ use rows::STRIDE;
 
 // Column c of row i of the left place followed by row j of the right one, where the left row has split fields.
 fn joined_field(left: &[u32], i: usize, right: &[u32], j: usize, split: usize, c: usize) -> u32
-    requires { ⌜ (i * stride + stride ≤ length (now left)) × (j * stride + stride ≤ length (now right)) × (split ≤ stride) × (c < split + stride) ⌝ }
-    ensures { λ r. ⌜ r ≡ joinedField split (rowAt stride (now (left .entry)) i) (rowAt stride (now (right .entry)) j) c ⌝ }
+    requires { ⌜ (i * stride + stride ≤ length (now left)) × (j * stride + stride ≤ length (now right))
+        × (split ≤ stride) × (c < split + stride) ⌝ }
+    ensures { λ r. ⌜ r ≡ joinedField split (rowAt stride (now (left .entry)) i)
+        (rowAt stride (now (right .entry)) j) c ⌝ }
 {
     if c < split {
         left[i * STRIDE + c]
@@ -36,9 +38,11 @@ fn columns_row(
     columns: &[usize],
     n: usize,
 ) -> [u32; STRIDE]
-    requires { ⌜ (i * stride + stride ≤ length (now left)) × (j * stride + stride ≤ length (now right)) × (split ≤ stride) × (n ≤ 4)
-        × (n ≤ length (now columns)) × (columnsBelow (split + stride) (take n (now columns)) ≡ true) ⌝ }
-    ensures { λ r. ⌜ r ≡ joinedRow split (take n (now (columns .entry))) (rowAt stride (now (left .entry)) i) (rowAt stride (now (right .entry)) j) ⌝ }
+    requires { ⌜ (i * stride + stride ≤ length (now left)) × (j * stride + stride ≤ length (now right))
+        × (split ≤ stride) × (n ≤ 4) × (n ≤ length (now columns))
+        × (columnsBelow (split + stride) (take n (now columns)) ≡ true) ⌝ }
+    ensures { λ r. ⌜ r ≡ joinedRow split (take n (now (columns .entry))) (rowAt stride (now (left .entry)) i)
+        (rowAt stride (now (right .entry)) j) ⌝ }
 {
     let mut row = [0u32; STRIDE];
     let mut k = 0;
@@ -51,32 +55,30 @@ fn columns_row(
 
 // The named columns of a place's rows, in an empty place: how many rows, or that they are more than 64.
 pub fn project_rows(input: &[u32], n: usize, columns: &[usize], c: usize, out: &mut [u32]) -> Made
-    requires { ⌜ (n * stride ≤ length (now input)) × (c ≤ 4) × (c ≤ length (now columns)) × (columnsBelow stride (take c (now columns)) ≡ true)
-        × Blank (now out) ⌝ }
+    requires { ⌜ (n * stride ≤ length (now input)) × (c ≤ 4) × (c ≤ length (now columns))
+        × (columnsBelow stride (take c (now columns)) ≡ true) × Blank (now out) ⌝ }
     ensures { λ r. ⌜ ((w : ℕ) → Place w (now (input .entry)) n → columnsBelow w (take c (now (columns .entry))) ≡ true →
-        Makes (projectRows (take c (now (columns .entry))) (relationIn w (now (input .entry)) n)) (now (out .exit)) r) ⌝ }
+        Makes (projectRows (take c (now (columns .entry))) (relationIn w (now (input .entry)) n))
+        (now (out .exit)) r) ⌝ }
 {
     let mut count = 0;
     let mut i = n;
     while 0 < i {
         i -= 1;
         let row = columns_row(input, i, input, i, STRIDE, columns, c);
-        match places::put_row(out, count, &row, 0) {
-            Made::Rows(more) => {
-                count = more;
-            }
-            Made::Over => {
-                return Made::Over;
-            }
-        }
+        let Made::Rows(more) = places::put_row(out, count, &row, 0) else {
+            return Made::Over;
+        };
+        count = more;
     }
     Made::Rows(count)
 }
 
-// Whether row i of the left place and row j of the right one agree on pair k: its columns stand in turn, left and right.
+// Whether row i of the left place and row j of the right one agree on pair k; the pairs' columns stand in turn.
 fn agrees_on(left: &[u32], i: usize, right: &[u32], j: usize, pairs: &[usize], k: usize) -> bool
-    requires { ⌜ (i * stride + stride ≤ length (now left)) × (j * stride + stride ≤ length (now right)) × (2 * k + 2 ≤ length (now pairs))
-        × (getD (now pairs) (2 * k) 0 < stride) × (getD (now pairs) (2 * k + 1) 0 < stride) ⌝ }
+    requires { ⌜ (i * stride + stride ≤ length (now left)) × (j * stride + stride ≤ length (now right))
+        × (2 * k + 2 ≤ length (now pairs)) × (getD (now pairs) (2 * k) 0 < stride)
+        × (getD (now pairs) (2 * k + 1) 0 < stride) ⌝ }
     ensures { λ r. ⌜ r ≡ eqb (getD (rowAt stride (now (left .entry)) i) (getD (now (pairs .entry)) (2 * k) 0) 0)
         (getD (rowAt stride (now (right .entry)) j) (getD (now (pairs .entry)) (2 * k + 1) 0) 0) ⌝ }
 {
@@ -85,9 +87,10 @@ fn agrees_on(left: &[u32], i: usize, right: &[u32], j: usize, pairs: &[usize], k
 
 // Whether row i of the left place and row j of the right one agree on all p pairs.
 fn rows_agree(left: &[u32], i: usize, right: &[u32], j: usize, pairs: &[usize], p: usize) -> bool
-    requires { ⌜ (i * stride + stride ≤ length (now left)) × (j * stride + stride ≤ length (now right)) × (2 * p ≤ length (now pairs))
-        × (pairsBelow stride stride (pairsOf p (now pairs)) ≡ true) ⌝ }
-    ensures { λ r. ⌜ r ≡ agree (pairsOf p (now (pairs .entry))) (rowAt stride (now (left .entry)) i) (rowAt stride (now (right .entry)) j) ⌝ }
+    requires { ⌜ (i * stride + stride ≤ length (now left)) × (j * stride + stride ≤ length (now right))
+        × (2 * p ≤ length (now pairs)) × (pairsBelow stride stride (pairsOf p (now pairs)) ≡ true) ⌝ }
+    ensures { λ r. ⌜ r ≡ agree (pairsOf p (now (pairs .entry))) (rowAt stride (now (left .entry)) i)
+        (rowAt stride (now (right .entry)) j) ⌝ }
 {
     let mut k = 0;
     while k < p {
@@ -99,7 +102,7 @@ fn rows_agree(left: &[u32], i: usize, right: &[u32], j: usize, pairs: &[usize], 
     true
 }
 
-// How a join pairs rows and what it takes of them: the left rows' width, the pairs' columns, left and right in turn, and the columns it gives.
+// A join: the left rows' width, its pairs' columns, left and right in turn, and the columns that it gives.
 pub struct Joining {
     pub split: usize,
     pub p: usize,
@@ -119,9 +122,11 @@ fn join_row(
     count: usize,
 ) -> Made
     requires { ⌜ (i * stride + stride ≤ length (now left)) × (m * stride ≤ length (now right)) × JoinFits how
-        × Stands (firstRows (now out) count) (now out) count × (ascending (firstRows (now out) count) ≡ true) × (length (now out) ≡ 256) ⌝ }
+        × Stands (firstRows (now out) count) (now out) count × (ascending (firstRows (now out) count) ≡ true)
+        × (length (now out) ≡ 256) ⌝ }
     ensures { λ r. ⌜ Stored
-        (insertAll (joinedWith how (firstRows (now (right .entry)) m) (rowAt stride (now (left .entry)) i)) (firstRows (now (out .entry)) count))
+        (insertAll (joinedWith how (firstRows (now (right .entry)) m) (rowAt stride (now (left .entry)) i))
+        (firstRows (now (out .entry)) count))
         (now (out .exit)) r ⌝ }
 {
     let mut rows = count;
@@ -130,14 +135,10 @@ fn join_row(
         j -= 1;
         if rows_agree(left, i, right, j, &how.pairs, how.p) {
             let row = columns_row(left, i, right, j, how.split, &how.columns, how.n);
-            match places::put_row(out, rows, &row, 0) {
-                Made::Rows(more) => {
-                    rows = more;
-                }
-                Made::Over => {
-                    return Made::Over;
-                }
-            }
+            let Made::Rows(more) = places::put_row(out, rows, &row, 0) else {
+                return Made::Over;
+            };
+            rows = more;
         }
     }
     Made::Rows(rows)
@@ -152,23 +153,21 @@ pub fn join_rows(
     how: Joining,
     out: &mut [u32],
 ) -> Made
-    requires { ⌜ (n * stride ≤ length (now left)) × (m * stride ≤ length (now right)) × JoinFits how × Blank (now out) ⌝ }
-    ensures { λ r. ⌜ ((w : ℕ) → Place (how .split) (now (left .entry)) n → Place w (now (right .entry)) m → JoinsIn how w →
-        Makes (joinRows (pairsOf (how .p) (how .pairs)) (take (how .n) (how .columns)) (relationIn (how .split) (now (left .entry)) n)
-        (relationIn w (now (right .entry)) m)) (now (out .exit)) r) ⌝ }
+    requires { ⌜ (n * stride ≤ length (now left)) × (m * stride ≤ length (now right)) × JoinFits how
+        × Blank (now out) ⌝ }
+    ensures { λ r. ⌜ ((w : ℕ) → Place (how .split) (now (left .entry)) n → Place w (now (right .entry)) m →
+        JoinsIn how w →
+        Makes (joinRows (pairsOf (how .p) (how .pairs)) (take (how .n) (how .columns))
+        (relationIn (how .split) (now (left .entry)) n) (relationIn w (now (right .entry)) m)) (now (out .exit)) r) ⌝ }
 {
     let mut count = 0;
     let mut i = n;
     while 0 < i {
         i -= 1;
-        match join_row(left, i, right, m, how, out, count) {
-            Made::Rows(more) => {
-                count = more;
-            }
-            Made::Over => {
-                return Made::Over;
-            }
-        }
+        let Made::Rows(more) = join_row(left, i, right, m, how, out, count) else {
+            return Made::Over;
+        };
+        count = more;
     }
     Made::Rows(count)
 }

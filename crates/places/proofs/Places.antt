@@ -67,7 +67,7 @@ stored-blank w rel h a f =
 
 -- the rows that pass a test, copied one after the other into an empty place
 module _ (p : Row → Bool) (s : List ℕ) where
-  pub kept-none : Kept p s 0 (replicate 256 0) 0
+  kept-none : Kept p s 0 (replicate 256 0) 0
   unfolding rowsFrom stored
   kept-none = record { count = refl; is = refl; few = le-refl 0; size = length-replicate {A = ℕ} 256 0 }
 
@@ -82,7 +82,7 @@ module _ (p : Row → Bool) (s : List ℕ) where
       let same : keep p (rowsFrom 4 s 0 (i + 1)) ≡ keep p (rowsFrom 4 s 0 i) = kept-snoc i false e ∙ append-nil (keep p (rowsFrom 4 s 0 i)) in
       record { count = rw same (k .count); is = rw same (k .is); few = omega (arith, k .few); size = k .size }
 
-  pub kept-yes : (i : ℕ) (out : List ℕ) (m : ℕ) → p (rowAt 4 s i) ≡ true → i < 64 → i * 4 + 4 ≤ length s → Kept p s i out m → Kept p s (i + 1) (paste out (m * 4) (drop (i * 4) s) 4) (m + 1)
+  kept-yes : (i : ℕ) (out : List ℕ) (m : ℕ) → p (rowAt 4 s i) ≡ true → i < 64 → i * 4 + 4 ≤ length s → Kept p s i out m → Kept p s (i + 1) (paste out (m * 4) (drop (i * 4) s) 4) (m + 1)
   unfolding rowAt stored
   kept-yes i out m e h f k =
       let old : List Row = keep p (rowsFrom 4 s 0 i) in

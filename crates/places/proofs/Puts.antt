@@ -15,6 +15,7 @@ use Rattle.rows.proofs.Padding.{wide-setOf, map-append, setOf-padded}
 use Rattle.rows.proofs.Place.{wide-append, length-map-padded}
 use Rattle.places.specs.Places.{relationIn, Place, Blank, Fills, Stands, Stored, insertAll}
 use Rattle.places.specs.declared.Made.{Made}
+use Rattle.places.specs.declared.Made.the-variants.{Rows, Over}
 use Rattle.places.proofs.Places.{place-rows, place-wide, stored-blank}
 
 -- ---- rows put in from the last to the first
@@ -34,19 +35,19 @@ all-union (r ∷ a) b h = ap (insertRow r) (all-union a b h)
 
 -- what stands in a place, read back
 module _ (x : List Row) (wide : Wide 4 x) (out : List ℕ) (count : ℕ) (s : Stands x out count) where
-  pub stands-rows : firstRows out count ≡ x
+  stands-rows : firstRows out count ≡ x
   stands-rows = rw (s .is, s .count) (rows-stored 4 x (replicate 256 0) wide)
 
-  pub stands-size : length out ≡ 256
+  stands-size : length out ≡ 256
   unfolding stored
   stands-size =
       let size : length (words x) ≡ length x * 4 = length-words 4 x wide in
       ap length (s .is) ∙ length-append (words x) (drop (length (words x)) (replicate 256 0)) ∙ rw (length-drop, length-replicate, size) (omega (arith, s .count, s .few))
 
-  pub stands-again : Stands (firstRows out count) out count
+  stands-again : Stands (firstRows out count) out count
   stands-again = rw stands-rows s
 
-  pub stands-ascend : Ascending x → ascending (firstRows out count) ≡ true
+  stands-ascend : Ascending x → ascending (firstRows out count) ≡ true
   stands-ascend a = rw stands-rows (ascending-true x a)
 
 -- an empty place has no row
@@ -72,10 +73,10 @@ wide-each v f [] w h g = tt
 wide-each v f (r ∷ l) w h g = wide-append v (f r) (flatMap f l) (g r (h .0)) (wide-each v f l w (h .1) g)
 
 module _ (f : Row → List Row) (b : List Row) (s : List ℕ) (n : ℕ) (wf : (r : Row) → length r ≡ 4 → Wide 4 (f r)) (wb : Wide 4 b) (asc : Ascending b) where
-  pub put-wide : (i : ℕ) → Wide 4 (putFrom f b s n i)
+  put-wide : (i : ℕ) → Wide 4 (putFrom f b s n i)
   put-wide i = wide-all 4 (flatMap f (rowsFrom 4 s i (n - i))) b (wide-each 4 f (rowsFrom 4 s i (n - i)) 4 (wide-rows 4 s i (n - i)) wf) wb
 
-  pub put-asc : (i : ℕ) → Ascending (putFrom f b s n i)
+  put-asc : (i : ℕ) → Ascending (putFrom f b s n i)
   put-asc i = asc-all (flatMap f (rowsFrom 4 s i (n - i))) b asc
 
   pub put-size : (i : ℕ) (out : List ℕ) (count : ℕ) → Stands (putFrom f b s n i) out count → length out ≡ 256
@@ -99,7 +100,7 @@ module _ (f : Row → List Row) (b : List Row) (s : List ℕ) (n : ℕ) (wf : (r
       put-turn (i - 1) (omega arith) ∙ ap (λ (k : ℕ). insertAll (f (rowAt 4 s (i - 1))) (putFrom f b s n k)) e
 
   -- what one row more brings
-  pub put-more : (i : ℕ) (out out′ : List ℕ) (count : ℕ) (made : Made) → 0 < i → i ≤ n → Stands (putFrom f b s n i) out count →
+  put-more : (i : ℕ) (out out′ : List ℕ) (count : ℕ) (made : Made) → 0 < i → i ≤ n → Stands (putFrom f b s n i) out count →
       Stored (insertAll (f (rowAt 4 s (i - 1))) (firstRows out count)) out′ made → Stored (putFrom f b s n (i - 1)) out′ made
   put-more i out out′ count made p h t x =
       let turn : putFrom f b s n (i - 1) ≡ insertAll (f (rowAt 4 s (i - 1))) (firstRows out count) =
@@ -119,8 +120,19 @@ module _ (f : Row → List Row) (b : List Row) (s : List ℕ) (n : ℕ) (wf : (r
       let step : length (putFrom f b s n (i + 1)) ≤ length (putFrom f b s n i) = rw (put-turn i h) (all-more (f (rowAt 4 s i)) (putFrom f b s n (i + 1))) in
       le-trans (rw e at step) (put-grows i (omega arith))
 
-  pub put-over : (i : ℕ) → i ≤ n → 64 < length (putFrom f b s n i) → 64 < length (putFrom f b s n 0)
-  put-over i h g = le-trans g (put-grows i h)
+  -- one row more that stands there: what stands then
+  pub put-stands : (i : ℕ) (out out′ : List ℕ) (count more : ℕ) (made : Made) → made ≡ Rows more → 0 < i → i ≤ n → Stands (putFrom f b s n i) out count →
+      Stored (insertAll (f (rowAt 4 s (i - 1))) (firstRows out count)) out′ made → (length out′ ≡ 256) × Stands (putFrom f b s n (i - 1)) out′ more
+  put-stands i out out′ count more made e p h t x =
+      let there : Stands (putFrom f b s n (i - 1)) out′ more = rw e at (put-more i out out′ count made p h t x) in
+      (put-size (i - 1) out′ more there, there)
+
+  -- one row more that is too many: all of them are too many
+  pub put-exceeds : (i : ℕ) (out out′ : List ℕ) (count : ℕ) (made : Made) → made ≡ Over → 0 < i → i ≤ n → Stands (putFrom f b s n i) out count →
+      Stored (insertAll (f (rowAt 4 s (i - 1))) (firstRows out count)) out′ made → (64 < length (putFrom f b s n 0)) × (length out′ ≡ 256)
+  put-exceeds i out out′ count made e p h t x =
+      let over : (64 < length (putFrom f b s n (i - 1))) × (length out′ ≡ 256) = rw e at (put-more i out out′ count made p h t x) in
+      (le-trans (over .0) (put-grows (i - 1) (omega arith)), over .1)
 
 -- ---- the model's rows
 
@@ -134,7 +146,7 @@ module _ (x : List Row) (rel : Relation) (v : ℕ) (narrow : v ≤ 4) (wide : Wi
   pub model-exceeds : 64 < length x → 64 < length rel
   model-exceeds h = rw (sym (length-map-padded 4 rel) ∙ ap length (sym same)) h
 
-pub each-padded : (f g : Row → List Row) (w : ℕ) (rel : Relation) → Wide w rel → ((r : Row) → length r ≡ w → f (padded 4 r) ≡ map (padded 4) (g r)) → flatMap f (map (padded 4) rel)
+each-padded : (f g : Row → List Row) (w : ℕ) (rel : Relation) → Wide w rel → ((r : Row) → length r ≡ w → f (padded 4 r) ≡ map (padded 4) (g r)) → flatMap f (map (padded 4) rel)
     ≡ map (padded 4) (flatMap g rel)
 unfolding flatMap
 each-padded f g w [] h e = refl

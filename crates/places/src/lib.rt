@@ -16,9 +16,10 @@ pub enum Made {
 
 // Row i of src put among the rows of a place, which ascend.
 pub fn put_row(out: &mut [u32], n: usize, src: &[u32], i: usize) -> Made
-    requires { ⌜ Stands (firstRows (now out) n) (now out) n × (i * stride + stride ≤ length (now src)) × (ascending (firstRows (now out) n) ≡ true)
-        × (length (now out) ≡ 256) ⌝ }
-    ensures { λ r. ⌜ Stored (insertRow (rowAt stride (now (src .entry)) i) (firstRows (now (out .entry)) n)) (now (out .exit)) r ⌝ }
+    requires { ⌜ Stands (firstRows (now out) n) (now out) n × (i * stride + stride ≤ length (now src))
+        × (ascending (firstRows (now out) n) ≡ true) × (length (now out) ≡ 256) ⌝ }
+    ensures { λ r. ⌜ Stored (insertRow (rowAt stride (now (src .entry)) i) (firstRows (now (out .entry)) n))
+        (now (out .exit)) r ⌝ }
 {
     match rows::insert(out, n, src, i, 64) {
         Inserted::New => Made::Rows(n + 1),

@@ -23,7 +23,8 @@ fn operand_in(input: &[u32], i: usize, operand: Operand) -> u32
 
 // Whether row i passes a select's test.
 fn passes_row(input: &[u32], i: usize, column: usize, code: usize, operand: Operand) -> bool
-    requires { ⌜ (i * stride + stride ≤ length (now input)) × (column < stride) × (code < 6) × OperandIn stride operand ⌝ }
+    requires { ⌜ (i * stride + stride ≤ length (now input)) × (column < stride) × (code < 6)
+        × OperandIn stride operand ⌝ }
     ensures { λ r. ⌜ r ≡ passes column code (operandOf operand) (rowAt stride (now (input .entry)) i) ⌝ }
 {
     let left = input[i * STRIDE + column];
@@ -40,9 +41,11 @@ pub fn select_rows(
     operand: Operand,
     out: &mut [u32],
 ) -> usize
-    requires { ⌜ (n ≤ 64) × (n * stride ≤ length (now input)) × (column < stride) × (code < 6) × OperandIn stride operand × Blank (now out) ⌝ }
+    requires { ⌜ (n ≤ 64) × (n * stride ≤ length (now input)) × (column < stride) × (code < 6)
+        × OperandIn stride operand × Blank (now out) ⌝ }
     ensures { λ r. ⌜ ((w : ℕ) → Place w (now (input .entry)) n → Selects w column operand →
-        Fills (selectRows column code (operandOf operand) (relationIn w (now (input .entry)) n)) (now (out .exit)) r) ⌝ }
+        Fills (selectRows column code (operandOf operand) (relationIn w (now (input .entry)) n))
+        (now (out .exit)) r) ⌝ }
 {
     let mut count = 0;
     let mut i = 0;

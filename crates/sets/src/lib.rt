@@ -12,7 +12,8 @@ use rows::STRIDE;
 
 // Whether row i of src is among the first n rows, which ascend.
 fn contains(words: &[u32], n: usize, src: &[u32], i: usize) -> bool
-    requires { ⌜ (n * stride ≤ length (now words)) × (i * stride + stride ≤ length (now src)) × (ascending (firstRows (now words) n) ≡ true) ⌝ }
+    requires { ⌜ (n * stride ≤ length (now words)) × (i * stride + stride ≤ length (now src))
+        × (ascending (firstRows (now words) n) ≡ true) ⌝ }
     ensures { λ r. ⌜ r ≡ member (rowAt stride (now (src .entry)) i) (firstRows (now (words .entry)) n) ⌝ }
 {
     match rows::find(words, n, src, i) {
@@ -30,9 +31,10 @@ fn keep_rows(
     wanted: bool,
     out: &mut [u32],
 ) -> usize
-    requires { ⌜ (n ≤ 64) × (n * stride ≤ length (now left)) × (m * stride ≤ length (now right)) × (ascending (firstRows (now right) m) ≡ true)
-        × Blank (now out) ⌝ }
-    ensures { λ r. ⌜ Kept (λ row. Bool·beq (member row (firstRows (now (right .entry)) m)) wanted) (now (left .entry)) n (now (out .exit)) r ⌝ }
+    requires { ⌜ (n ≤ 64) × (n * stride ≤ length (now left)) × (m * stride ≤ length (now right))
+        × (ascending (firstRows (now right) m) ≡ true) × Blank (now out) ⌝ }
+    ensures { λ r. ⌜ Kept (λ row. Bool·beq (member row (firstRows (now (right .entry)) m)) wanted)
+        (now (left .entry)) n (now (out .exit)) r ⌝ }
 {
     let mut count = 0;
     let mut i = 0;
@@ -49,44 +51,43 @@ fn keep_rows(
 
 // The left place's rows that are not in the right one, in an empty place: how many.
 pub fn difference_rows(left: &[u32], n: usize, right: &[u32], m: usize, out: &mut [u32]) -> usize
-    requires { ⌜ (n ≤ 64) × (n * stride ≤ length (now left)) × (m * stride ≤ length (now right)) × (ascending (firstRows (now right) m) ≡ true)
-        × Blank (now out) ⌝ }
+    requires { ⌜ (n ≤ 64) × (n * stride ≤ length (now left)) × (m * stride ≤ length (now right))
+        × (ascending (firstRows (now right) m) ≡ true) × Blank (now out) ⌝ }
     ensures { λ r. ⌜ ((w : ℕ) → Place w (now (left .entry)) n → Place w (now (right .entry)) m →
-        Fills (differenceRows (relationIn w (now (left .entry)) n) (relationIn w (now (right .entry)) m)) (now (out .exit)) r) ⌝ }
+        Fills (differenceRows (relationIn w (now (left .entry)) n) (relationIn w (now (right .entry)) m))
+        (now (out .exit)) r) ⌝ }
 {
     keep_rows(left, n, right, m, false, out)
 }
 
 // The left place's rows that are in the right one too, in an empty place: how many.
 pub fn intersect_rows(left: &[u32], n: usize, right: &[u32], m: usize, out: &mut [u32]) -> usize
-    requires { ⌜ (n ≤ 64) × (n * stride ≤ length (now left)) × (m * stride ≤ length (now right)) × (ascending (firstRows (now right) m) ≡ true)
-        × Blank (now out) ⌝ }
+    requires { ⌜ (n ≤ 64) × (n * stride ≤ length (now left)) × (m * stride ≤ length (now right))
+        × (ascending (firstRows (now right) m) ≡ true) × Blank (now out) ⌝ }
     ensures { λ r. ⌜ ((w : ℕ) → Place w (now (left .entry)) n → Place w (now (right .entry)) m →
-        Fills (intersectRows (relationIn w (now (left .entry)) n) (relationIn w (now (right .entry)) m)) (now (out .exit)) r) ⌝ }
+        Fills (intersectRows (relationIn w (now (left .entry)) n) (relationIn w (now (right .entry)) m))
+        (now (out .exit)) r) ⌝ }
 {
     keep_rows(left, n, right, m, true, out)
 }
 
 // The rows of both places, in an empty place: how many, or that they are more than 64.
 pub fn union_rows(left: &[u32], n: usize, right: &[u32], m: usize, out: &mut [u32]) -> Made
-    requires { ⌜ (n * stride ≤ length (now left)) × (m ≤ 64) × (m * stride ≤ length (now right)) × (ascending (firstRows (now right) m) ≡ true)
-        × Blank (now out) ⌝ }
+    requires { ⌜ (n * stride ≤ length (now left)) × (m ≤ 64) × (m * stride ≤ length (now right))
+        × (ascending (firstRows (now right) m) ≡ true) × Blank (now out) ⌝ }
     ensures { λ r. ⌜ ((w : ℕ) → Place w (now (left .entry)) n → Place w (now (right .entry)) m →
-        Makes (unionRows (relationIn w (now (left .entry)) n) (relationIn w (now (right .entry)) m)) (now (out .exit)) r) ⌝ }
+        Makes (unionRows (relationIn w (now (left .entry)) n) (relationIn w (now (right .entry)) m))
+        (now (out .exit)) r) ⌝ }
 {
     words::copy_run(right, 0, out, 0, m * STRIDE);
     let mut count = m;
     let mut i = n;
     while 0 < i {
         i -= 1;
-        match places::put_row(out, count, left, i) {
-            Made::Rows(more) => {
-                count = more;
-            }
-            Made::Over => {
-                return Made::Over;
-            }
-        }
+        let Made::Rows(more) = places::put_row(out, count, left, i) else {
+            return Made::Over;
+        };
+        count = more;
     }
     Made::Rows(count)
 }

@@ -10,12 +10,12 @@ use Rattle.joins.specs.declared.Joining.{Joining}
 use Rattle.places.specs.declared.Made.{Made}
 use Rattle.model.specs.Row.{Row, insertRow}
 use Rattle.places.specs.Places.{Stands, Stored, insertAll}
-use Rattle.joins.specs.Joins.{joinedRow}
+use Rattle.joins.specs.Joins.{joinedRow, JoinFits}
 use Rattle.model.specs.Algebra.{agree}
 use Rattle.model.proofs.Sets.{ascending-holds}
 use Rattle.joins.proofs.Joins.{few-given, joined-from, joinedIf, wide-joined}
 use Rattle.joins.proofs.Rows.{joined-length, row-made}
-use Rattle.places.proofs.Puts.{put-more, put-none, put-over, put-ready, put-size, put-start, putFrom}
+use Rattle.places.proofs.Puts.{put-exceeds, put-none, put-ready, put-stands, put-start, putFrom}
 use Rattle.rows.specs.Rows.{firstRows, rowAt, stride}
 use Rattle.nodes.specs.Nodes.{pairsOf}
 use Rattle.rows.proofs.Words.{wide-rows}
@@ -26,10 +26,14 @@ use Rattle.joins.proofs.columns_row.Reads as columns-row-reads
 use Rattle.places.proofs.put_row.Reads as put-row-reads
 use Rattle.joins.proofs.rows_agree.Reads as rows-agree-reads
 
-joined-one : (how : Joining) (l r row : Row) (base : List Row) (out : List ℕ) (made : Made) → agree (pairsOf (how .p) (how .pairs)) l r ≡ true →
-    row ≡ joinedRow (how .split) (take (how .n) (how .columns)) l r → Stored (insertRow row base) out made → Stored (insertAll (joinedIf how l r) base) out made
-joined-one how l r row base out made e f s = rw e (rw f at s)
+-- the row of a pair that agrees, put among some rows
+joined-one : (how : Joining) → JoinFits how → (l r row : Row) (base : List Row) (out : List ℕ) (made : Made) → agree (pairsOf (how .p) (how .pairs)) l r ≡ true →
+    row ≡ joinedRow (how .split) (take (how .n) (how .columns)) l r → Stored (insertRow (rowAt stride row 0) base) out made → Stored (insertAll (joinedIf how l r) base) out made
+joined-one how fits l r row base out made e f s =
+    let columns : List ℕ = take (how .n) (how .columns) in
+    rw e (rw (row-made row (joinedRow (how .split) columns l r) f (joined-length (how .split) columns l r (few-given how fits))) at s)
 
+-- a pair that does not agree brings no row
 joined-none : (how : Joining) (l r : Row) → agree (pairsOf (how .p) (how .pairs)) l r ≡ false → joinedIf how l r ≡ []
 joined-none how l r e = rw e
 
@@ -100,55 +104,6 @@ put-row-requires c κs =
 enum-known-more : tie.Need-enum-known-more Inv-loop μ-loop
 enum-known-more c = search needs
 
-loop-less : tie.Need-loop-less Inv-loop μ-loop
-loop-less c = omega arith
-
-loop-again : tie.Need-loop-again Inv-loop μ-loop
-loop-again c =
-    let a = c .before .before .before .before .before .before .before .before .before .before .before .before .before .before .before .before .before .before .before .before .before .before
-    .args in
-    let itself = row-made (c .before .before .before .before .before .before .before .before .columns-row .result)
-    (joinedRow (a .t5 .split) (take (a .t5 .n) (a .t5 .columns)) (rowAt stride (a .left .now) (a .i))
-    (rowAt stride (a .right .now)
-    (c .before .before .before .before .before .before .before .before .before .before .before .before .before .before .before .before .before .before .loop .j - 1)))
-    (c .before .before .before .before .before .before .before .before .columns-row .ensures)
-    (joined-length (a .t5 .split) (take (a .t5 .n) (a .t5 .columns)) (rowAt stride (a .left .now) (a .i))
-    (rowAt stride (a .right .now)
-    (c .before .before .before .before .before .before .before .before .before .before .before .before .before .before .before .before .before .before .loop .j - 1))
-    (few-given (a .t5) (c .before .before .before .before .before .before .before .before .before .before .before .before .before .before .before .before .before .before .before .before
-    .before .before .pre .2))) in
-    let put = joined-one (a .t5) (rowAt stride (a .left .now) (a .i))
-    (rowAt stride (a .right .now)
-    (c .before .before .before .before .before .before .before .before .before .before .before .before .before .before .before .before .before .before .loop .j - 1))
-    (rowAt stride (c .before .before .before .before .before .before .before .before .columns-row .result) 0)
-    (firstRows (c .before .before .before .before .before .before .before .before .before .before .before .before .before .before .before .before .before .before .loop .out)
-    (c .before .before .before .before .before .before .before .before .before .before .before .before .before .before .before .before .before .before .loop .rows))
-    (c .before .before .before .before .before .put-row .last .0) (c .before .before .before .before .before .put-row .result)
-    (sym (c .before .before .before .before .before .before .before .before .before .before .before .before .before .rows-agree .ensures)
-    ∙ c .before .before .before .before .before .before .before .before .before .before .before .before .if1 .taken) itself (c .before .before .before .before .before .put-row .ensures) in
-    let s = put-more (joinedIf (a .t5) (rowAt stride (a .left .now) (a .i))) (firstRows (a .out .now) (a .count)) (a .right .now) (a .m)
-    (wide-joined (a .t5) (c .before .before .before .before .before .before .before .before .before .before .before .before .before .before .before .before .before .before .before .before
-    .before .before .pre .2) (rowAt stride (a .left .now) (a .i))) (wide-rows 4 (a .out .now) 0 (a .count))
-    (ascending-holds (firstRows (a .out .now) (a .count))
-    (c .before .before .before .before .before .before .before .before .before .before .before .before .before .before .before .before .before .before .before .before .before .before .pre
-    .4)) (c .before .before .before .before .before .before .before .before .before .before .before .before .before .before .before .before .before .before .loop .j)
-    (c .before .before .before .before .before .before .before .before .before .before .before .before .before .before .before .before .before .before .loop .out)
-    (c .before .before .before .before .before .put-row .last .0)
-    (c .before .before .before .before .before .before .before .before .before .before .before .before .before .before .before .before .before .before .loop .rows)
-    (c .before .before .before .before .before .put-row .result) (omega arith) (omega arith)
-    (c .before .before .before .before .before .before .before .before .before .before .before .before .before .before .before .before .before .before .loop .inv .2) put in
-    let t = rw (c .before .more .given .1) at s in (
-      omega arith,
-      put-size (joinedIf (a .t5) (rowAt stride (a .left .now) (a .i))) (firstRows (a .out .now) (a .count)) (a .right .now) (a .m)
-          (wide-joined (a .t5) (c .before .before .before .before .before .before .before .before .before .before .before .before .before .before .before .before .before .before .before
-          .before .before .before .pre .2) (rowAt stride (a .left .now) (a .i))) (wide-rows 4 (a .out .now) 0 (a .count))
-          (ascending-holds (firstRows (a .out .now) (a .count))
-          (c .before .before .before .before .before .before .before .before .before .before .before .before .before .before .before .before .before .before .before .before .before .before
-          .pre .4)) (c .before .before .before .before .before .before .before .before .before .before .before .before .before .before .before .before .before .before .loop .j - 1)
-          (c .before .before .before .before .before .put-row .last .0) (c .before .more .given .0 .0) t,
-      t,
-    )
-
 enum-told : tie.Need-enum-told Inv-loop μ-loop
 enum-told c = search needs
 
@@ -164,45 +119,46 @@ same-length c =
 returns : tie.Need-returns Inv-loop μ-loop
 returns c =
     let a = c .before .before .before .before .before .before .before .before .before .before .before .before .before .before .before .before .before .before .before .before .before .args in
-    let itself = row-made (c .before .before .before .before .before .before .before .columns-row .result)
-    (joinedRow (a .t5 .split) (take (a .t5 .n) (a .t5 .columns)) (rowAt stride (a .left .now) (a .i))
-    (rowAt stride (a .right .now) (c .before .before .before .before .before .before .before .before .before .before .before .before .before .before .before .before .before .loop .j - 1)))
-    (c .before .before .before .before .before .before .before .columns-row .ensures)
-    (joined-length (a .t5 .split) (take (a .t5 .n) (a .t5 .columns)) (rowAt stride (a .left .now) (a .i))
-    (rowAt stride (a .right .now) (c .before .before .before .before .before .before .before .before .before .before .before .before .before .before .before .before .before .loop .j - 1))
-    (few-given (a .t5) (c .before .before .before .before .before .before .before .before .before .before .before .before .before .before .before .before .before .before .before .before
-    .before .pre .2))) in
-    let put = joined-one (a .t5) (rowAt stride (a .left .now) (a .i))
-    (rowAt stride (a .right .now) (c .before .before .before .before .before .before .before .before .before .before .before .before .before .before .before .before .before .loop .j - 1))
-    (rowAt stride (c .before .before .before .before .before .before .before .columns-row .result) 0)
-    (firstRows (c .before .before .before .before .before .before .before .before .before .before .before .before .before .before .before .before .before .loop .out)
-    (c .before .before .before .before .before .before .before .before .before .before .before .before .before .before .before .before .before .loop .rows))
-    (c .before .before .before .before .put-row .last .0) (c .before .before .before .before .put-row .result)
+    let l = c .before .before .before .before .before .before .before .before .before .before .before .before .before .before .before .before .before .loop in
+    let p = c .before .before .before .before .put-row in
+    let fits = c .before .before .before .before .before .before .before .before .before .before .before .before .before .before .before .before .before .before .before .before .before .pre .2 in
+    let row = rowAt stride (a .left .now) (a .i) in
+    let base = firstRows (a .out .now) (a .count) in
+    let asc = ascending-holds base
+    (c .before .before .before .before .before .before .before .before .before .before .before .before .before .before .before .before .before .before .before .before .before .pre .4) in
+    let put = joined-one (a .t5) fits row (rowAt stride (a .right .now) (l .j - 1)) (c .before .before .before .before .before .before .before .columns-row .result)
+    (firstRows (l .out) (l .rows)) (p .last .0) (p .result)
     (sym (c .before .before .before .before .before .before .before .before .before .before .before .before .rows-agree .ensures)
-    ∙ c .before .before .before .before .before .before .before .before .before .before .before .if1 .taken) itself (c .before .before .before .before .put-row .ensures) in
-    let s = put-more (joinedIf (a .t5) (rowAt stride (a .left .now) (a .i))) (firstRows (a .out .now) (a .count)) (a .right .now) (a .m)
-    (wide-joined (a .t5) (c .before .before .before .before .before .before .before .before .before .before .before .before .before .before .before .before .before .before .before .before
-    .before .pre .2) (rowAt stride (a .left .now) (a .i))) (wide-rows 4 (a .out .now) 0 (a .count))
-    (ascending-holds (firstRows (a .out .now) (a .count))
-    (c .before .before .before .before .before .before .before .before .before .before .before .before .before .before .before .before .before .before .before .before .before .pre .4))
-    (c .before .before .before .before .before .before .before .before .before .before .before .before .before .before .before .before .before .loop .j)
-    (c .before .before .before .before .before .before .before .before .before .before .before .before .before .before .before .before .before .loop .out)
-    (c .before .before .before .before .put-row .last .0)
-    (c .before .before .before .before .before .before .before .before .before .before .before .before .before .before .before .before .before .loop .rows)
-    (c .before .before .before .before .put-row .result) (omega arith) (omega arith)
-    (c .before .before .before .before .before .before .before .before .before .before .before .before .before .before .before .before .before .loop .inv .2) put in
-    let over = rw (c .enum-told .given .1) at s in
-    let all = put-over (joinedIf (a .t5) (rowAt stride (a .left .now) (a .i))) (firstRows (a .out .now) (a .count)) (a .right .now) (a .m)
-    (wide-joined (a .t5) (c .before .before .before .before .before .before .before .before .before .before .before .before .before .before .before .before .before .before .before .before
-    .before .pre .2) (rowAt stride (a .left .now) (a .i))) (wide-rows 4 (a .out .now) 0 (a .count))
-    (ascending-holds (firstRows (a .out .now) (a .count))
-    (c .before .before .before .before .before .before .before .before .before .before .before .before .before .before .before .before .before .before .before .before .before .pre .4))
-    (c .before .before .before .before .before .before .before .before .before .before .before .before .before .before .before .before .before .loop .j - 1) (omega arith) (over .0) in (
-      rw (← joined-from (a .t5)
-          (c .before .before .before .before .before .before .before .before .before .before .before .before .before .before .before .before .before .before .before .before .before .pre .2)
-          (rowAt stride (a .left .now) (a .i)) (firstRows (a .out .now) (a .count)) (a .right .now) (a .m)) all,
-      over .1,
-    )
+    ∙ c .before .before .before .before .before .before .before .before .before .before .before .if1 .taken)
+    (c .before .before .before .before .before .before .before .columns-row .ensures) (p .ensures) in
+    let over = put-exceeds (joinedIf (a .t5) row) base (a .right .now) (a .m) (wide-joined (a .t5) fits row) (wide-rows 4 (a .out .now) 0 (a .count))
+    asc (l .j) (l .out) (p .last .0) (l .rows) (p .result)
+    (c .enum-told .given .1) (omega arith) (omega arith) (l .inv .2) put in
+    (rw (← joined-from (a .t5) fits row base (a .right .now) (a .m)) (over .0), over .1)
+
+loop-less : tie.Need-loop-less Inv-loop μ-loop
+loop-less c = omega arith
+
+loop-again : tie.Need-loop-again Inv-loop μ-loop
+loop-again c =
+    let a = c .before .before .before .before .before .before .before .before .before .before .before .before .before .before .before .before .before .before .before .before .before .before .args in
+    let l = c .before .before .before .before .before .before .before .before .before .before .before .before .before .before .before .before .before .before .loop in
+    let p = c .before .before .before .before .before .put-row in
+    let fits = c .before .before .before .before .before .before .before .before .before .before .before .before .before .before .before .before .before .before .before .before .before .before
+    .pre .2 in
+    let row = rowAt stride (a .left .now) (a .i) in
+    let base = firstRows (a .out .now) (a .count) in
+    let asc = ascending-holds base
+    (c .before .before .before .before .before .before .before .before .before .before .before .before .before .before .before .before .before .before .before .before .before .before .pre .4) in
+    let put = joined-one (a .t5) fits row (rowAt stride (a .right .now) (l .j - 1)) (c .before .before .before .before .before .before .before .before .columns-row .result)
+    (firstRows (l .out) (l .rows)) (p .last .0) (p .result)
+    (sym (c .before .before .before .before .before .before .before .before .before .before .before .before .before .rows-agree .ensures)
+    ∙ c .before .before .before .before .before .before .before .before .before .before .before .before .if1 .taken)
+    (c .before .before .before .before .before .before .before .before .columns-row .ensures) (p .ensures) in
+    let s = put-stands (joinedIf (a .t5) row) base (a .right .now) (a .m) (wide-joined (a .t5) fits row) (wide-rows 4 (a .out .now) 0 (a .count))
+    asc (l .j) (l .out) (p .last .0) (l .rows) (c .before .more .given .0 .0)
+    (p .result) (c .before .more .given .1) (omega arith) (omega arith) (l .inv .2) put in
+    (omega arith, s .0, s .1)
 
 loop-less-2 : tie.Need-loop-less-2 Inv-loop μ-loop
 loop-less-2 c = omega arith
@@ -246,11 +202,11 @@ join-row-spec =
     slice-aggregate-put-row
     put-row-requires
     enum-known-more
-    loop-less
-    loop-again
     enum-told
     same-length
     returns
+    loop-less
+    loop-again
     loop-less-2
     loop-again-2
     same-length-2

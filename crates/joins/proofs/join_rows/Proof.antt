@@ -8,7 +8,7 @@ use Rattle.joins.proofs.join_rows.Statement.{statement}
 use Rattle.places.specs.Places.{Stands, relationIn}
 use Rattle.joins.specs.Joins.{joinedWith}
 use Rattle.joins.proofs.Joins.{few-given, join-is, join-wide, wide-with}
-use Rattle.places.proofs.Puts.{model-exceeds, model-fills, put-more, put-over, put-ready, put-size, put-start, putFrom, stands-none}
+use Rattle.places.proofs.Puts.{model-exceeds, model-fills, put-exceeds, put-ready, put-stands, put-start, putFrom, stands-none}
 use Rattle.rows.specs.Rows.{firstRows}
 use Rattle.model.specs.Algebra.{joinRows}
 use Rattle.nodes.specs.Nodes.{pairsOf}
@@ -48,27 +48,6 @@ join-row-requires c κs =
 enum-known-more : tie.Need-enum-known-more Inv-loop μ-loop
 enum-known-more c = search needs
 
-loop-less : tie.Need-loop-less Inv-loop μ-loop
-loop-less c = omega arith
-
-loop-again : tie.Need-loop-again Inv-loop μ-loop
-loop-again c =
-    let a = c .before .before .before .before .before .before .before .before .before .before .before .before .args in
-    let s = rw (c .before .more .given .1)
-    at (put-more (joinedWith (a .how) (firstRows (a .right .now) (a .m))) [] (a .left .now) (a .n)
-    (λ l e. wide-with (a .how) (c .before .before .before .before .before .before .before .before .before .before .before .before .pre .2) (firstRows (a .right .now) (a .m)) l e
-    (wide-rows 4 (a .right .now) 0 (a .m))) tt tt (c .before .before .before .before .before .before .before .before .loop .i)
-    (c .before .before .before .before .before .before .before .before .loop .out) (c .before .before .before .before .before .join-row .last .1 .1 .1 .1 .1 .0)
-    (c .before .before .before .before .before .before .before .before .loop .count) (c .before .before .before .before .before .join-row .result) (omega arith) (omega arith)
-    (c .before .before .before .before .before .before .before .before .loop .inv .2) (c .before .before .before .before .before .join-row .ensures)) in (
-      omega arith,
-      put-size (joinedWith (a .how) (firstRows (a .right .now) (a .m))) [] (a .left .now) (a .n)
-          (λ l e. wide-with (a .how) (c .before .before .before .before .before .before .before .before .before .before .before .before .pre .2) (firstRows (a .right .now) (a .m)) l e
-          (wide-rows 4 (a .right .now) 0 (a .m))) tt tt (c .before .before .before .before .before .before .before .before .loop .i - 1)
-          (c .before .before .before .before .before .join-row .last .1 .1 .1 .1 .1 .0) (c .before .more .given .0 .0) s,
-      s,
-    )
-
 enum-told : tie.Need-enum-told Inv-loop μ-loop
 enum-told c = search needs
 
@@ -80,23 +59,33 @@ same-length c =
 returns : tie.Need-returns Inv-loop μ-loop
 returns c =
     let a = c .before .before .before .before .before .before .before .before .before .before .before .args in
-    let over = rw (c .enum-told .given .1)
-    at (put-more (joinedWith (a .how) (firstRows (a .right .now) (a .m))) [] (a .left .now) (a .n)
-    (λ l e. wide-with (a .how) (c .before .before .before .before .before .before .before .before .before .before .before .pre .2) (firstRows (a .right .now) (a .m)) l e
-    (wide-rows 4 (a .right .now) 0 (a .m))) tt tt (c .before .before .before .before .before .before .before .loop .i) (c .before .before .before .before .before .before .before .loop .out)
-    (c .before .before .before .before .join-row .last .1 .1 .1 .1 .1 .0) (c .before .before .before .before .before .before .before .loop .count)
-    (c .before .before .before .before .join-row .result) (omega arith) (omega arith) (c .before .before .before .before .before .before .before .loop .inv .2)
-    (c .before .before .before .before .join-row .ensures)) in
-    let all = put-over (joinedWith (a .how) (firstRows (a .right .now) (a .m))) [] (a .left .now) (a .n)
-    (λ l e. wide-with (a .how) (c .before .before .before .before .before .before .before .before .before .before .before .pre .2) (firstRows (a .right .now) (a .m)) l e
-    (wide-rows 4 (a .right .now) 0 (a .m))) tt tt (c .before .before .before .before .before .before .before .loop .i - 1) (omega arith) (over .0) in
+    let l = c .before .before .before .before .before .before .before .loop in
+    let p = c .before .before .before .before .join-row in
+    let right = firstRows (a .right .now) (a .m) in
+    let fits = c .before .before .before .before .before .before .before .before .before .before .before .pre .2 in
+    let over = put-exceeds (joinedWith (a .how) right) [] (a .left .now) (a .n) (λ x e. wide-with (a .how) fits right x e (wide-rows 4 (a .right .now) 0 (a .m))) tt tt (l .i) (l .out)
+    (p .last .1 .1 .1 .1 .1 .0) (l .count) (p .result) (c .enum-told .given .1) (omega arith) (omega arith) (l .inv .2) (p .ensures) in
     λ w pl pr inside. (
-      model-exceeds (putFrom (joinedWith (a .how) (firstRows (a .right .now) (a .m))) [] (a .left .now) (a .n) 0)
+      model-exceeds (putFrom (joinedWith (a .how) right) [] (a .left .now) (a .n) 0)
           (joinRows (pairsOf (a .how .p) (a .how .pairs)) (take (a .how .n) (a .how .columns)) (relationIn (a .how .split) (a .left .now) (a .n)) (relationIn w (a .right .now) (a .m)))
-          (length (take (a .how .n) (a .how .columns))) (few-given (a .how) (c .before .before .before .before .before .before .before .before .before .before .before .pre .2))
-          (join-wide (a .how) w (a .left .now) (a .n) (a .right .now) (a .m) pl pr inside) (join-is (a .how) w (a .left .now) (a .n) (a .right .now) (a .m) pl pr inside) all,
+          (length (take (a .how .n) (a .how .columns))) (few-given (a .how) fits) (join-wide (a .how) w (a .left .now) (a .n) (a .right .now) (a .m) pl pr inside)
+          (join-is (a .how) w (a .left .now) (a .n) (a .right .now) (a .m) pl pr inside) (over .0),
       over .1,
     )
+
+loop-less : tie.Need-loop-less Inv-loop μ-loop
+loop-less c = omega arith
+
+loop-again : tie.Need-loop-again Inv-loop μ-loop
+loop-again c =
+    let a = c .before .before .before .before .before .before .before .before .before .before .before .before .args in
+    let l = c .before .before .before .before .before .before .before .before .loop in
+    let p = c .before .before .before .before .before .join-row in
+    let right = firstRows (a .right .now) (a .m) in
+    let fits = c .before .before .before .before .before .before .before .before .before .before .before .before .pre .2 in
+    let s = put-stands (joinedWith (a .how) right) [] (a .left .now) (a .n) (λ x e. wide-with (a .how) fits right x e (wide-rows 4 (a .right .now) 0 (a .m))) tt tt (l .i) (l .out)
+    (p .last .1 .1 .1 .1 .1 .0) (l .count) (c .before .more .given .0 .0) (p .result) (c .before .more .given .1) (omega arith) (omega arith) (l .inv .2) (p .ensures) in
+    (omega arith, s .0, s .1)
 
 same-length-2 : tie.Need-same-length-2 Inv-loop μ-loop
 same-length-2 c = omega (arith, ap length (c .before .before .before .before .before .pre .3))
@@ -122,10 +111,10 @@ join-rows-spec =
     sub-i
     join-row-requires
     enum-known-more
-    loop-less
-    loop-again
     enum-told
     same-length
     returns
+    loop-less
+    loop-again
     same-length-2
     returns-2)

@@ -9,7 +9,7 @@ use Rattle.joins.proofs.project_rows.Statement.{statement}
 use Rattle.places.specs.Places.{Stands, relationIn}
 use Rattle.joins.specs.Joins.{joinedRow}
 use Rattle.joins.proofs.Rows.{columns-more, joined-length}
-use Rattle.places.proofs.Puts.{model-exceeds, model-fills, put-more, put-over, put-ready, put-size, put-start}
+use Rattle.places.proofs.Puts.{model-exceeds, model-fills, put-exceeds, put-ready, put-stands, put-start}
 use Rattle.joins.proofs.Projects.{project-is, project-wide, projected}
 use Rattle.places.proofs.Puts.{putFrom, stands-none}
 use Rattle.joins.proofs.Rows.{row-made}
@@ -82,31 +82,6 @@ put-row-requires c κs =
 enum-known-more : tie.Need-enum-known-more Inv-loop μ-loop
 enum-known-more c = search needs
 
-loop-less : tie.Need-loop-less Inv-loop μ-loop
-loop-less c = omega arith
-
-loop-again : tie.Need-loop-again Inv-loop μ-loop
-loop-again c =
-    let a = c .before .before .before .before .before .before .before .before .before .before .before .before .before .before .args in
-    let few = few-columns (a .c) (a .columns .now) (c .before .before .before .before .before .before .before .before .before .before .before .before .before .before .pre .1)
-    (c .before .before .before .before .before .before .before .before .before .before .before .before .before .before .pre .2) in
-    let wf = wide-projected (take (a .c) (a .columns .now)) few in
-    let r = rowAt stride (a .input .now) (c .before .before .before .before .before .before .before .before .before .before .loop .i - 1) in
-    let itself = row-made (c .before .before .before .before .before .before .before .before .columns-row .result) (joinedRow stride (take (a .c) (a .columns .now)) r r)
-    (c .before .before .before .before .before .before .before .before .columns-row .ensures) (joined-length stride (take (a .c) (a .columns .now)) r r few) in
-    let put = rw itself at (c .before .before .before .before .before .put-row .ensures) in
-    let s = rw (c .before .more .given .1)
-    at (put-more (projected (take (a .c) (a .columns .now))) [] (a .input .now) (a .n) wf tt tt (c .before .before .before .before .before .before .before .before .before .before .loop .i)
-    (c .before .before .before .before .before .before .before .before .before .before .loop .out) (c .before .before .before .before .before .put-row .last .0)
-    (c .before .before .before .before .before .before .before .before .before .before .loop .count) (c .before .before .before .before .before .put-row .result) (omega arith) (omega arith)
-    (c .before .before .before .before .before .before .before .before .before .before .loop .inv .2) put) in (
-      omega arith,
-      put-size (projected (take (a .c) (a .columns .now))) [] (a .input .now) (a .n) wf tt tt
-          (c .before .before .before .before .before .before .before .before .before .before .loop .i - 1) (c .before .before .before .before .before .put-row .last .0)
-          (c .before .more .given .0 .0) s,
-      s,
-    )
-
 enum-told : tie.Need-enum-told Inv-loop μ-loop
 enum-told c = search needs
 
@@ -117,27 +92,40 @@ same-length c =
 
 returns : tie.Need-returns Inv-loop μ-loop
 returns c =
-    let a = c .before .before .before .before .before .before .before .before .before .before .before .before .before .args in
-    let few = few-columns (a .c) (a .columns .now) (c .before .before .before .before .before .before .before .before .before .before .before .before .before .pre .1)
-    (c .before .before .before .before .before .before .before .before .before .before .before .before .before .pre .2) in
-    let wf = wide-projected (take (a .c) (a .columns .now)) few in
-    let r = rowAt stride (a .input .now) (c .before .before .before .before .before .before .before .before .before .loop .i - 1) in
-    let itself = row-made (c .before .before .before .before .before .before .before .columns-row .result) (joinedRow stride (take (a .c) (a .columns .now)) r r)
-    (c .before .before .before .before .before .before .before .columns-row .ensures) (joined-length stride (take (a .c) (a .columns .now)) r r few) in
-    let put = rw itself at (c .before .before .before .before .put-row .ensures) in
-    let over = rw (c .enum-told .given .1)
-    at (put-more (projected (take (a .c) (a .columns .now))) [] (a .input .now) (a .n) wf tt tt (c .before .before .before .before .before .before .before .before .before .loop .i)
-    (c .before .before .before .before .before .before .before .before .before .loop .out) (c .before .before .before .before .put-row .last .0)
-    (c .before .before .before .before .before .before .before .before .before .loop .count) (c .before .before .before .before .put-row .result) (omega arith) (omega arith)
-    (c .before .before .before .before .before .before .before .before .before .loop .inv .2) put) in
-    let all = put-over (projected (take (a .c) (a .columns .now))) [] (a .input .now) (a .n) wf tt tt (c .before .before .before .before .before .before .before .before .before .loop .i - 1)
-    (omega arith) (over .0) in
+    let start = c .before .before .before .before .before .before .before .before .before .before .before .before .before in
+    let a = start .args in
+    let l = c .before .before .before .before .before .before .before .before .before .loop in
+    let q = c .before .before .before .before .before .before .before .columns-row in
+    let p = c .before .before .before .before .put-row in
+    let columns = take (a .c) (a .columns .now) in
+    let few = few-columns (a .c) (a .columns .now) (start .pre .1) (start .pre .2) in
+    let r = rowAt stride (a .input .now) (l .i - 1) in
+    let put = rw (row-made (q .result) (joinedRow stride columns r r) (q .ensures) (joined-length stride columns r r few)) at (p .ensures) in
+    let over = put-exceeds (projected columns) [] (a .input .now) (a .n) (wide-projected columns few) tt tt (l .i) (l .out) (p .last .0) (l .count) (p .result)
+    (c .enum-told .given .1) (omega arith) (omega arith) (l .inv .2) put in
     λ w pl below. (
-      model-exceeds (putFrom (projected (take (a .c) (a .columns .now))) [] (a .input .now) (a .n) 0)
-          (projectRows (take (a .c) (a .columns .now)) (relationIn w (a .input .now) (a .n))) (length (take (a .c) (a .columns .now))) few
-          (project-wide (take (a .c) (a .columns .now)) w (a .input .now) (a .n) pl below) (project-is (take (a .c) (a .columns .now)) w (a .input .now) (a .n) pl below) all,
+      model-exceeds (putFrom (projected columns) [] (a .input .now) (a .n) 0) (projectRows columns (relationIn w (a .input .now) (a .n))) (length columns) few
+          (project-wide columns w (a .input .now) (a .n) pl below) (project-is columns w (a .input .now) (a .n) pl below) (over .0),
       over .1,
     )
+
+loop-less : tie.Need-loop-less Inv-loop μ-loop
+loop-less c = omega arith
+
+loop-again : tie.Need-loop-again Inv-loop μ-loop
+loop-again c =
+    let start = c .before .before .before .before .before .before .before .before .before .before .before .before .before .before in
+    let a = start .args in
+    let l = c .before .before .before .before .before .before .before .before .before .before .loop in
+    let q = c .before .before .before .before .before .before .before .before .columns-row in
+    let p = c .before .before .before .before .before .put-row in
+    let columns = take (a .c) (a .columns .now) in
+    let few = few-columns (a .c) (a .columns .now) (start .pre .1) (start .pre .2) in
+    let r = rowAt stride (a .input .now) (l .i - 1) in
+    let put = rw (row-made (q .result) (joinedRow stride columns r r) (q .ensures) (joined-length stride columns r r few)) at (p .ensures) in
+    let s = put-stands (projected columns) [] (a .input .now) (a .n) (wide-projected columns few) tt tt (l .i) (l .out) (p .last .0) (l .count) (c .before .more .given .0 .0) (p .result)
+    (c .before .more .given .1) (omega arith) (omega arith) (l .inv .2) put in
+    (omega arith, s .0, s .1)
 
 same-length-2 : tie.Need-same-length-2 Inv-loop μ-loop
 same-length-2 c = omega (arith, ap length (c .before .before .before .before .before .pre .4))
@@ -165,10 +153,10 @@ project-rows-spec =
     slice-aggregate-put-row
     put-row-requires
     enum-known-more
-    loop-less
-    loop-again
     enum-told
     same-length
     returns
+    loop-less
+    loop-again
     same-length-2
     returns-2)

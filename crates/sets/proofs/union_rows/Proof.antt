@@ -8,7 +8,7 @@ use borrow.Author.Needs.{needs}
 use Rattle.sets.proofs.union_rows.Statement.{statement}
 use Rattle.places.specs.Places.{Stands, relationIn}
 use Rattle.sets.proofs.Sets.{alone, union-is, union-start, union-wide, wide-alone}
-use Rattle.places.proofs.Puts.{model-exceeds, model-fills, put-more, put-over, put-ready, put-size, put-start, putFrom}
+use Rattle.places.proofs.Puts.{model-exceeds, model-fills, put-exceeds, put-ready, put-size, put-stands, put-start, putFrom}
 use Rattle.model.proofs.Sets.{ascending-holds}
 use Rattle.rows.specs.Rows.{firstRows}
 use Rattle.model.specs.Algebra.{unionRows}
@@ -59,26 +59,6 @@ put-row-requires c κs =
 enum-known-more : tie.Need-enum-known-more Inv-loop μ-loop
 enum-known-more c = search needs
 
-loop-less : tie.Need-loop-less Inv-loop μ-loop
-loop-less c = omega arith
-
-loop-again : tie.Need-loop-again Inv-loop μ-loop
-loop-again c =
-    let a = c .before .before .before .before .before .before .before .before .before .before .before .before .before .before .before .before .args in
-    let asc = ascending-holds (firstRows (a .right .now) (a .m))
-    (c .before .before .before .before .before .before .before .before .before .before .before .before .before .before .before .before .pre .3) in
-    let s = rw (c .before .more .given .1)
-    at (put-more alone (firstRows (a .right .now) (a .m)) (a .left .now) (a .n) wide-alone (wide-rows 4 (a .right .now) 0 (a .m)) asc
-    (c .before .before .before .before .before .before .before .before .loop .i) (c .before .before .before .before .before .before .before .before .loop .out)
-    (c .before .before .before .before .before .put-row .last .0) (c .before .before .before .before .before .before .before .before .loop .count)
-    (c .before .before .before .before .before .put-row .result) (omega arith) (omega arith) (c .before .before .before .before .before .before .before .before .loop .inv .2)
-    (c .before .before .before .before .before .put-row .ensures)) in (
-      omega arith,
-      put-size alone (firstRows (a .right .now) (a .m)) (a .left .now) (a .n) wide-alone (wide-rows 4 (a .right .now) 0 (a .m)) asc
-          (c .before .before .before .before .before .before .before .before .loop .i - 1) (c .before .before .before .before .before .put-row .last .0) (c .before .more .given .0 .0) s,
-      s,
-    )
-
 enum-told : tie.Need-enum-told Inv-loop μ-loop
 enum-told c = search needs
 
@@ -90,21 +70,31 @@ same-length c =
 returns : tie.Need-returns Inv-loop μ-loop
 returns c =
     let a = c .before .before .before .before .before .before .before .before .before .before .before .before .before .before .before .args in
-    let asc = ascending-holds (firstRows (a .right .now) (a .m))
-    (c .before .before .before .before .before .before .before .before .before .before .before .before .before .before .before .pre .3) in
-    let over = rw (c .enum-told .given .1)
-    at (put-more alone (firstRows (a .right .now) (a .m)) (a .left .now) (a .n) wide-alone (wide-rows 4 (a .right .now) 0 (a .m)) asc
-    (c .before .before .before .before .before .before .before .loop .i) (c .before .before .before .before .before .before .before .loop .out)
-    (c .before .before .before .before .put-row .last .0) (c .before .before .before .before .before .before .before .loop .count) (c .before .before .before .before .put-row .result)
-    (omega arith) (omega arith) (c .before .before .before .before .before .before .before .loop .inv .2) (c .before .before .before .before .put-row .ensures)) in
-    let all = put-over alone (firstRows (a .right .now) (a .m)) (a .left .now) (a .n) wide-alone (wide-rows 4 (a .right .now) 0 (a .m)) asc
-    (c .before .before .before .before .before .before .before .loop .i - 1) (omega arith) (over .0) in
+    let l = c .before .before .before .before .before .before .before .loop in
+    let p = c .before .before .before .before .put-row in
+    let right = firstRows (a .right .now) (a .m) in
+    let asc = ascending-holds right (c .before .before .before .before .before .before .before .before .before .before .before .before .before .before .before .pre .3) in
+    let over = put-exceeds alone right (a .left .now) (a .n) wide-alone (wide-rows 4 (a .right .now) 0 (a .m)) asc (l .i) (l .out) (p .last .0) (l .count) (p .result)
+    (c .enum-told .given .1) (omega arith) (omega arith) (l .inv .2) (p .ensures) in
     λ w pl pr. (
-      model-exceeds (putFrom alone (firstRows (a .right .now) (a .m)) (a .left .now) (a .n) 0)
-          (unionRows (relationIn w (a .left .now) (a .n)) (relationIn w (a .right .now) (a .m))) w (pl .narrow) (union-wide (a .left .now) (a .n) (a .right .now) (a .m) w pl pr)
-          (union-is (a .left .now) (a .n) (a .right .now) (a .m) w pl pr) all,
+      model-exceeds (putFrom alone right (a .left .now) (a .n) 0) (unionRows (relationIn w (a .left .now) (a .n)) (relationIn w (a .right .now) (a .m))) w (pl .narrow)
+          (union-wide (a .left .now) (a .n) (a .right .now) (a .m) w pl pr) (union-is (a .left .now) (a .n) (a .right .now) (a .m) w pl pr) (over .0),
       over .1,
     )
+
+loop-less : tie.Need-loop-less Inv-loop μ-loop
+loop-less c = omega arith
+
+loop-again : tie.Need-loop-again Inv-loop μ-loop
+loop-again c =
+    let a = c .before .before .before .before .before .before .before .before .before .before .before .before .before .before .before .before .args in
+    let l = c .before .before .before .before .before .before .before .before .loop in
+    let p = c .before .before .before .before .before .put-row in
+    let right = firstRows (a .right .now) (a .m) in
+    let asc = ascending-holds right (c .before .before .before .before .before .before .before .before .before .before .before .before .before .before .before .before .pre .3) in
+    let s = put-stands alone right (a .left .now) (a .n) wide-alone (wide-rows 4 (a .right .now) 0 (a .m)) asc (l .i) (l .out) (p .last .0) (l .count) (c .before .more .given .0 .0)
+    (p .result) (c .before .more .given .1) (omega arith) (omega arith) (l .inv .2) (p .ensures) in
+    (omega arith, s .0, s .1)
 
 same-length-2 : tie.Need-same-length-2 Inv-loop μ-loop
 same-length-2 c = omega (arith, ap length (c .before .before .before .before .before .before .before .before .before .pre .4))
@@ -130,10 +120,10 @@ union-rows-spec =
     sub-i
     put-row-requires
     enum-known-more
-    loop-less
-    loop-again
     enum-told
     same-length
     returns
+    loop-less
+    loop-again
     same-length-2
     returns-2)
