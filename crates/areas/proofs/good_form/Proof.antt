@@ -65,7 +65,8 @@ returns-4 c =
     let s = c .before .before .before .before .before .before .before .before .before .before .before .before .before in
     let a = s .args in
     judges-stamps (a .n) (a .widths .now) (a .rows .now) (a .gained .now) (a .lost .now) (a .head .now) (s .pre .0)
-    (c .before .before .before .before .before .before .before .good-area .result) (c .before .before .before .before .before .before .before .good-area .ensures) (c .before .before .before .before .before .before .if1 .left)
+    (c .before .before .before .before .before .before .before .good-area .result)
+    (c .before .before .before .before .before .before .before .good-area .ensures) (c .before .before .before .before .before .before .if1 .left)
     (c .before .before .before .before .before .good-area2 .result) (c .before .before .before .before .before .good-area2 .ensures) (c .before .before .before .before .if2 .left)
     (c .before .before .before .good-area3 .result) (c .before .before .before .good-area3 .ensures) (c .before .before .if3 .left)
     (c .before .good-stamps .result) (c .before .good-stamps .ensures) (c .if4 .taken)
@@ -82,8 +83,10 @@ returns-5 c =
     let s = c .before .before .before .before .before .before .before .before .before .before .before .before .before .before in
     let a = s .args in
     judges-worked (a .n) (a .widths .now) (a .rows .now) (a .gained .now) (a .lost .now) (a .head .now) (s .pre .0)
-    (c .before .before .before .before .before .before .before .before .good-area .result) (c .before .before .before .before .before .before .before .before .good-area .ensures) (c .before .before .before .before .before .before .before .if1 .left)
-    (c .before .before .before .before .before .before .good-area2 .result) (c .before .before .before .before .before .before .good-area2 .ensures) (c .before .before .before .before .before .if2 .left)
+    (c .before .before .before .before .before .before .before .before .good-area .result)
+    (c .before .before .before .before .before .before .before .before .good-area .ensures) (c .before .before .before .before .before .before .before .if1 .left)
+    (c .before .before .before .before .before .before .good-area2 .result)
+    (c .before .before .before .before .before .before .good-area2 .ensures) (c .before .before .before .before .before .if2 .left)
     (c .before .before .before .before .good-area3 .result) (c .before .before .before .before .good-area3 .ensures) (c .before .before .before .if3 .left)
     (c .before .before .good-stamps .result) (c .before .before .good-stamps .ensures) (c .before .if4 .left)
     (c .good-worked .result) (c .good-worked .ensures)
