@@ -1,0 +1,195 @@
+// Runs a script of calls from standard input and prints a line for each: its name, and the numbers that it gave.
+ghost use mathlib.Core.Path.{_≡_};
+ghost use Prim.Native.Nat.{_≤_};
+ghost use lib.ListN.{length};
+ghost use Rattle.model.specs.Text.{bytesBetween};
+ghost use Rattle.areas.specs.Lent.{lent};
+ghost use Rattle.test_calls.specs.Operations.{Runs, kindOf, stored};
+use areas::AREA;
+use areas::HEAD;
+use libc::STDOUT_FILENO;
+use test_runs::check_line;
+use test_runs::open_line;
+use test_runs::report_line;
+use test_script::Operation;
+
+// The kind of an operation that holds a network.
+const NETWORK: usize = 2;
+
+// The words of an area that is too short.
+const SHORT: usize = 161;
+
+// The most bytes of a report, and of one into few bytes.
+const REPORT: usize = 2816;
+
+const FEW: usize = 29;
+
+// Kinds of operations: text to print, the network, a word of an area, the calls, the bytes of the last report, calls
+// with one area that is too short, and a report into few bytes.
+pub enum Kind {
+    Name,
+    Network,
+    Word,
+    Open,
+    Check,
+    Report,
+    Values,
+    ShortRows,
+    ShortGained,
+    ShortLost,
+    ShortHead,
+    Small,
+}
+
+// A kind, by its number.
+fn kind_of(number: usize) -> Kind
+    ensures { λ r. ⌜ r ≡ kindOf number ⌝ }
+{
+    match number {
+        1 => Kind::Name,
+        2 => Kind::Network,
+        3 => Kind::Word,
+        4 => Kind::Open,
+        5 => Kind::Check,
+        6 => Kind::Report,
+        7 => Kind::Values,
+        8 => Kind::ShortRows,
+        9 => Kind::ShortGained,
+        10 => Kind::ShortLost,
+        11 => Kind::ShortHead,
+        _ => Kind::Small,
+    }
+}
+
+// A word of an area set, if it is there.
+fn store_word(
+    op: Operation,
+    rows: &mut [u32],
+    gained: &mut [u32],
+    lost: &mut [u32],
+    head: &mut [u32],
+)
+    ensures { λ _. ⌜ lent (now (rows .exit)) (now (gained .exit)) (now (lost .exit)) (now (head .exit))
+        ≡ stored (op .area) (op .index) (op .value) (lent (now (rows .entry)) (now (gained .entry)) (now (lost .entry)) (now (head .entry))) ⌝ }
+{
+    let area = op.area;
+    match area {
+        0 => test_script::store(rows, op.index, op.value),
+        1 => test_script::store(gained, op.index, op.value),
+        2 => test_script::store(lost, op.index, op.value),
+        _ => test_script::store(head, op.index, op.value),
+    }
+}
+
+// An operation with the network and its own text: what it prints is written from the first byte on.
+fn run(
+    net: &[u8],
+    part: &[u8],
+    op: Operation,
+    rows: &mut [u32],
+    gained: &mut [u32],
+    lost: &mut [u32],
+    head: &mut [u32],
+    out: &mut [u8],
+    text: &mut [u8],
+) -> usize
+    requires { ⌜ (length (now part) ≤ 65536) × (length (now out) ≤ 2816) × (length (now text) ≡ 65536) ⌝ }
+    ensures { λ r. ⌜ Runs (kindOf (op .kind)) op (now (net .entry)) (now (part .entry))
+        (lent (now (rows .entry)) (now (gained .entry)) (now (lost .entry)) (now (head .entry)))
+        (lent (now (rows .exit)) (now (gained .exit)) (now (lost .exit)) (now (head .exit)))
+        (now (out .entry)) (now (out .exit)) (now (text .entry)) (now (text .exit)) r ⌝ }
+{
+    let mut short = [0u32; SHORT];
+    let mut few = [0u8; FEW];
+    let node = op.index;
+    match kind_of(op.kind) {
+        Kind::Name => lines::put_bytes(text, 0, part),
+        Kind::Network => 0,
+        Kind::Word => {
+            store_word(op, rows, gained, lost, head);
+            0
+        }
+        Kind::Open => open_line(net, rows, gained, lost, head, b"", text),
+        Kind::Check => check_line(net, rows, gained, lost, head, b"", text),
+        Kind::Report => report_line(net, node, rows, gained, lost, head, out, b"", text),
+        Kind::Values => test_runs::values_line(text, 0, b"bytes", out, &[]),
+        Kind::ShortRows => open_line(net, &mut short, gained, lost, head, b"", text),
+        Kind::ShortGained => check_line(net, rows, &short, lost, head, b"", text),
+        Kind::ShortLost => report_line(net, node, rows, gained, &short, head, out, b"", text),
+        Kind::ShortHead => open_line(net, rows, gained, lost, &mut short, b"", text),
+        Kind::Small => report_line(net, node, rows, gained, lost, head, &mut few, b"", text),
+    }
+}
+
+// An operation of a script with a network of the script.
+fn run_at(
+    script: &[u8],
+    from: usize,
+    to: usize,
+    op: Operation,
+    rows: &mut [u32],
+    gained: &mut [u32],
+    lost: &mut [u32],
+    head: &mut [u32],
+    out: &mut [u8],
+    text: &mut [u8],
+) -> usize
+    requires { ⌜ (from ≤ to) × (to ≤ length (now script)) × (op .from ≤ op .next)
+        × (op .next ≤ length (now script)) × (length (now script) ≤ 65536) × (length (now out) ≤ 2816)
+        × (length (now text) ≡ 65536) ⌝ }
+    ensures { λ r. ⌜ Runs (kindOf (op .kind)) op (bytesBetween (now (script .entry)) from to)
+        (bytesBetween (now (script .entry)) (op .from) (op .next))
+        (lent (now (rows .entry)) (now (gained .entry)) (now (lost .entry)) (now (head .entry)))
+        (lent (now (rows .exit)) (now (gained .exit)) (now (lost .exit)) (now (head .exit)))
+        (now (out .entry)) (now (out .exit)) (now (text .entry)) (now (text .exit)) r ⌝ }
+{
+    let start = op.from;
+    let next = op.next;
+    run(
+        &script[from..to],
+        &script[start..next],
+        op,
+        rows,
+        gained,
+        lost,
+        head,
+        out,
+        text,
+    )
+}
+
+// The operations in turn, each with the last network before it.
+fn main() {
+    let mut input = io::large_buffer();
+    let n = io::read_full(0, &mut input);
+    let mut text = io::large_buffer();
+    let mut out = [0u8; REPORT];
+    let mut rows = [0u32; AREA];
+    let mut gained = [0u32; AREA];
+    let mut lost = [0u32; AREA];
+    let mut head = [0u32; HEAD];
+    let mut from = 0;
+    let mut to = 0;
+    let mut at = 0;
+    while at < n {
+        let op = test_script::operation_at(&input[..n], at);
+        at = op.next;
+        if op.kind == NETWORK {
+            from = op.from;
+            to = at;
+        }
+        let k = run_at(
+            &input[..n],
+            from,
+            to,
+            op,
+            &mut rows,
+            &mut gained,
+            &mut lost,
+            &mut head,
+            &mut out,
+            &mut text,
+        );
+        io::write_all(STDOUT_FILENO, &text[..k]);
+    }
+}

@@ -1,0 +1,53 @@
+-- What a call gave, told by the line that was written, and numbers that fill a list. Assumes nothing.
+use mathlib.Core.Path.{ap, refl, _∙_, _≡_}
+use mathlib.Core.Bool.{Bool, true, false, cond}
+use mathlib.Core.List.{List, [], _∷_, _++_}
+use Prim.Native.Nat.{ℕ, _+_, _*_, _≤_}
+use native.Mathlib.Omega.{arith}
+use lib.ListN.{length, drop, take}
+use lib.Seq.{sets, take-append-seam}
+use mir.Val.{boolByte}
+use Rattle.model.specs.Record.{Bytes}
+use Rattle.model.specs.Areas.{Areas}
+use Rattle.model.specs.Calls.{openCall, checkCall, reportCall}
+use Rattle.model.specs.Text.{line}
+use Rattle.model.proofs.Parts.{sets-first}
+use Rattle.network.specs.Reading.{verdictOf, resultWith}
+use Rattle.network.specs.declared.Verdict.{Verdict}
+use Rattle.checking.specs.Answer.{checkAnswerOf}
+use Rattle.reporting.specs.Answer.{reportAnswerOf}
+use Rattle.checking.specs.declared.CheckAnswer.{CheckAnswer}
+use Rattle.reporting.specs.declared.ReportAnswer.{ReportAnswer}
+use Rattle.test_runs.specs.Lines.{Opens, PutLine, Reports, checkLine, verdictLine}
+
+-- ---- lines
+
+pub opens : (net word : Bytes) (a : Areas) (v : Verdict) {after : Areas} {text out : Bytes} {r : ℕ} → resultWith v after ≡ openCall net a →
+    PutLine (verdictLine word (verdictOf v)) word 2 0 text out r → Opens net word a after text out r
+opens net word a v e p = record { wrote = rw (← e) p; areas = rw (← e) }
+
+-- a truth value as a number
+pub bit-is : (t : Bool) → boolByte t ≡ cond t 1 0
+bit-is true = refl
+bit-is false = refl
+
+pub checks : (net word : Bytes) (a : Areas) (v : CheckAnswer) {text out : Bytes} {r : ℕ} → checkAnswerOf v ≡ checkCall net a →
+    PutLine (line word (v .number ∷ v .place ∷ boolByte (v .yes) ∷ [])) word 3 0 text out r → PutLine (checkLine word (checkCall net a)) word 3 0 text out r
+checks net word a v e p = rw (← e, ← bit-is (v .yes)) p
+
+pub reports : (net word : Bytes) (node : ℕ) (a : Areas) (v : ReportAnswer) (room : Bytes) {after text out : Bytes} {r : ℕ} →
+    reportAnswerOf v after ≡ reportCall net node a room → PutLine (line word (v .number ∷ v .place ∷ v .size ∷ [])) word 3 0 text out r →
+    Reports net word node a room after text out r
+reports net word node a v room e p = record { wrote = rw (← e) p; bytes = rw (← e) }
+
+-- ---- numbers
+
+-- the numbers that were written from the first one on
+pub first-written : (l a : List ℕ) (n : ℕ) → n ≡ length a → n ≤ length l → take n (sets l 0 a) ≡ a
+first-written l a n e h = ap (take n) (sets-first l a (omega arith)) ∙ ap (λ (k : ℕ). take k (a ++ drop (length a) l)) e ∙ take-append-seam a (drop (length a) l)
+
+-- a line of numbers that are known
+pub tells : (word numbers all : List ℕ) (count at : ℕ) {text out : Bytes} {r : ℕ} → numbers ≡ all → count ≡ length all →
+    out ≡ sets text at (line word numbers) → r ≡ at + length (line word numbers) → r ≤ at + length word + 21 * length numbers + 1 →
+    PutLine (line word all) word count at text out r
+tells word numbers all count at e k b n s = record { bytes = rw (← e) b; next = rw (← e) n; short = omega (arith, ap length e) }

@@ -1,0 +1,121 @@
+-- Texts compared, and the program's steps compared with a text. Assumes nothing.
+use mathlib.Core.Bool.{Bool, false, true, true≢false}
+use mathlib.Core.List.{List, [], _∷_, _++_, append-assoc, append-nil}
+use mathlib.Core.Path.{ap, ap₂, refl, sym, _∙_, _≡_}
+use Prim.Native.Nat.{ℕ, suc, _+_, _-_, _≤_, _<_, zero-le}
+use native.Mathlib.Omega.{arith}
+use native.Mathlib.Numerals.{add-one}
+use lib.Dec.{eqb, leb}
+use lib.ListN.{drop, getD, length, length-drop, take}
+use lib.Seq.{drop-at, getD-drop, getD-take, length-take-le, take-add, take-all, take-at, take-suc}
+use borrow.Author.Tests.{eqb-false, eqb-true, leb-false, leb-true}
+use Rattle.model.specs.Row.{sameRow}
+use Rattle.model.specs.Record.{Bytes}
+use Rattle.model.specs.Areas.{Areas, layout, longEnough}
+use Rattle.model.proofs.Order.{sameRow-eq, sameRow-refl}
+use Rattle.program.specs.declared.Stage.{Stage}
+use Rattle.program.specs.declared.Stage.the-variants.{Begin}
+use Rattle.program.specs.Stages.{Files, Ready, Says, isOver, textAt}
+use Rattle.program.specs.Runs.{Turn, outputOf}
+use Rattle.program.proofs.Theorem.{output-again, outputFrom, over-output, ready-again, written}
+use Rattle.test_vectors.specs.Packed.{standsAt}
+
+-- ---- texts
+
+same-yes : (a b : Bytes) → a ≡ b → sameRow a b ≡ true
+same-yes a b e = rw e (sameRow-refl b)
+
+same-no : (a b : Bytes) → (a ≡ b → ⊥) → sameRow a b ≡ false
+same-no a b n = go (sameRow a b) refl
+  where
+    go : (t : Bool) → sameRow a b ≡ t → sameRow a b ≡ false
+    go true e = absurd (n (sameRow-eq a b e))
+    go false e = e
+
+module _ (text part : Bytes) (at : ℕ) where
+  -- one byte more
+  pub stands-more : (k : ℕ) → k < length part → at + length part ≤ length text → take k (drop at text) ≡ take k part → getD text (at + k) 0 ≡ getD part k 0 →
+      take (k + 1) (drop at text) ≡ take (k + 1) part
+  stands-more k h g e f =
+      let room : k < length (drop at text) = rw length-drop (omega arith) in
+      let turn : take (suc k) (drop at text) ≡ take (suc k) part =
+      take-suc (drop at text) k 0 room
+      ∙ ap₂ {A = List ℕ} {B = ℕ} {C = List ℕ} (λ l x. l ++ (x ∷ [])) e (getD-drop at text k 0 ∙ f)
+      ∙ sym (take-suc part k 0 h) in
+      rw (add-one k) turn
+
+  pub stands-all : (k : ℕ) → k ≡ length part → take k (drop at text) ≡ take k part → true ≡ standsAt text at part
+  stands-all k h e = sym (same-yes (take (length part) (drop at text)) part (ap (λ (n : ℕ). take n (drop at text)) (sym h) ∙ e ∙ take-all k part (omega (arith, h))))
+
+  pub stands-short : length text - at < length part → false ≡ standsAt text at part
+  stands-short h =
+      let all : take (length part) (drop at text) ≡ drop at text = take-all (length part) (drop at text) (rw length-drop (omega arith)) in
+      sym (same-no (take (length part) (drop at text)) part (λ e. omega (arith, h, length-drop at text, ap length (sym all ∙ e))))
+
+  pub stands-not : (k : ℕ) → k < length part → (getD text (at + k) 0 ≡ getD part k 0 → ⊥) → false ≡ standsAt text at part
+  stands-not k h n =
+      sym (same-no (take (length part) (drop at text)) part (λ e. n (sym (getD-drop at text k 0) ∙ sym (getD-take (length part) (drop at text) k 0 h) ∙ ap (λ (l : List ℕ). getD l k 0) e)))
+
+-- a part that was taken is not longer than the rest
+took : (n : ℕ) (l part : Bytes) → take n l ≡ part → n ≡ length part → n ≤ length l
+took n l part e h = go (leb n (length l)) refl
+  where
+    go : (t : Bool) → leb n (length l) ≡ t → n ≤ length l
+    go true f = leb-true n (length l) f
+    go false f = omega (arith, h, ap length (sym (take-all n l (omega (arith, leb-false n (length l) f))) ∙ e))
+
+-- ---- the program's steps
+
+-- what the steps before a stage printed stands in the text, up to an offset
+pub record Printing (f : Files) (text : Bytes) (s : Stage) (a : Areas) (at : ℕ) : Type 0 where
+  pub inside : at ≤ length text
+  pub output : outputOf f ≡ take at text ++ outputFrom f s a
+  pub ready : Ready f s a
+
+module _ (f : Files) (text : Bytes) where
+  pub print-start : (a : Areas) → longEnough layout a ≡ true → Printing f text Begin a 0
+  print-start a long = record { inside = zero-le; output = refl; ready = long }
+
+  module _ (s : Stage) (a : Areas) (at : ℕ) (k : Printing f text s a at) where
+    module _ (t : Turn) (d : Says f s a (t .areas) (t .before) (t .out) (t .said)) where
+      abbrev part : Bytes
+      part = take (t .said .size) (t .out)
+
+      size-is : length (take (t .said .size) (t .out)) ≡ t .said .size
+      size-is = ap length (written (textAt f s a) (t .before) (t .out) (t .said .size) (d .wrote)) ∙ sym (d .wrote .is)
+
+      output-is : outputOf f ≡ take at text ++ (take (t .said .size) (t .out) ++ outputFrom f (t .said .stage) (t .areas))
+      output-is = k .output ∙ ap (λ (l : Bytes). take at text ++ l) (output-again f s a (k .ready) t d)
+
+      pub print-more : standsAt text at (take (t .said .size) (t .out)) ≡ true → Printing f text (t .said .stage) (t .areas) (at + t .said .size)
+      print-more y =
+          let there : take (length part) (drop at text) ≡ take (t .said .size) (t .out) = sameRow-eq (take (length part) (drop at text)) part y in
+          let here : take (t .said .size) (drop at text) ≡ take (t .said .size) (t .out) = ap (λ (n : ℕ). take n (drop at text)) (sym size-is) ∙ there in
+          let fits : t .said .size ≤ length (drop at text) = took (t .said .size) (drop at text) part here (sym size-is) in
+          record {
+            inside = omega (arith, k .inside, fits, length-drop at text);
+            output =
+                output-is
+                ∙ sym (append-assoc (take at text) part (outputFrom f (t .said .stage) (t .areas)))
+                ∙ ap (λ (l : Bytes). l ++ outputFrom f (t .said .stage) (t .areas)) (ap (λ (l : Bytes). take at text ++ l) (sym here) ∙ sym (take-add at (t .said .size) text));
+            ready = ready-again f s a (k .ready) t d;
+          }
+
+      pub print-no : standsAt text at (take (t .said .size) (t .out)) ≡ false → false ≡ sameRow (outputOf f) text
+      print-no n =
+          sym (same-no (outputOf f) text (λ e.
+          let rest : Bytes = outputFrom f (t .said .stage) (t .areas) in
+          let after : drop at text ≡ take (t .said .size) (t .out) ++ outputFrom f (t .said .stage) (t .areas) =
+          ap (drop at) (sym e ∙ output-is) ∙ drop-at (take at text) (part ++ rest) at (length-take-le at text (k .inside)) in
+          let there : take (length part) (drop at text) ≡ take (t .said .size) (t .out) = ap (take (length part)) after ∙ take-at part rest (length part) refl in
+          absurd (true≢false (sym (same-yes (take (length part) (drop at text)) part there) ∙ n))))
+
+    pub print-done : isOver s ≡ true → eqb at (length text) ≡ sameRow (outputOf f) text
+    print-done o = go (eqb at (length text)) refl
+      where
+        all : outputOf f ≡ take at text
+        all = k .output ∙ ap (λ (l : Bytes). take at text ++ l) (sym (over-output f s a o)) ∙ append-nil (take at text)
+
+        go : (t : Bool) → eqb at (length text) ≡ t → eqb at (length text) ≡ sameRow (outputOf f) text
+        go true e = e ∙ sym (same-yes (outputOf f) text (all ∙ take-all at text (omega (arith, eqb-true at (length text) e))))
+        go false e = e ∙ sym (same-no (outputOf f) text (λ q. eqb-false at (length text) e (sym (length-take-le at text (k .inside)) ∙ ap length (sym all ∙ q))))
