@@ -11,10 +11,10 @@ ghost use Rattle.network.specs.Reading.{nodesOf};
 ghost use Rattle.areas.specs.Lent.{placeAt};
 ghost use Rattle.places.specs.Places.{Place, relationIn};
 ghost use Rattle.changes.specs.Written.{placed, WritesNode, WritesNodes, WorkedOut};
-use areas::ROW_COUNTS;
 use areas::GAINED_COUNTS;
 use areas::LOST_COUNTS;
 use areas::PLACE;
+use areas::ROW_COUNTS;
 use network::Network;
 use rows::STRIDE;
 

@@ -9,12 +9,12 @@ ghost use Rattle.model.specs.Areas.{rowCount, coherent};
 ghost use Rattle.network.specs.Reading.{slotNode};
 ghost use Rattle.places.specs.Places.{Blank, Makes};
 ghost use Rattle.coherence.specs.Held.{heldAt, Places, Derived, givenAt, Checkable, slotAgrees, freshIn};
-use areas::ROW_COUNTS;
-use places::Made;
 use areas::PLACE;
+use areas::ROW_COUNTS;
 use evaluation::Held;
 use network::Network;
 use network::Slot;
+use places::Made;
 
 // The width and the count of node i's rows.
 fn held(widths: &[usize], head: &[u32], i: usize) -> Held

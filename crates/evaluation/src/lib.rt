@@ -6,10 +6,10 @@ ghost use Rattle.nodes.specs.Nodes.{operationOf};
 ghost use Rattle.network.specs.Reading.{slotNode, Shaped};
 ghost use Rattle.places.specs.Places.{Place, Blank, relationIn, Makes};
 use joins::Joining;
-use places::Made;
 use network::Slot;
 use nodes::Node;
 use nodes::SetOperation;
+use places::Made;
 
 // The width of the rows of a place, and how many there are.
 pub struct Held {

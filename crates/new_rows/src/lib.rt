@@ -10,12 +10,12 @@ ghost use Rattle.areas.specs.Lent.{placeAt};
 ghost use Rattle.model.specs.Network.{leftOf, rightOf, evaluateOn, fitsOn};
 ghost use Rattle.tables.specs.Fold.{Foldable, foldRows};
 ghost use Rattle.new_rows.specs.Working.{working, Sized, Present, presentRows, workedRows, Workable};
-use places::Made;
 use areas::CAPACITY;
-use areas::ROW_COUNTS;
 use areas::PLACE;
+use areas::ROW_COUNTS;
 use evaluation::Held;
 use network::Slot;
+use places::Made;
 use rows::STRIDE;
 
 // How many words the rows of a table take at most while a batch is folded: 128 rows.
@@ -116,7 +116,14 @@ pub fn work_rows<'a>(
         (working (now (widths .entry)) (now (rows .entry)) (now (work .entry)) (now (counts .entry)) (now (changed .entry))) i) (now (out .exit)) r ⌝ }
 {
     if level == 0 {
-        return work_table(bytes, i, widths[i], rows, head[ROW_COUNTS + i] as usize, out);
+        return work_table(
+            bytes,
+            i,
+            widths[i],
+            rows,
+            head[ROW_COUNTS + i] as usize,
+            out,
+        );
     }
     work_derived(slot, widths, rows, work, counts, changed, out)
 }

@@ -1,4 +1,1 @@
-pub mod Batches
-pub mod Nodes
-pub mod Steps
 pub mod Theorem

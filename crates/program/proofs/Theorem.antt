@@ -22,14 +22,14 @@ use Rattle.pieces.specs.declared.Piece.the-variants as piece
 use Rattle.pieces.specs.Pieces.{Next, piecesOn, refusalOf}
 use Rattle.model.proofs.Watched.{batch-by-node}
 use Rattle.pieces.proofs.Cut.{found, pieces-all}
-use Rattle.program.specs.declared.Stage.{Stage}
-use Rattle.program.specs.declared.Stage.the-variants.{Begin, Cut, End, Tell}
-use Rattle.program.specs.Stages.{Files, Opened, Ready, Says, Wrote, fileOf, hasInput, isOver, stateOf, stepOf}
-use Rattle.program.specs.Stages.{areasAfter, areasAt, batchLine, pieceAreas, pieceStage, pieceText, refusal, stageAfter, stageOf, textAt}
+use Rattle.stages.specs.declared.Stage.{Stage}
+use Rattle.stages.specs.declared.Stage.the-variants.{Begin, Cut, End, Tell}
+use Rattle.stages.specs.Stages.{Files, Opened, Ready, Says, Wrote, fileOf, hasInput, isOver, stateOf, stepOf}
+use Rattle.stages.specs.Stages.{areasAfter, areasAt, batchLine, pieceAreas, pieceStage, pieceText, refusal, stageAfter, stageOf, textAt}
 use Rattle.program.specs.Runs.{Prints, Runs, Turn, handedOut, left, outputOf}
-use Rattle.program.proofs.Batches.{open-yes, opened-again, opened-ready, opened-state, state-is}
-use Rattle.program.proofs.Nodes.{node-first, nodes-all, nodes-over, nodesFrom}
-use Rattle.program.proofs.Steps.{between-length}
+use Rattle.stages.proofs.Batches.{open-yes, opened-again, opened-ready, opened-state, state-is}
+use Rattle.stages.proofs.Nodes.{node-first, nodes-all, nodes-over, nodesFrom}
+use Rattle.stages.proofs.Steps.{between-length}
 
 -- the bytes that were written
 pub written : (text before out : Bytes) (size : ℕ) → Wrote text before out size → take size out ≡ text

@@ -7,10 +7,10 @@ use lib.ListN.{length, take}
 use Rattle.model.specs.Record.{Bytes}
 use Rattle.model.specs.Areas.{Areas, layout, longEnough}
 use Rattle.model.specs.Text.{programOutput}
-use Rattle.program.specs.declared.Stage.{Stage}
-use Rattle.program.specs.declared.Stage.the-variants.{Begin, Cut, Tell, End}
-use Rattle.program.specs.declared.Said.{Said}
-use Rattle.program.specs.Stages.{Files, Says, fileOf, isOver}
+use Rattle.stages.specs.declared.Stage.{Stage}
+use Rattle.stages.specs.declared.Stage.the-variants.{Begin, Cut, Tell, End}
+use Rattle.stages.specs.declared.Said.{Said}
+use Rattle.stages.specs.Stages.{Files, Says, fileOf, isOver}
 
 -- a step: the lent bytes before and after it, the areas after it, and its answer
 pub record Turn : Type 0 where

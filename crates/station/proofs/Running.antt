@@ -7,9 +7,9 @@ use native.Mathlib.Omega.{arith}
 use lib.ListN.{drop, length, length-append, length-drop, take}
 use lib.Seq.{length-take-le}
 use Rattle.model.specs.Areas.{Areas, layout, longEnough}
-use Rattle.program.specs.declared.Stage.{Stage}
-use Rattle.program.specs.declared.Stage.the-variants.{Begin}
-use Rattle.program.specs.Stages.{Files, Ready, Says, isOver, textAt}
+use Rattle.stages.specs.declared.Stage.{Stage}
+use Rattle.stages.specs.declared.Stage.the-variants.{Begin}
+use Rattle.stages.specs.Stages.{Files, Ready, Says, isOver, textAt}
 use Rattle.program.specs.Runs.{Turn, left, outputOf}
 use Rattle.program.proofs.Theorem.{falls-again, output-again, outputFrom, over-output, ready-again, written}
 use Rattle.station.specs.declared.Outcome.{Outcome}

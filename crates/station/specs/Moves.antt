@@ -3,7 +3,7 @@ use mathlib.Core.Path.{_≡_}
 use mathlib.Core.Bool.{true}
 use Prim.Native.Nat.{ℕ, _≤_}
 use lib.ListN.{length}
-use Rattle.program.specs.Stages.{Files}
+use Rattle.stages.specs.Stages.{Files}
 use Rattle.program.specs.Runs.{outputOf}
 use Rattle.station.specs.declared.Outcome.{Outcome}
 use Rattle.station.specs.declared.Outcome.the-variants.{Moved, Again, Failed}

@@ -7,12 +7,12 @@ ghost use lib.ListN.{length};
 ghost use Rattle.model.specs.Areas.{layout, longEnough};
 ghost use Rattle.areas.specs.Lent.{lent};
 ghost use Rattle.station_lines.specs.Lines.{nodeRoom};
-ghost use Rattle.program.specs.Stages.{files};
+ghost use Rattle.stages.specs.Stages.{files};
 ghost use Rattle.station.specs.Moves.{Told, Within};
 use areas::AREA;
 use areas::HEAD;
 use libc::STDOUT_FILENO;
-use program::Stage;
+use stages::Stage;
 
 // One byte more than a file may have.
 const ABOVE: usize = 65537;
@@ -196,7 +196,7 @@ fn run(
 {
     let mut told = 0;
     let mut stage = Stage::Begin;
-    while !program::is_over(stage) {
+    while !stages::is_over(stage) {
         let said = program::step(n, b, net, file, stage, rows, gained, lost, head, out);
         let size = said.size;
         let taken = write_out(&out[..size]);

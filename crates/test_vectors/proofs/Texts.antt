@@ -13,9 +13,9 @@ use Rattle.model.specs.Row.{sameRow}
 use Rattle.model.specs.Record.{Bytes}
 use Rattle.model.specs.Areas.{Areas, layout, longEnough}
 use Rattle.model.proofs.Order.{sameRow-eq, sameRow-refl}
-use Rattle.program.specs.declared.Stage.{Stage}
-use Rattle.program.specs.declared.Stage.the-variants.{Begin}
-use Rattle.program.specs.Stages.{Files, Ready, Says, isOver, textAt}
+use Rattle.stages.specs.declared.Stage.{Stage}
+use Rattle.stages.specs.declared.Stage.the-variants.{Begin}
+use Rattle.stages.specs.Stages.{Files, Ready, Says, isOver, textAt}
 use Rattle.program.specs.Runs.{Turn, outputOf}
 use Rattle.program.proofs.Theorem.{output-again, outputFrom, over-output, ready-again, written}
 use Rattle.test_vectors.specs.Packed.{standsAt}

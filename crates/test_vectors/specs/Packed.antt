@@ -8,7 +8,7 @@ use lib.ListN.{length, take, drop}
 use Rattle.model.specs.Row.{sameRow}
 use Rattle.model.specs.Record.{Bytes, u32}
 use Rattle.model.specs.Text.{File, bytesBetween, maxFile, programOutput}
-use Rattle.program.specs.Stages.{fileOf}
+use Rattle.stages.specs.Stages.{fileOf}
 use Rattle.test_vectors.specs.declared.Vector.{Vector}
 use Rattle.test_vectors.specs.declared.Tally.{Tally}
 

@@ -8,13 +8,13 @@ ghost use Rattle.model.specs.Areas.{layout, longEnough};
 ghost use Rattle.model.specs.Text.{programOutput};
 ghost use Rattle.areas.specs.Lent.{lent};
 ghost use Rattle.station_lines.specs.Lines.{nodeRoom};
-ghost use Rattle.program.specs.Stages.{fileOf};
+ghost use Rattle.stages.specs.Stages.{fileOf};
 ghost use Rattle.test_vectors.specs.Packed.{Counted, Inside, comesOut, packedSize, standsAt, vectorAt};
 use areas::AREA;
 use areas::HEAD;
 use libc::STDOUT_FILENO;
 use program::MAX_FILE;
-use program::Stage;
+use stages::Stage;
 
 // The most bytes of a packed file.
 const PACKED: usize = 409600;
@@ -114,7 +114,7 @@ fn prints(
     let end = text.len();
     let mut at = 0;
     let mut stage = Stage::Begin;
-    while !program::is_over(stage) {
+    while !stages::is_over(stage) {
         let said = program::step(n, b, net, file, stage, rows, gained, lost, head, out);
         let size = said.size;
         if !stands_at(text, at, &out[..size]) {

@@ -11,10 +11,10 @@ ghost use Rattle.areas.specs.Lent.{placeAt};
 ghost use Rattle.model.specs.Network.{leftOf, rightOf};
 ghost use Rattle.new_rows.specs.Working.{working, Workable};
 ghost use Rattle.working.specs.Worked.{mustWork, nextRows, WorksNode, Puts};
-use places::Made;
-use areas::ROW_COUNTS;
 use areas::PLACE;
+use areas::ROW_COUNTS;
 use network::Slot;
+use places::Made;
 
 // Whether node i, of a level, must be worked: it is a table, or an input changed.
 fn must_work(slot: Slot, level: usize, changed: &[bool]) -> bool

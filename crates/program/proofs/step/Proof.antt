@@ -1,14 +1,14 @@
 use borrow.Author.Needs.{needs}
-use Rattle.program.specs.Stages.{files}
+use Rattle.stages.specs.Stages.{files}
 use Rattle.areas.specs.Lent.{lent}
-use Rattle.program.proofs.Steps.{says-over}
+use Rattle.stages.proofs.Steps.{says-over}
 use Rattle.program.proofs.step.Statement.{statement}
 use Rattle.program.proofs.step.Tie as tie
 use Rattle.program.proofs.step.Reads as reads
 use Rattle.program.proofs.step.Lts as lts
-use Rattle.program.proofs.begin.Reads as begin-reads
-use Rattle.program.proofs.cut.Reads as cut-reads
-use Rattle.program.proofs.tell.Reads as tell-reads
+use Rattle.cutting.proofs.begin.Reads as begin-reads
+use Rattle.cutting.proofs.cut.Reads as cut-reads
+use Rattle.telling.proofs.tell.Reads as tell-reads
 
 enum-told : tie.Need-enum-told
 enum-told c = search needs

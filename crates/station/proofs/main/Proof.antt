@@ -1,5 +1,5 @@
 use borrow.Author.Needs.{needs}
-use Rattle.program.proofs.Steps.{long-is}
+use Rattle.stages.proofs.Steps.{long-is}
 use lib.Seq.{length-take-le}
 use mathlib.Core.Path.{sym}
 use native.Mathlib.Omega.{arith}

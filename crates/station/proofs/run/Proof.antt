@@ -2,7 +2,7 @@ use Rattle.station.proofs.run.Statement.{statement}
 use Rattle.station.proofs.Running.{Running, run-end, run-more, run-part, run-start, small-count}
 use Rattle.program.proofs.Theorem.{falls-again}
 use Rattle.program.specs.Runs.{left}
-use Rattle.program.specs.Stages.{files}
+use Rattle.stages.specs.Stages.{files}
 use Rattle.areas.specs.Lent.{lent}
 use borrow.Author.Tests.{not-false, not-true}
 use lib.Seq.{length-take-le}
@@ -14,7 +14,7 @@ use borrow.Author.Needs.{needs}
 use Rattle.station.proofs.run.Tie as tie
 use Rattle.station.proofs.run.Reads as reads
 use Rattle.station.proofs.run.Lts as lts
-use Rattle.program.proofs.is_over.Reads as is-over-reads
+use Rattle.stages.proofs.is_over.Reads as is-over-reads
 use Rattle.program.proofs.step.Reads as step-reads
 use Rattle.station.proofs.write_out.Reads as write-out-reads
 

@@ -3,7 +3,7 @@ use Rattle.test_vectors.proofs.main.Statement.{statement}
 use native.Mathlib.Omega.{arith}
 use mathlib.Core.Path.{sym}
 use lib.Seq.{length-take-le}
-use Rattle.program.proofs.Steps.{long-is}
+use Rattle.stages.proofs.Steps.{long-is}
 use Rattle.test_vectors.proofs.main.Tie as tie
 use Rattle.test_vectors.proofs.main.Reads as reads
 use Rattle.test_vectors.proofs.main.Lts as lts

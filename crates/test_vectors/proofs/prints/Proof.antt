@@ -2,7 +2,7 @@ use borrow.Author.Needs.{needs}
 use Rattle.test_vectors.proofs.Texts.{Printing, print-done, print-more, print-no, print-start}
 use Rattle.program.proofs.Theorem.{falls-again}
 use Rattle.program.specs.Runs.{left}
-use Rattle.program.specs.Stages.{files}
+use Rattle.stages.specs.Stages.{files}
 use borrow.Author.Tests.{not-false, not-true}
 use lib.Seq.{length-take-le}
 use lib.ListN.{length}

@@ -1,14 +1,14 @@
 use borrow.Author.Needs.{needs}
-use Rattle.program.proofs.Steps.{says-batch, says-broken, says-end, says-unfinished}
+use Rattle.stages.proofs.Steps.{says-batch, says-broken, says-end, says-unfinished}
 use native.Mathlib.Omega.{arith}
-use Rattle.program.specs.Stages.{files}
+use Rattle.stages.specs.Stages.{files}
 use Rattle.areas.specs.Lent.{lent}
-use Rattle.program.proofs.cut.Statement.{statement}
-use Rattle.program.proofs.cut.Tie as tie
-use Rattle.program.proofs.cut.Reads as reads
-use Rattle.program.proofs.cut.Lts as lts
+use Rattle.cutting.proofs.cut.Statement.{statement}
+use Rattle.cutting.proofs.cut.Tie as tie
+use Rattle.cutting.proofs.cut.Reads as reads
+use Rattle.cutting.proofs.cut.Lts as lts
 use Rattle.lines.proofs.put_line_at.Reads as put-line-at-reads
-use Rattle.program.proofs.apply.Reads as apply-reads
+use Rattle.cutting.proofs.apply.Reads as apply-reads
 use Rattle.pieces.proofs.next_piece.Reads as next-piece-reads
 use Rattle.station_lines.proofs.put_refused.Reads as put-refused-reads
 

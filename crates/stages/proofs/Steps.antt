@@ -25,11 +25,11 @@ use Rattle.admission.specs.Admission.{Changes}
 use Rattle.admission.proofs.Admitted.{changes-good}
 use Rattle.station_lines.specs.Lines.{Put, PutIfRoom, linesIn}
 use Rattle.pieces.specs.Pieces.{piecesOn}
-use Rattle.program.specs.declared.Said.{Said}
-use Rattle.program.specs.declared.Stage.{Stage}
-use Rattle.program.specs.declared.Stage.the-variants.{Begin, Cut, End, Tell}
-use Rattle.program.specs.Stages.{Applies, Files, Opened, Says, Wrote, areasAfter, batchLine, hasInput, pieceAreas, pieceStage, pieceText, refusal, stageOf, stateOf, stepOf}
-use Rattle.program.proofs.Batches.{open-verdict, opened-again, result-is, state-is}
+use Rattle.stages.specs.declared.Said.{Said}
+use Rattle.stages.specs.declared.Stage.{Stage}
+use Rattle.stages.specs.declared.Stage.the-variants.{Begin, Cut, End, Tell}
+use Rattle.stages.specs.Stages.{Applies, Files, Opened, Says, Wrote, areasAfter, batchLine, hasInput, pieceAreas, pieceStage, pieceText, refusal, stageOf, stateOf, stepOf}
+use Rattle.stages.proofs.Batches.{open-verdict, opened-again, result-is, state-is}
 use Rattle.model.specs.Network as model
 use Rattle.model.specs.Areas as areas
 

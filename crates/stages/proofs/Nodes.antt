@@ -21,7 +21,7 @@ use Rattle.model.proofs.Fits.{length-widths, read-small}
 use Rattle.model.proofs.Parts.{flat-append}
 use Rattle.model.proofs.Sets.{and-first, and-second}
 use Rattle.coherence.proofs.Coherent.{relation-at, relations-length}
-use Rattle.program.specs.Stages.{stateOf}
+use Rattle.stages.specs.Stages.{stateOf}
 
 -- a node without change prints nothing
 pub silent : (net : Network) (changes : List Change) (i : ℕ) → changeAt changes i ≡ noChange → nodeLines net changes i ≡ []

@@ -1,9 +1,9 @@
 use mathlib.Core.Path.{refl}
 use borrow.Author.Needs.{needs}
-use Rattle.program.proofs.is_over.Statement.{statement}
-use Rattle.program.proofs.is_over.Tie as tie
-use Rattle.program.proofs.is_over.Reads as reads
-use Rattle.program.proofs.is_over.Lts as lts
+use Rattle.stages.proofs.is_over.Statement.{statement}
+use Rattle.stages.proofs.is_over.Tie as tie
+use Rattle.stages.proofs.is_over.Reads as reads
+use Rattle.stages.proofs.is_over.Lts as lts
 
 enum-told : tie.Need-enum-told
 enum-told c = search needs

@@ -14,7 +14,7 @@ use Rattle.model.specs.Batch.{actAll, readBatch}
 use Rattle.demand3.proofs.Steps.{Sound, step-sound}
 use Rattle.demand3.proofs.Coherence.{state-proper}
 use Rattle.demand3.proofs.Theorem.{Held, open-accepts, opened-coherent, opened-held, settled-on}
-use Rattle.program.specs.Stages.{Opened, areasAfter, stateOf, stepOf}
+use Rattle.stages.specs.Stages.{Opened, areasAfter, stateOf, stepOf}
 
 -- ---- a batch on opened areas
 

@@ -1,18 +1,18 @@
 use borrow.Author.Needs.{needs}
-use Rattle.program.proofs.Steps.{changes-are, count-is, head-long, lines-are, put-nothing}
-use Rattle.program.proofs.Nodes.{silent-past, silent-unchanged}
+use Rattle.stages.proofs.Steps.{changes-are, count-is, head-long, lines-are, put-nothing}
+use Rattle.stages.proofs.Nodes.{silent-past, silent-unchanged}
 use Rattle.station_lines.specs.Lines.{Put}
 use Prim.Native.Nat.{ℕ}
 use mathlib.Core.List.{List}
 use mathlib.Core.Path.{sym, subst, _∙_}
 use native.Mathlib.Omega.{arith}
 use Rattle.areas.specs.Lent.{lent}
-use Rattle.program.proofs.node_lines.Statement.{statement}
-use Rattle.program.proofs.node_lines.Tie as tie
-use Rattle.program.proofs.node_lines.Reads as reads
-use Rattle.program.proofs.node_lines.Lts as lts
+use Rattle.telling.proofs.node_lines.Statement.{statement}
+use Rattle.telling.proofs.node_lines.Tie as tie
+use Rattle.telling.proofs.node_lines.Reads as reads
+use Rattle.telling.proofs.node_lines.Lts as lts
 use Rattle.network.proofs.read_network.Reads as read-network-reads
-use Rattle.program.proofs.is_unchanged.Reads as is-unchanged-reads
+use Rattle.telling.proofs.is_unchanged.Reads as is-unchanged-reads
 use Rattle.station_lines.proofs.put_watched.Reads as put-watched-reads
 
 is-unchanged-requires : tie.Need-is-unchanged-requires

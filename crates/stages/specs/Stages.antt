@@ -17,9 +17,9 @@ use Rattle.model.specs.Text.{File, missing, file, Piece, batch, broken, unfinis
 use Rattle.model.specs.Text.{batchWord, unfinishedWord, noInputWords, line, refusedLine, nodeLines}
 use Rattle.pieces.specs.declared.Piece.the-variants.{Broken}
 use Rattle.pieces.specs.Pieces.{piecesOn, refusalOf}
-use Rattle.program.specs.declared.Stage.{Stage}
-use Rattle.program.specs.declared.Stage.the-variants.{Begin, Cut, Tell, End}
-use Rattle.program.specs.declared.Said.{Said}
+use Rattle.stages.specs.declared.Stage.{Stage}
+use Rattle.stages.specs.declared.Stage.the-variants.{Begin, Cut, Tell, End}
+use Rattle.stages.specs.declared.Said.{Said}
 
 -- ---- the files
 

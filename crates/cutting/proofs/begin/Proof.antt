@@ -1,17 +1,17 @@
 use borrow.Author.Needs.{needs}
-use Rattle.program.proofs.Steps.{says-no-input, says-opened, says-refused}
+use Rattle.stages.proofs.Steps.{says-no-input, says-opened, says-refused}
 use borrow.Author.Tests.{not-false, not-true}
 use mathlib.Core.Path.{sym, _∙_}
-use Rattle.program.specs.Stages.{files}
+use Rattle.stages.specs.Stages.{files}
 use Rattle.network.specs.Reading.{resultWith}
 use Rattle.areas.specs.Lent.{lent}
-use Rattle.program.proofs.begin.Statement.{statement}
-use Rattle.program.proofs.begin.Tie as tie
-use Rattle.program.proofs.begin.Reads as reads
-use Rattle.program.proofs.begin.Lts as lts
+use Rattle.cutting.proofs.begin.Statement.{statement}
+use Rattle.cutting.proofs.begin.Tie as tie
+use Rattle.cutting.proofs.begin.Reads as reads
+use Rattle.cutting.proofs.begin.Lts as lts
 use Rattle.lines.proofs.put_line_at.Reads as put-line-at-reads
 use Rattle.opening.proofs.open.Reads as open-reads
-use Rattle.program.proofs.has_input.Reads as has-input-reads
+use Rattle.stages.proofs.has_input.Reads as has-input-reads
 use Rattle.station_lines.proofs.put_refused.Reads as put-refused-reads
 
 has-input-requires : tie.Need-has-input-requires

@@ -1,10 +1,10 @@
 use borrow.Author.Needs.{needs}
-use Rattle.program.proofs.Steps.{accepted-batch, applied-head, refused-batch}
+use Rattle.stages.proofs.Steps.{accepted-batch, applied-head, refused-batch}
 use native.Mathlib.Omega.{arith}
 use Rattle.network.specs.Reading.{resultWith}
 use Rattle.areas.specs.Lent.{lent}
-use Rattle.program.proofs.apply.Statement.{statement}
-use Rattle.program.proofs.apply.Tie as tie
+use Rattle.cutting.proofs.apply.Statement.{statement}
+use Rattle.cutting.proofs.apply.Tie as tie
 
 apply-requires : tie.Need-apply-requires
 apply-requires c κs = search needs

@@ -1,9 +1,9 @@
-use Rattle.program.proofs.has_input.Statement.{statement}
+use Rattle.stages.proofs.has_input.Statement.{statement}
 use lib.ListN.{length}
 use borrow.Author.Tests.{le-leb, lt-leb, not-false, not-true}
-use Rattle.program.proofs.has_input.Tie as tie
-use Rattle.program.proofs.has_input.Reads as reads
-use Rattle.program.proofs.has_input.Lts as lts
+use Rattle.stages.proofs.has_input.Tie as tie
+use Rattle.stages.proofs.has_input.Reads as reads
+use Rattle.stages.proofs.has_input.Lts as lts
 
 returns : tie.Need-returns
 returns c = let a = c .before .args in rw (not-true (a .n) (c .if1 .taken))

@@ -1,17 +1,17 @@
 use borrow.Author.Needs.{needs}
-use Rattle.program.proofs.Steps.{says-node}
-use Rattle.program.specs.declared.Stage.the-variants.{Cut, Tell}
+use Rattle.stages.proofs.Steps.{says-node}
+use Rattle.stages.specs.declared.Stage.the-variants.{Cut, Tell}
 use borrow.Author.Tests.{le-ltb, lt-ltb}
 use Prim.Native.Nat.{_+_}
 use mathlib.Core.Path.{ap, sym}
 use mathlib.Core.Bool.{Bool, cond}
-use Rattle.program.specs.Stages.{files}
+use Rattle.stages.specs.Stages.{files}
 use Rattle.areas.specs.Lent.{lent}
-use Rattle.program.proofs.tell.Statement.{statement}
-use Rattle.program.proofs.tell.Tie as tie
-use Rattle.program.proofs.tell.Reads as reads
-use Rattle.program.proofs.tell.Lts as lts
-use Rattle.program.proofs.node_lines.Reads as node-lines-reads
+use Rattle.telling.proofs.tell.Statement.{statement}
+use Rattle.telling.proofs.tell.Tie as tie
+use Rattle.telling.proofs.tell.Reads as reads
+use Rattle.telling.proofs.tell.Lts as lts
+use Rattle.telling.proofs.node_lines.Reads as node-lines-reads
 
 node-lines-requires : tie.Need-node-lines-requires
 node-lines-requires c κs = search needs

@@ -5,10 +5,10 @@ use lib.Dec.{eqb}
 use Prim.Native.Nat.{_+_}
 use mathlib.Core.Path.{ap, sym}
 use mathlib.Core.Bool.{Bool, _&&_}
-use Rattle.program.proofs.is_unchanged.Statement.{statement}
-use Rattle.program.proofs.is_unchanged.Tie as tie
-use Rattle.program.proofs.is_unchanged.Reads as reads
-use Rattle.program.proofs.is_unchanged.Lts as lts
+use Rattle.telling.proofs.is_unchanged.Statement.{statement}
+use Rattle.telling.proofs.is_unchanged.Tie as tie
+use Rattle.telling.proofs.is_unchanged.Reads as reads
+use Rattle.telling.proofs.is_unchanged.Lts as lts
 
 add-if1 : tie.Need-add-if1
 add-if1 c = search needs

@@ -1,0 +1,3 @@
+pub mod Batches
+pub mod Nodes
+pub mod Steps
