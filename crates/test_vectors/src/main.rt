@@ -13,7 +13,7 @@ ghost use Rattle.test_vectors.specs.Packed.{Counted, Inside, comesOut, p
 use areas::AREA;
 use areas::HEAD;
 use libc::STDOUT_FILENO;
-use program::MAX_FILE;
+use stages::MAX_FILE;
 use stages::Stage;
 
 // The most bytes of a packed file.
