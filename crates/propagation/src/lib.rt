@@ -84,8 +84,9 @@ fn work_derived<'a>(
         (presentRows (working (now (widths .entry)) (now (rows .entry)) (now (work .entry)) (now (counts .entry)) (now (changed .entry)))
         (rightOf (slotNode slot)))) (now (out .exit)) r ⌝ }
 {
-    let l = evaluation::left_of(slot);
-    let r = evaluation::right_of(slot);
+    let inputs = evaluation::inputs_of(slot);
+    let l = inputs.left;
+    let r = inputs.right;
     let left = Held {
         width: widths[l],
         count: counts[l] as usize,
@@ -104,11 +105,12 @@ pub fn input_changed(slot: Slot, changed: &[bool]) -> bool
     requires { ⌜ (leftOf (slotNode slot) < length (now changed)) × (rightOf (slotNode slot) < length (now changed)) ⌝ }
     ensures { λ r. ⌜ r ≡ inputChanged slot (now (changed .entry)) ⌝ }
 {
-    let l = evaluation::left_of(slot);
+    let inputs = evaluation::inputs_of(slot);
+    let l = inputs.left;
     if changed[l] {
         return true;
     }
-    let r = evaluation::right_of(slot);
+    let r = inputs.right;
     changed[r]
 }
 
