@@ -39,8 +39,9 @@ fn evaluate_held(
     requires { ⌜ Places (now widths) n (now rows) (now head) × Derived slot (now widths) n × Blank (now out) ⌝ }
     ensures { λ r. ⌜ Makes (givenAt slot (now (widths .entry)) (now (head .entry)) (now (rows .entry))) (now (out .exit)) r ⌝ }
 {
-    let l = evaluation::left_of(slot);
-    let r = evaluation::right_of(slot);
+    let inputs = evaluation::inputs_of(slot);
+    let l = inputs.left;
+    let r = inputs.right;
     let left = held(widths, head, l);
     let right = held(widths, head, r);
     evaluation::evaluate(

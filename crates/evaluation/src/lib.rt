@@ -7,6 +7,7 @@ ghost use Rattle.network.specs.Reading.{slotNode, Shaped};
 ghost use Rattle.places.specs.Places.{Place, Blank, relationIn, Makes};
 use joins::Joining;
 use network::Slot;
+use nodes::Inputs;
 use nodes::Node;
 use nodes::SetOperation;
 use places::Made;
@@ -41,32 +42,13 @@ fn set_rows(
     }
 }
 
-// The node's first input; 0 of a table.
-pub fn left_of(slot: Slot) -> usize
-    ensures { λ r. ⌜ r ≡ leftOf (slotNode slot) ⌝ }
+// The node's first and its last input, both the only one if there is one; 0 of a table.
+pub fn inputs_of(slot: Slot) -> Inputs
+    ensures { λ r. ⌜ (r .left ≡ leftOf (slotNode slot)) × (r .right ≡ rightOf (slotNode slot)) ⌝ }
 {
     let node = slot.node;
-    match node {
-        Node::Table(_) => 0,
-        Node::Select(input, _, _, _) => input,
-        Node::Project(input, _) => input,
-        Node::Join(left, _, _, _) => left,
-        Node::Set(_, left, _) => left,
-    }
-}
-
-// The node's second input, or its only one; 0 of a table.
-pub fn right_of(slot: Slot) -> usize
-    ensures { λ r. ⌜ r ≡ rightOf (slotNode slot) ⌝ }
-{
-    let node = slot.node;
-    match node {
-        Node::Table(_) => 0,
-        Node::Select(input, _, _, _) => input,
-        Node::Project(input, _) => input,
-        Node::Join(_, right, _, _) => right,
-        Node::Set(_, _, right) => right,
-    }
+    let parts = nodes::parts_of(node);
+    parts.inputs
 }
 
 // A derived node's rows from those of its inputs, in an empty place: how many, or that they are more than 64. A table's kind gives none.
@@ -81,12 +63,23 @@ pub fn evaluate(slot: Slot, left: &[u32], l: Held, right: &[u32], r: Held, out: 
     let m = r.count;
     let node = slot.node;
     match node {
-        Node::Table(_) => Made::Rows(0),
-        Node::Select(_, column, code, operand) => {
-            Made::Rows(selections::select_rows(left, n, column, code, operand, out))
-        }
-        Node::Project(_, c) => joins::project_rows(left, n, &slot.columns, c, out),
-        Node::Join(_, _, p, c) => {
+        Node::Table { width: _ } => Made::Rows(0),
+        Node::Select {
+            input: _,
+            column,
+            comparison: code,
+            operand,
+        } => { Made::Rows(selections::select_rows(left, n, column, code, operand, out)) }
+        Node::Project {
+            input: _,
+            columns: c,
+        } => joins::project_rows(left, n, &slot.columns, c, out),
+        Node::Join {
+            left: _,
+            right: _,
+            pairs: p,
+            columns: c,
+        } => {
             let how = Joining {
                 split: l.width,
                 p,
@@ -96,6 +89,10 @@ pub fn evaluate(slot: Slot, left: &[u32], l: Held, right: &[u32], r: Held, out: 
             };
             joins::join_rows(left, n, right, m, how, out)
         }
-        Node::Set(operation, _, _) => set_rows(operation, left, l, right, r, out),
+        Node::Set {
+            operation,
+            left: _,
+            right: _,
+        } => set_rows(operation, left, l, right, r, out),
     }
 }

@@ -2,7 +2,7 @@
 use mathlib.Core.Bool.{Bool, true, false, true≢false, _&&_, _||_}
 use mathlib.Core.List.{List}
 use mathlib.Core.Path.{_≡_, refl, sym}
-use Prim.Native.Nat.{ℕ, _<_}
+use Prim.Native.Nat.{ℕ, _<_, max}
 use native.Mathlib.Omega.{arith}
 use lib.Dec.{ltb}
 use lib.ListN.{getD, length}
@@ -44,6 +44,19 @@ listed-high levels noInput i l r = omega arith
 listed-high levels (oneInput j) i l r = omega arith
 listed-high levels (twoInputs x y) i l r = omega arith
 
+listed-highest : (levels : List ℕ) (u : Inputs) → isEmpty (listed u) ≡ false → highest levels (listed u) ≡ max (getD levels (firstOf u) 0) (getD levels (lastOf u) 0)
+listed-highest levels noInput e = absurd (true≢false e)
+listed-highest levels (oneInput j) e = omega arith
+listed-highest levels (twoInputs x y) e = omega arith
+
+listed-below : (u : Inputs) (k m : ℕ) → allOf (λ i. ltb i k) (listed u) ≡ true → k < m → (firstOf u < m) × (lastOf u < m)
+listed-below noInput k m f h = (omega arith, omega arith)
+listed-below (oneInput i) k m f h = let b : i < k = ltb-true i k (and-first (ltb i k) true f) in (omega arith, omega arith)
+listed-below (twoInputs x y) k m f h =
+    let a : x < k = ltb-true x k (and-first (ltb x k) (ltb y k && true) f) in
+    let b : y < k = ltb-true y k (and-first (ltb y k) true (and-second (ltb x k) (ltb y k && true) f)) in
+    (omega arith, omega arith)
+
 -- ---- of a node's
 
 -- a test of some input
@@ -57,6 +70,9 @@ inputs-none n p e = listed-none p (usesOf n) e
 pub inputs-high : (levels : List ℕ) (n : Node) (i : ℕ) → getD levels (leftOf n) 0 < i → getD levels (rightOf n) 0 < i → highest levels (inputsOf n) < i
 inputs-high levels n i l r = listed-high levels (usesOf n) i l r
 
+pub inputs-highest : (levels : List ℕ) (n : Node) → isTable n ≡ false → highest levels (inputsOf n) ≡ max (getD levels (leftOf n) 0) (getD levels (rightOf n) 0)
+inputs-highest levels n e = listed-highest levels (usesOf n) e
+
 -- the inputs come before the node, and it fits their widths
 pub inputs-fit : (ws : List ℕ) (n : Node) → isTable n ≡ false → nodeFits ws n ≡ true → (leftOf n < length ws) × (rightOf n < length ws)
     × (fitsOn (getD ws (leftOf n) 0) (getD ws (rightOf n) 0) n ≡ true)
@@ -66,6 +82,12 @@ inputs-fit ws n e f =
     let fits : Bool = fitsOn (getD ws (leftOf n) 0) (getD ws (rightOf n) 0) n in
     let b : (ltb (leftOf n) (length ws) ≡ true) × (ltb (rightOf n) (length ws) ≡ true) = listed-all (λ i. ltb i (length ws)) (usesOf n) e (and-first before fits f) in
     (ltb-true (leftOf n) (length ws) (b .0), ltb-true (rightOf n) (length ws) (b .1), and-second before fits f)
+
+-- of a node that fits, table or not, both are below any number that is above that of the nodes before it
+pub inputs-below : (n : Node) (ws : List ℕ) (m : ℕ) → nodeFits ws n ≡ true → length ws < m → (leftOf n < m) × (rightOf n < m)
+unfolding nodeFits
+inputs-below n ws m f h =
+    listed-below (usesOf n) (length ws) m (and-first (allOf (λ i. ltb i (length ws)) (inputsOf n)) (fitsOn (getD ws (leftOf n) 0) (getD ws (rightOf n) 0) n) f) h
 
 -- a table's rows are its own
 pub table-own : (n : Node) (own : Relation) (rels : List Relation) → isTable n ≡ true → evaluateNode n own rels ≡ own

@@ -1,23 +1,24 @@
 -- A network grows by one item at a time, and the arrays beside its nodes hold their widths and levels. Assumes nothing.
 use mathlib.Core.Path.{_≡_, refl, sym, ap, ap₂, _∙_}
-use mathlib.Core.Bool.{Bool, true, false}
+use mathlib.Core.Bool.{Bool, true, false, cond}
 use mathlib.Core.List.{List, [], _∷_, _++_, map}
 use Prim.Native.Nat.{ℕ, zero, suc, _+_, _*_, _≤_, _<_, max, zero-le}
 use native.Mathlib.Nat.{le-refl}
 use native.Mathlib.Numerals.{add-one}
 use native.Mathlib.Omega.{arith}
 use lib.ListN.{length, getD, set, take, replicate, length-set}
-use lib.Seq.{take-suc, take-suc-set, take-set-lt, getD-take, getD-set-other, getD-set-same}
+use lib.Seq.{take-suc, take-suc-set, take-set-lt, getD-take, getD-set-other, getD-set-same, length-take-le}
 use lib.Dec.{ltb}
-use borrow.Author.Tests.{ltb-false, ltb-true}
-use Rattle.model.specs.Record.{Bytes}
-use Rattle.model.specs.Network.{nodeItem, watchItem, widthOf, levelOf, levels, widths}
+use borrow.Author.Tests.{ltb-false, ltb-true, not-true, not-false}
+use Rattle.model.specs.Record.{Bytes, fieldsAt}
+use Rattle.model.specs.Network.{nodeItem, watchItem, widthOf, widthOn, levelOf, levels, widths, highest, inputsOf, isTable, leftOf, rightOf, nodeFits, fitsOn, pairsAt}
 use Rattle.model.proofs.Build.{build-more}
 use Rattle.model.proofs.Fits.{widths-more}
-use Rattle.nodes.specs.Nodes.{nodeAt, NodeFits, Narrow}
-use Rattle.network.specs.Reading.{slotNode, nodesOf, Sound, Built, Extends, NextSlot, InputsBelow, widthIn, levelIn, Ends, Shaped, noSlot, CountsFit}
+use Rattle.model.proofs.Inputs.{inputs-below, inputs-fit, inputs-high, inputs-highest}
+use Rattle.nodes.specs.Nodes.{nodeAt, listsOf, withLists, NodeFits, PartsAre}
+use Rattle.nodes.specs.declared.Parts.{Parts}
+use Rattle.network.specs.Reading.{slotNode, nodesOf, Sound, Built, Extends, NextSlot, InputsBelow, WidthIs, LevelIs, Ends, Shaped, noSlot}
 use Rattle.nodes.specs.declared.Node.{Node}
-use Rattle.nodes.specs.declared.Node.the-variants.{Table, Select, Project, Join, Set}
 use Rattle.network.specs.declared.Slot.{Slot}
 use Rattle.network.specs.declared.Network.{Network}
 use Rattle.nodes.proofs.Lists.{length-fieldsAt}
@@ -147,66 +148,85 @@ module _ (net : Network) (node sign : ℕ) (b : Built net) (within : node < net 
 
 -- ---- widths and levels from the arrays
 
--- a node that fits uses nodes before it alone
-pub fits-inputs : (n : Node) (count m : ℕ) (bs : Bytes) (at : ℕ) → NodeFits n count bs at → count ≤ m → InputsBelow n m
-fits-inputs (Table w) count m bs at f h = tt
-fits-inputs (Select i c k o) count m bs at f h = omega arith
-fits-inputs (Project i n) count m bs at f h = omega (arith, f .0)
-fits-inputs (Join l r p n) count m bs at f h = (omega (arith, f .0), omega (arith, f .1))
-fits-inputs (Set o l r) count m bs at f h = (omega (arith, f .0), omega (arith, f .1))
+-- behind the nodes the arrays have zeros, so that any index reads the same in the first numbers as in all
+take-ends : (l : List ℕ) (count i : ℕ) → Ends count l → getD (take count l) i 0 ≡ getD l i 0
+take-ends l zero i h = sym (h i zero-le)
+take-ends [] (suc count) i h = refl
+take-ends (x ∷ l) (suc count) zero h = refl
+take-ends (x ∷ l) (suc count) (suc i) h = take-ends l count i (λ j g. h (suc j) (omega arith))
 
-pub counts-are : (n m : Node) → n ≡ m → CountsFit m → CountsFit n
-counts-are n m e f = rw e f
+highest-same : (a b inputs : List ℕ) → ((i : ℕ) → getD a i 0 ≡ getD b i 0) → highest a inputs ≡ highest b inputs
+highest-same a b [] h = refl
+highest-same a b (i ∷ inputs) h = ap₂ {A = ℕ} {B = ℕ} {C = ℕ} (λ x y. max x y) (h i) (highest-same a b inputs h)
 
-pub width-agrees : (n : Node) (ws : List ℕ) (count : ℕ) (bs : Bytes) (at : ℕ) → NodeFits n count bs at → widthIn n ws ≡ widthOf (nodeAt n bs at) (take count ws)
-width-agrees (Table w) ws count bs at f = refl
-width-agrees (Select i c k o) ws count bs at f = sym (getD-take count ws i 0 f)
-width-agrees (Project i n) ws count bs at f = sym (length-fieldsAt bs at 2 n)
-width-agrees (Join l r p n) ws count bs at f = sym (length-fieldsAt bs at (4 + 2 * p) n)
-width-agrees (Set o l r) ws count bs at f = sym (getD-take count ws l 0 (f .0))
+level-low : (n : model.Node) (ws ls : List ℕ) → nodeFits ws n ≡ true → ((i : ℕ) → getD ls i 0 ≤ i) → levelOf n ls ≤ length ws
+level-low n ws ls f low = go (isTable n) refl
+  where
+    go : (t : Bool) → isTable n ≡ t → cond t 0 (suc (highest ls (inputsOf n))) ≤ length ws
+    go true e = zero-le
+    go false e =
+        let b : (leftOf n < length ws) × (rightOf n < length ws) × (fitsOn (getD ws (leftOf n) 0) (getD ws (rightOf n) 0) n ≡ true) = inputs-fit ws n e f in
+        inputs-high ls n (length ws) (omega (arith, low (leftOf n), b .0)) (omega (arith, low (rightOf n), b .1))
 
-one-input : (x y : ℕ) → y ≡ x → suc x ≡ suc (max y 0)
-one-input x y e = omega arith
+-- a node's width and level, from its parts
+module _ (n : Node) (r : Parts) (are : PartsAre n r) where
+  pub width-first : (ws : List ℕ) → r .width .inherited ≡ true → WidthIs n ws (getD ws (r .inputs .left) 0)
+  width-first ws e columns pairs h =
+      let v : ℕ = getD ws (leftOf (withLists n columns pairs)) 0 in
+      let w : v ≡ widthOn v (withLists n columns pairs) = ap (λ (t : Bool). cond t v (r .width .own)) (sym e) ∙ are .width columns pairs v h in
+      ap (λ (i : ℕ). getD ws i 0) (are .left columns pairs) ∙ w
 
-two-inputs : (x y u v : ℕ) → u ≡ x → v ≡ y → suc (max x y) ≡ suc (max u (max v 0))
-two-inputs x y u v e f = omega arith
+  pub width-own : (ws : List ℕ) → r .width .inherited ≡ false → WidthIs n ws (r .width .own)
+  width-own ws e columns pairs h =
+      let v : ℕ = getD ws (leftOf (withLists n columns pairs)) 0 in
+      ap (λ (t : Bool). cond t v (r .width .own)) (sym e) ∙ are .width columns pairs v h
 
-pub level-agrees : (n : Node) (ls : List ℕ) (count : ℕ) (bs : Bytes) (at : ℕ) → NodeFits n count bs at → levelIn n ls ≡ levelOf (nodeAt n bs at) (take count ls)
-level-agrees (Table w) ls count bs at f = refl
-level-agrees (Select i c k o) ls count bs at f = one-input (getD ls i 0) (getD (take count ls) i 0) (getD-take count ls i 0 f)
-level-agrees (Project i n) ls count bs at f = one-input (getD ls i 0) (getD (take count ls) i 0) (getD-take count ls i 0 (f .0))
-level-agrees (Join l r p n) ls count bs at f =
-    two-inputs (getD ls l 0) (getD ls r 0) (getD (take count ls) l 0) (getD (take count ls) r 0) (getD-take count ls l 0 (f .0)) (getD-take count ls r 0 (f .1))
-level-agrees (Set o l r) ls count bs at f =
-    two-inputs (getD ls l 0) (getD ls r 0) (getD (take count ls) l 0) (getD (take count ls) r 0) (getD-take count ls l 0 (f .0)) (getD-take count ls r 0 (f .1))
+  pub level-none : (ls : List ℕ) → r .inputs .derived ≡ false → LevelIs n ls 0
+  level-none ls e columns pairs = rw (not-false (isTable (withLists n columns pairs)) (sym (are .derived columns pairs) ∙ e))
 
-pub width-narrow : (n : Node) (ws : List ℕ) (count : ℕ) (bs : Bytes) (at : ℕ) → NodeFits n count bs at → Narrow ws → widthIn n ws ≤ 4
-width-narrow (Table w) ws count bs at f h = f
-width-narrow (Select i c k o) ws count bs at f h = h i
-width-narrow (Project i n) ws count bs at f h = f .1
-width-narrow (Join l r p n) ws count bs at f h = f .3
-width-narrow (Set o l r) ws count bs at f h = h l
-
-pub level-low : (n : Node) (ls : List ℕ) (count : ℕ) (bs : Bytes) (at : ℕ) → NodeFits n count bs at → ((i : ℕ) → getD ls i 0 ≤ i) → levelIn n ls ≤ count
-level-low (Table w) ls count bs at f h = zero-le
-level-low (Select i c k o) ls count bs at f h = omega (arith, h i)
-level-low (Project i n) ls count bs at f h = omega (arith, h i, f .0)
-level-low (Join l r p n) ls count bs at f h = omega (arith, h l, h r, f .0, f .1)
-level-low (Set o l r) ls count bs at f h = omega (arith, h l, h r, f .0, f .1)
+  pub level-next : (ls : List ℕ) → r .inputs .derived ≡ true → LevelIs n ls (max (getD ls (r .inputs .left) 0) (getD ls (r .inputs .right) 0) + 1)
+  level-next ls e columns pairs =
+      let m : model.Node = withLists n columns pairs in
+      let d : isTable m ≡ false = not-true (isTable m) (sym (are .derived columns pairs) ∙ e) in
+      let high : highest ls (inputsOf m) ≡ max (getD ls (leftOf m) 0) (getD ls (rightOf m) 0) = inputs-highest ls m d in
+      rw (d, high, ← are .left columns pairs, ← are .right columns pairs) (add-one _)
 
 -- the node that comes next, from the arrays
-pub next-slot : (net : Network) (n : Node) (bs : Bytes) (at : ℕ) (slot : Slot) (width level : ℕ) → Built net → net .count < 32 → NodeFits n (net .count) bs at →
-    slotNode slot ≡ nodeAt n bs at → Shaped slot → width ≡ widthIn n (net .widths) → level ≡ levelIn n (net .levels) → NextSlot net slot width level
-next-slot net n bs at slot width level b room f s shape w l =
-    record {
-      built = b;
-      room = room;
-      shaped = shape;
-      width-is = w ∙ width-agrees n (net .widths) (net .count) bs at f ∙ ap₂ {A = model.Node} {B = List ℕ} {C = ℕ} (λ x ws. widthOf x ws) (sym s) (b .sound .widths);
-      level-is = l ∙ level-agrees n (net .levels) (net .count) bs at f ∙ ap₂ {A = model.Node} {B = List ℕ} {C = ℕ} (λ x ls. levelOf x ls) (sym s) (b .sound .levels);
-      narrow = rw w (width-narrow n (net .widths) (net .count) bs at f (b .narrow));
-      low = rw l (level-low n (net .levels) (net .count) bs at f (b .low));
-    }
+module _ (net : Network) (n : Node) (bs : Bytes) (at : ℕ) (b : Built net) (f : NodeFits n (take (net .count) (net .widths)) bs at) where
+  counted : length (take (net .count) (net .widths)) ≡ net .count
+  counted = length-take-le (net .count) (net .widths) (omega (arith, b .sound .few, b .widths-length))
+
+  -- a node that fits uses nodes before it alone
+  pub fits-inputs : (m : ℕ) → net .count < m → InputsBelow n m
+  fits-inputs m h =
+      let e : (leftOf (nodeAt n bs at) < m) × (rightOf (nodeAt n bs at) < m) = inputs-below (nodeAt n bs at) (take (net .count) (net .widths)) m (f .fits) (rw counted h) in
+      (fieldsAt bs at (listsOf n .from + 2 * listsOf n .pairs) (listsOf n .columns), pairsAt bs at 3 (listsOf n .pairs), e .0, e .1)
+
+  pub next-slot : (slot : Slot) (width level : ℕ) → net .count < 32 → slotNode slot ≡ nodeAt n bs at → Shaped slot → WidthIs n (net .widths) width → LevelIs n (net .levels) level →
+      NextSlot net slot width level
+  next-slot slot width level room s shape w l =
+      record {
+        built = b;
+        room = room;
+        shaped = shape;
+        width-is = wide ∙ ap₂ {A = model.Node} {B = List ℕ} {C = ℕ} (λ x ws. widthOf x ws) (sym s) (b .sound .widths);
+        level-is =
+            high
+            ∙ ap (λ (x : ℕ). cond (isTable (nodeAt n bs at)) 0 (suc x))
+            (highest-same (net .levels) (take (net .count) (net .levels)) (inputsOf (nodeAt n bs at)) (λ i. sym (take-ends (net .levels) (net .count) i (b .levels-end))))
+            ∙ ap₂ {A = model.Node} {B = List ℕ} {C = ℕ} (λ x ls. levelOf x ls) (sym s) (b .sound .levels);
+        narrow = rw wide (f .narrow (λ i. rw (take-ends (net .widths) (net .count) i (b .widths-end)) (b .narrow i)));
+        low = rw (high, ← counted) (level-low (nodeAt n bs at) (take (net .count) (net .widths)) (net .levels) (f .fits) (b .low));
+      }
+    where
+      wide : width ≡ widthOf (nodeAt n bs at) (take (net .count) (net .widths))
+      wide =
+          w (fieldsAt bs at (listsOf n .from + 2 * listsOf n .pairs) (listsOf n .columns)) (pairsAt bs at 3 (listsOf n .pairs))
+          (length-fieldsAt bs at (listsOf n .from + 2 * listsOf n .pairs) (listsOf n .columns))
+          ∙ ap (λ (x : ℕ). widthOn x (nodeAt n bs at)) (sym (take-ends (net .widths) (net .count) (leftOf (nodeAt n bs at)) (b .widths-end)))
+
+      high : level ≡ levelOf (nodeAt n bs at) (net .levels)
+      high = l (fieldsAt bs at (listsOf n .from + 2 * listsOf n .pairs) (listsOf n .columns)) (pairsAt bs at 3 (listsOf n .pairs))
 
 -- the item of a slot is that of its record
 pub as-item : {net r : Network} {m n : model.Node} → m ≡ n → Extends net (nodeItem m) r → Extends net (nodeItem n) r

@@ -1,19 +1,22 @@
 -- Numbers stored one after the other, with zeros behind them. Assumes nothing.
 -- a list that ends in zeros is its first numbers, padded
-use mathlib.Core.Path.{_≡_, refl, sym, ap, _∙_}
+use mathlib.Core.Path.{_≡_, refl, sym, ap, ap₂, _∙_}
 use mathlib.Core.List.{List, [], _∷_, _++_, map}
-use Prim.Native.Nat.{ℕ, suc, _+_, _-_, _≤_, _<_}
+use Prim.Native.Nat.{ℕ, suc, _+_, _*_, _-_, _≤_, _<_}
 use native.Mathlib.Omega.{arith}
 use native.Mathlib.Numerals.{add-one}
 use lib.ListN.{length, length-append, getD, set, take, drop, replicate, take-append-drop, length-drop, length-replicate, length-map}
 use lib.Seq.{take-suc, length-take-le, ext-getD, getD-drop}
 use Rattle.model.specs.Areas.{padded}
-use Rattle.model.specs.Network.{kindOf}
+use Rattle.model.specs.Algebra.{Pair}
+use Rattle.model.specs.Network.{kindOf, pairsAt}
 use Rattle.model.specs.Record.{Bytes, fieldsAt}
 use Rattle.model.specs.Calls.{ReadAnswer, readCall}
 use Rattle.rows.proofs.Padding.{padded-more, take-padded}
-use Rattle.nodes.proofs.Lists.{length-fieldsAt}
-use Rattle.network.specs.Reading.{Ends, slotNode, noSlot, nodesOf, verdictOf, readingOf, answerOf, Built, ReadsNetwork}
+use Rattle.nodes.proofs.Lists.{length-fieldsAt, pairs-fields, pairs-take}
+use Rattle.nodes.specs.Nodes.{ListsFit, listsOf, nodeAt, nodeOf, pairsOf, withLists}
+use Rattle.nodes.specs.declared.Node.{Node}
+use Rattle.network.specs.Reading.{Ends, slotNode, noSlot, nodesOf, verdictOf, readingOf, answerOf, Built, ReadsNetwork, Shaped}
 use Rattle.network.specs.declared.Network.{Network}
 use Rattle.network.specs.declared.Reading.{Reading}
 use Rattle.network.specs.declared.Slot.{Slot}
@@ -38,6 +41,26 @@ module _ (bs : Bytes) (at k n : ℕ) (r : List ℕ) (few : n ≤ 4) (e : r ≡ p
       ap length e
       ∙ length-append (fieldsAt bs at k n) (replicate (4 - length (fieldsAt bs at k n)) 0)
       ∙ rw (length-replicate {A = ℕ}, length-fieldsAt) (omega arith)
+
+-- a node with the lists of its record
+pub slot-is : (n : Node) (bs : Bytes) (at : ℕ) (columns pairs : List ℕ) → ListsFit (listsOf n) bs at →
+    columns ≡ padded 4 (fieldsAt bs at (listsOf n .from + 2 * listsOf n .pairs) (listsOf n .columns)) → pairs ≡ padded 4 (fieldsAt bs at 3 (2 * listsOf n .pairs)) →
+    (nodeOf n columns pairs ≡ nodeAt n bs at) × Shaped (record { node = n; columns = columns; pairs = pairs })
+slot-is n bs at columns pairs fit ec ep =
+    let p : ℕ = listsOf n .pairs in
+    let k : ℕ = listsOf n .from + 2 * p in
+    let few : 2 * p ≤ 4 = omega (arith, fit .few-pairs) in
+    let size : length pairs ≡ 4 = fields-length bs at 3 (2 * p) pairs few ep in
+    let left : take (listsOf n .columns) columns ≡ fieldsAt bs at k (listsOf n .columns) = fields-first bs at k (listsOf n .columns) columns (fit .few-columns) ec in
+    let right : pairsOf p pairs ≡ pairsAt bs at 3 p =
+    pairs-take p pairs (omega (arith, size, few)) ∙ ap (pairsOf p) (fields-first bs at 3 (2 * p) pairs few ep) ∙ pairs-fields bs at 3 p in (
+      ap₂ {A = List ℕ} {B = List Pair} {C = model.Node} (λ x y. withLists n x y) left right,
+      record {
+        columns-length = fields-length bs at k (listsOf n .columns) columns (fit .few-columns) ec;
+        pairs-length = size;
+        counts = (fit .few-pairs, fit .few-columns);
+      },
+    )
 
 -- the kinds of the first slots
 abbrev pub kindsTo : List Slot → ℕ → List ℕ

@@ -1,24 +1,25 @@
 -- What the reader's networks mean: the model's network, reading and answer.
 use mathlib.Core.Path.{_≡_}
 use mathlib.Core.List.{List, [], map}
-use Prim.Native.Nat.{ℕ, suc, _≤_, _<_, max}
+use Prim.Native.Nat.{ℕ, _≤_, _<_}
 use lib.ListN.{getD, take, length}
-use Rattle.model.specs.Record as modelRecord
 use Rattle.model.specs.Record.{Bytes}
-use Rattle.model.specs.Network as model
+use Rattle.model.specs.Algebra.{Pair}
 use Rattle.model.specs.Network.{Item, readNetwork}
 use Rattle.model.specs.Areas.{Areas}
 use Rattle.model.specs.Calls.{ReadAnswer, Result}
-use Rattle.nodes.specs.Nodes.{nodeOf, NodeFits, Narrow}
+use Rattle.nodes.specs.Nodes.{nodeOf, NodeFits, Narrow, listsOf, withLists}
 use Rattle.nodes.specs.declared.Node.{Node}
-use Rattle.nodes.specs.declared.Node.the-variants.{Table, Select, Project, Join, Set}
-use Rattle.nodes.specs.declared.Item as declaredItem
+use Rattle.nodes.specs.declared.Node.the-variants.{Table}
 use Rattle.nodes.specs.declared.Item.the-variants.{Node as NodeBrought, Watch as WatchBrought}
 use Rattle.network.specs.declared.Slot.{Slot}
 use Rattle.network.specs.declared.Network.{Network}
 use Rattle.network.specs.declared.Verdict.{Verdict}
 use Rattle.network.specs.declared.Reading.{Reading}
 use Rattle.network.specs.declared.Answer.{Answer}
+use Rattle.model.specs.Record as modelRecord
+use Rattle.model.specs.Network as model
+use Rattle.nodes.specs.declared.Item as declaredItem
 
 -- ---- networks
 
@@ -52,11 +53,7 @@ readingOf r = record { verdict = verdictOf (r .verdict); network = networkOf (r 
 
 -- a node's numbers of columns and of pairs are those that its slot has room for
 abbrev pub CountsFit : Node → Type 0
-CountsFit (Table w) = Unit {0}
-CountsFit (Select i c k o) = Unit {0}
-CountsFit (Project i n) = n ≤ 4
-CountsFit (Join l r p n) = (p ≤ 2) × (n ≤ 4)
-CountsFit (Set o l r) = Unit {0}
+CountsFit n = (listsOf n .pairs ≤ 2) × (listsOf n .columns ≤ 4)
 
 -- a slot has room for its node's columns and pairs
 pub record Shaped (s : Slot) : Type 0 where
@@ -90,7 +87,7 @@ pub record Built (net : Network) : Type 0 where
 
 -- an item that can come next
 abbrev pub Follows : declaredItem.Item → Network → Bytes → ℕ → Type 0
-Follows (NodeBrought n) net bs at = (net .count < 32) × NodeFits n (net .count) bs at
+Follows (NodeBrought n) net bs at = (net .count < 32) × NodeFits n (take (net .count) (net .widths)) bs at
 Follows (WatchBrought n s) net bs at = n < net .count
 
 -- a network with one item more
@@ -98,29 +95,20 @@ pub record Extends (net : Network) (item : Item) (r : Network) : Type 0 where
   pub built : Built r
   pub is : networkOf r ≡ model.withItem (networkOf net) item
 
--- a node's width from the widths of the nodes before it
-abbrev pub widthIn : Node → List ℕ → ℕ
-widthIn (Table w) ws = w
-widthIn (Select i c k o) ws = getD ws i 0
-widthIn (Project i n) ws = n
-widthIn (Join l r p n) ws = n
-widthIn (Set o l r) ws = getD ws l 0
+-- a node's width, whatever its lists, from the widths of the nodes before it
+abbrev pub WidthIs : Node → List ℕ → ℕ → Type 0
+WidthIs n ws w =
+    (columns : List ℕ) (pairs : List Pair) → length columns ≡ listsOf n .columns → w ≡ model.widthOf (withLists n columns pairs) ws
 
--- a node's level from the levels of the nodes before it
-abbrev pub levelIn : Node → List ℕ → ℕ
-levelIn (Table w) ls = 0
-levelIn (Select i c k o) ls = suc (getD ls i 0)
-levelIn (Project i n) ls = suc (getD ls i 0)
-levelIn (Join l r p n) ls = suc (max (getD ls l 0) (getD ls r 0))
-levelIn (Set o l r) ls = suc (max (getD ls l 0) (getD ls r 0))
+-- a node's level, whatever its lists, from the levels of the nodes before it
+abbrev pub LevelIs : Node → List ℕ → ℕ → Type 0
+LevelIs n ls l = (columns : List ℕ) (pairs : List Pair) → l ≡ model.levelOf (withLists n columns pairs) ls
 
--- every input of a node is below a number
+-- the inputs of a node, which are the same with any lists, are below a number
 abbrev pub InputsBelow : Node → ℕ → Type 0
-InputsBelow (Table w) n = Unit {0}
-InputsBelow (Select i c k o) n = i < n
-InputsBelow (Project i m) n = i < n
-InputsBelow (Join l r p m) n = (l < n) × (r < n)
-InputsBelow (Set o l r) n = (l < n) × (r < n)
+InputsBelow n m =
+    (columns : List ℕ) × (pairs : List Pair) × (model.leftOf (withLists n columns pairs) < m)
+    × (model.rightOf (withLists n columns pairs) < m)
 
 -- a node that can come next, with its width and its level
 pub record NextSlot (net : Network) (slot : Slot) (width level : ℕ) : Type 0 where

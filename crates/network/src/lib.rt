@@ -7,11 +7,12 @@ ghost use Rattle.model.specs.Network.{noNetwork, refusedReading, kindOf};
 ghost use Rattle.model.specs.Record.{fieldsAt};
 ghost use Rattle.model.specs.Areas.{padded};
 ghost use Rattle.model.specs.Calls.{readCall};
-ghost use Rattle.nodes.specs.Nodes.{nodeAt, NodeFits};
-ghost use Rattle.network.specs.Reading.{ReadsNetwork, slotNode, Shaped, InputsBelow, widthIn, levelIn, Built, nodesOf, networkOf, readingOf};
+ghost use Rattle.nodes.specs.Nodes.{nodeAt, listsOf, ListsFit};
+ghost use Rattle.network.specs.Reading.{ReadsNetwork, slotNode, Shaped, InputsBelow, WidthIs, LevelIs, Built, nodesOf, networkOf, readingOf};
 ghost use Rattle.network.specs.Reading.{answerOf};
 use nodes::Item;
 use nodes::MAX_NODES;
+use nodes::MAX_PAIRS;
 use nodes::MAX_WIDTH;
 use nodes::Node;
 use nodes::Record;
@@ -20,7 +21,7 @@ use nodes::Record;
 pub struct Slot {
     pub node: Node,
     pub columns: [usize; MAX_WIDTH],
-    pub pairs: [usize; 4],
+    pub pairs: [usize; 2 * MAX_PAIRS],
 }
 
 // The nodes in order of their records, with each node's width, level and watch's sign (0: no watch).
@@ -46,9 +47,9 @@ pub struct Reading {
 
 // ---- building the network
 
-// n fields of the record from field k on, then zeros.
-fn fields_of(bytes: &[u8], at: usize, k: usize, n: usize) -> [usize; MAX_WIDTH]
-    requires { ⌜ (at + 4 + 2 * k + 2 * n ≤ length (now bytes)) × (n ≤ 4) ⌝ }
+// n columns of the record from field k on, then zeros.
+fn columns_of(bytes: &[u8], at: usize, k: usize, n: usize) -> [usize; MAX_WIDTH]
+    requires { ⌜ (1 ≤ n → at + 4 + 2 * k + 2 * n ≤ length (now bytes)) × (n ≤ 4) ⌝ }
     ensures { λ r. ⌜ r ≡ padded 4 (fieldsAt (now (bytes .entry)) at k n) ⌝ }
 {
     let mut fields = [0usize; MAX_WIDTH];
@@ -60,60 +61,49 @@ fn fields_of(bytes: &[u8], at: usize, k: usize, n: usize) -> [usize; MAX_WIDTH]
     fields
 }
 
+// The columns of n pairs of the record from field 3 on, then zeros.
+fn pairs_of(bytes: &[u8], at: usize, n: usize) -> [usize; 2 * MAX_PAIRS]
+    requires { ⌜ (1 ≤ n → at + 10 + 4 * n ≤ length (now bytes)) × (n ≤ 2) ⌝ }
+    ensures { λ r. ⌜ r ≡ padded 4 (fieldsAt (now (bytes .entry)) at 3 (2 * n)) ⌝ }
+{
+    let mut fields = [0usize; 2 * MAX_PAIRS];
+    let mut i = 0;
+    while i < 2 * n {
+        fields[i] = records::field_at(bytes, at, 3 + i);
+        i += 1;
+    }
+    fields
+}
+
 // A node with its lists, read from its record.
-fn slot_at(bytes: &[u8], at: usize, node: Node, count: usize) -> Slot
-    requires { ⌜ NodeFits node count (now bytes) at ⌝ }
+fn slot_at(bytes: &[u8], at: usize, node: Node) -> Slot
+    requires { ⌜ ListsFit (listsOf node) (now bytes) at ⌝ }
     ensures { λ r. ⌜ (slotNode r ≡ nodeAt node (now (bytes .entry)) at) × Shaped r ⌝ }
 {
-    let none = [0usize; MAX_WIDTH];
-    match node {
-        Node::Project(_, n) => {
-            let columns = fields_of(bytes, at, 2, n);
-            Slot {
-                node,
-                columns,
-                pairs: none,
-            }
-        }
-        Node::Join(_, _, p, n) => {
-            let pairs = fields_of(bytes, at, 3, 2 * p);
-            let columns = fields_of(bytes, at, 4 + 2 * p, n);
-            Slot {
-                node,
-                columns,
-                pairs,
-            }
-        }
-        Node::Table(_) => Slot {
-            node,
-            columns: none,
-            pairs: none,
-        },
-        Node::Select(_, _, _, _) => Slot {
-            node,
-            columns: none,
-            pairs: none,
-        },
-        Node::Set(_, _, _) => Slot {
-            node,
-            columns: none,
-            pairs: none,
-        },
+    let parts = nodes::parts_of(node);
+    let lists = parts.lists;
+    let pairs = pairs_of(bytes, at, lists.pairs);
+    let columns = columns_of(bytes, at, lists.from + 2 * lists.pairs, lists.columns);
+    Slot {
+        node,
+        columns,
+        pairs,
     }
 }
 
 // A node's width, from the widths of the nodes before it.
 fn width_of(node: Node, widths: &[usize]) -> usize
     requires { ⌜ InputsBelow node (length (now widths)) ⌝ }
-    ensures { λ r. ⌜ r ≡ widthIn node (now (widths .entry)) ⌝ }
+    ensures { λ r. ⌜ WidthIs node (now (widths .entry)) r ⌝ }
 {
-    match node {
-        Node::Table(width) => width,
-        Node::Select(input, _, _, _) => widths[input],
-        Node::Project(_, columns) => columns,
-        Node::Join(_, _, _, columns) => columns,
-        Node::Set(_, left, _) => widths[left],
+    let parts = nodes::parts_of(node);
+    let width = parts.width;
+    if width.inherited {
+        let inputs = parts.inputs;
+        let left = inputs.left;
+        return widths[left];
     }
+    width.own
 }
 
 fn greater(a: usize, b: usize) -> usize
@@ -125,15 +115,16 @@ fn greater(a: usize, b: usize) -> usize
 // A node's level, from the levels of the nodes before it.
 fn level_of(node: Node, levels: &[usize]) -> usize
     requires { ⌜ InputsBelow node (length (now levels)) × ((i : ℕ) → getD (now levels) i 0 ≤ i) × (length (now levels) ≤ 64) ⌝ }
-    ensures { λ r. ⌜ r ≡ levelIn node (now (levels .entry)) ⌝ }
+    ensures { λ r. ⌜ LevelIs node (now (levels .entry)) r ⌝ }
 {
-    match node {
-        Node::Table(_) => 0,
-        Node::Select(input, _, _, _) => levels[input] + 1,
-        Node::Project(input, _) => levels[input] + 1,
-        Node::Join(left, right, _, _) => greater(levels[left], levels[right]) + 1,
-        Node::Set(_, left, right) => greater(levels[left], levels[right]) + 1,
+    let parts = nodes::parts_of(node);
+    let inputs = parts.inputs;
+    if inputs.derived {
+        let left = inputs.left;
+        let right = inputs.right;
+        return greater(levels[left], levels[right]) + 1;
     }
+    0
 }
 
 // A network with no node.
@@ -141,9 +132,9 @@ fn no_network() -> Network
     ensures { λ r. ⌜ Built r × (networkOf r ≡ noNetwork) ⌝ }
 {
     let slot = Slot {
-        node: Node::Table(0),
+        node: Node::Table { width: 0 },
         columns: [0usize; MAX_WIDTH],
-        pairs: [0usize; 4],
+        pairs: [0usize; 2 * MAX_PAIRS],
     };
     Network {
         count: 0,
@@ -183,7 +174,7 @@ pub fn read_network(bytes: &[u8]) -> Reading
         at = here + records::u16_at(bytes, here);
         match item {
             Item::Node(node) => {
-                let slot = slot_at(bytes, here, node, count);
+                let slot = slot_at(bytes, here, node);
                 let width = width_of(node, &net.widths);
                 let level = level_of(node, &net.levels);
                 net.slots[count] = slot;
@@ -191,7 +182,7 @@ pub fn read_network(bytes: &[u8]) -> Reading
                 net.levels[count] = level;
                 net.count = count + 1;
             }
-            Item::Watch(node, sign) => {
+            Item::Watch { node, sign } => {
                 net.signs[node] = sign;
             }
         }
@@ -218,7 +209,8 @@ fn kinds_of(net: Network) -> [usize; MAX_NODES]
     while i < count {
         let slot = net.slots[i];
         let node = slot.node;
-        kinds[i] = nodes::kind_of(node);
+        let parts = nodes::parts_of(node);
+        kinds[i] = parts.kind;
         i += 1;
     }
     kinds

@@ -80,8 +80,9 @@ fn work_derived<'a>(
         (presentRows (working (now (widths .entry)) (now (rows .entry)) (now (work .entry)) (now (counts .entry)) (now (changed .entry)))
         (rightOf (slotNode slot)))) (now (out .exit)) r ⌝ }
 {
-    let l = evaluation::left_of(slot);
-    let r = evaluation::right_of(slot);
+    let inputs = evaluation::inputs_of(slot);
+    let l = inputs.left;
+    let r = inputs.right;
     let left = Held {
         width: widths[l],
         count: counts[l] as usize,

@@ -9,15 +9,17 @@ use lib.ListN.{length, getD, take}
 use lib.Seq.{length-take-le, getD-take}
 use borrow.Author.Tests.{lt-ltb, le-ltb, le-leb, lt-leb, eq-eqb, ne-eqb, ltb-true, leb-true, eqb-true}
 use Rattle.model.specs.Record.{Bytes, u32, lengthAt, fieldAt, fieldsAt}
-use Rattle.model.specs.Network.{hasShape, projectShape, joinShape, itemAt, itemFits, nodeFits, watchFits, fitsOn, columnsBelow, pairsBelow, pairsAt, setAt, select, operandBelow}
+use Rattle.model.specs.Network.{hasShape, projectShape, joinShape, itemAt, itemFits, nodeFits, watchFits, fitsOn, columnsBelow, pairsBelow, pairsAt, setAt, select, operandBelow, nodeItem}
+use Rattle.model.specs.Network.{watchItem}
 use Rattle.model.specs.Algebra.{Operand, constant, column}
 use Rattle.model.proofs.Sets.{and-first, and-second}
-use Rattle.nodes.specs.Nodes.{NodeRecord, WatchRecord, numberOf, itemOf, operationOf, setKind, bodyFault, selectFits, Fits, ReadsBody}
+use Rattle.model.proofs.ByKind.{item-narrow}
+use Rattle.nodes.specs.Nodes.{NodeRecord, WatchRecord, ListsFit, listsOf, nodeAt, operationOf, setKind, bodyFault, selectFits, ReadsBody}
 use Rattle.nodes.specs.declared.Operand.the-variants.{Constant, Column}
 use Rattle.nodes.specs.declared.SetOperation.{SetOperation}
 use Rattle.nodes.specs.declared.SetOperation.the-variants.{Union, Difference, Intersection}
+use Rattle.nodes.specs.declared.Node.{Node}
 use Rattle.nodes.specs.declared.Node.the-variants.{Table, Select, Project, Join, Set}
-use Rattle.nodes.specs.declared.Record.{Record}
 use Rattle.nodes.specs.declared.Record.the-variants.{Refused}
 
 pub no-first : (a b : Bool) → a ≡ false → (a && b) ≡ false
@@ -38,10 +40,29 @@ module _ (ws signs : List ℕ) (bs : Bytes) (at : ℕ) (kind : ℕ) where
   unfolding bodyFault
   reads-7 e f = record { number = rw (e, f); item = λ z. absurd (omega arith); fits = lit≤ tt }
 
-  pub reads-ok : (r : Record) → hasShape kind bs at ≡ true → itemFits ws signs (itemAt kind bs at) ≡ true → numberOf r ≡ 0 → itemOf r bs at ≡ itemAt kind bs at → Fits r ws signs bs at →
-      ReadsBody ws signs kind bs at r
-  unfolding bodyFault
-  reads-ok r e f n i g = record { number = n ∙ rw (e, f); item = λ z. i; fits = g }
+  module _ (shape : hasShape kind bs at ≡ true) (fits : itemFits ws signs (itemAt kind bs at) ≡ true) where
+    -- a node, given that its lists fit
+    pub reads-node : (n : Node) → nodeItem (nodeAt n bs at) ≡ itemAt kind bs at → ListsFit (listsOf n) bs at → ReadsBody ws signs kind bs at (NodeRecord n)
+    unfolding bodyFault itemFits
+    reads-node n is lists =
+        record {
+          number = rw (shape, fits);
+          item = λ z. is;
+          fits = record {
+            fits = rw (← is) at fits;
+            narrow = λ narrow. rw (← is) at (item-narrow kind ws signs bs at shape fits narrow);
+            lists = lists;
+          };
+        }
+
+    pub reads-watch : (n s : ℕ) → watchItem (record { node = n; sign = s }) ≡ itemAt kind bs at → n < length signs → ReadsBody ws signs kind bs at (WatchRecord n s)
+    unfolding bodyFault
+    reads-watch n s is below = record { number = rw (shape, fits); item = λ z. is; fits = below }
+
+-- the lists of a node that has none
+none-fit : (bs : Bytes) (at : ℕ) → ListsFit (record { pairs = 0; columns = 0; from = 0 }) bs at
+none-fit bs at =
+    record { few-pairs = omega arith; few-columns = omega arith; near = omega arith; pairs-inside = λ h. absurd (omega arith); columns-inside = λ h. absurd (omega arith) }
 
 -- ---- kind 1
 
@@ -65,7 +86,7 @@ module _ (ws signs : List ℕ) (bs : Bytes) (at size : ℕ) (sized : size ≡ le
 
     pub table-ok : 1 ≤ w → w ≤ 4 → ReadsBody ws signs 1 bs at (NodeRecord (Table w))
     unfolding itemFits itemAt nodeFits fitsOn
-    table-ok h g = reads-ok ws signs bs at 1 (NodeRecord (Table w)) shaped (rw (← is, le-leb 1 w h, le-leb w 4 g)) refl (rw is) g
+    table-ok h g = reads-node ws signs bs at 1 shaped (rw (← is, le-leb 1 w h, le-leb w 4 g)) (Table w) (rw is) (none-fit bs at)
 
 -- ---- kinds 2 and 3
 
@@ -127,7 +148,7 @@ module _ (ws signs : List ℕ) (bs : Bytes) (at size : ℕ) (sized : size ≡ le
       ReadsBody ws signs 2 bs at (NodeRecord (Select i c k (Constant v)))
   unfolding hasShape itemFits itemAt
   constant-ok s e i c k v p q r t =
-      reads-ok ws signs bs at 2 (NodeRecord (Select i c k (Constant v))) (rw (← sized) (eq-eqb size 14 s)) (fits-select ws bs at (constant (u32 bs (at + 10))) ∙ rw e) refl (rw (p, q, r, t)) (rw p (select-below ws bs at e))
+      reads-node ws signs bs at 2 (rw (← sized) (eq-eqb size 14 s)) (fits-select ws bs at (constant (u32 bs (at + 10))) ∙ rw e) (Select i c k (Constant v)) (rw (p, q, r, t)) (none-fit bs at)
 
   pub column-size : (size ≡ 12 → ⊥) → ReadsBody ws signs 3 bs at (Refused 6)
   unfolding hasShape
@@ -146,8 +167,8 @@ module _ (ws signs : List ℕ) (bs : Bytes) (at size : ℕ) (sized : size ≡ le
         ReadsBody ws signs 3 bs at (NodeRecord (Select i c k (Column o)))
     unfolding hasShape itemFits itemAt
     column-ok s e h c k q r =
-        reads-ok ws signs bs at 3 (NodeRecord (Select i c k (Column o))) (rw (← sized) (eq-eqb size 12 s)) (fits-select ws bs at (column (fieldAt bs at 3)) ∙ rw (e, ← is, ← other) (lt-ltb o (getD ws i 0) h)) refl
-        (rw (is, other, q, r)) (rw is (select-below ws bs at e))
+        reads-node ws signs bs at 3 (rw (← sized) (eq-eqb size 12 s)) (fits-select ws bs at (column (fieldAt bs at 3)) ∙ rw (e, ← is, ← other) (lt-ltb o (getD ws i 0) h))
+        (Select i c k (Column o)) (rw (is, other, q, r)) (none-fit bs at)
 
 -- ---- kind 4
 
@@ -207,9 +228,15 @@ module _ (xs : List ℕ) (count : ℕ) (long : count ≤ length xs) (signs : Lis
       unfolding hasShape itemFits itemAt nodeFits fitsOn
       project-ok e inside =
           let sh : ProjectShape bs at = project-shaped bs at shape in
-          reads-ok (take count xs) signs bs at 4 (NodeRecord (Project i n)) shape
-          (rw (← is, ← of, counted xs count long bs at, lt-ltb i count within, first-at xs count i within) e) refl (rw (is, of))
-          (rw (counted xs count long bs at) within, rw of (sh .few), omega (arith, sh .size, of))
+          reads-node (take count xs) signs bs at 4 shape
+          (rw (← is, ← of, counted xs count long bs at, lt-ltb i count within, first-at xs count i within) e) (Project i n) (rw (is, of))
+          (record {
+            few-pairs = omega arith;
+            few-columns = rw of (sh .few);
+            near = omega arith;
+            pairs-inside = λ h. absurd (omega arith);
+            columns-inside = λ h. omega (arith, sh .size, of);
+          })
 
 -- ---- kind 5
 
@@ -302,11 +329,17 @@ module _ (xs : List ℕ) (count : ℕ) (long : count ≤ length xs) (signs : Lis
           join-ok e inside =
               let sh : JoinShape bs at = join-shaped bs at shape in
               let same : c ≡ fieldAt bs at (3 + 2 * fieldAt bs at 2) = rw paired at columns in
-              reads-ok (take count xs) signs bs at 5 (NodeRecord (Join l r p c)) shape
+              reads-node (take count xs) signs bs at 5 shape
               (rw (← is, ← of, ← paired, ← columns, counted xs count long bs at, lt-ltb l count left, lt-ltb r count right, first-at xs count l left, first-at xs count r right, good, e))
-              refl
+              (Join l r p c)
               (rw (is, of, columns, paired))
-              (rw (counted xs count long bs at) left, rw (counted xs count long bs at) right, rw paired (sh .pairs), rw same (sh .few), omega (arith, sh .size, paired, same))
+              (record {
+                few-pairs = rw paired (sh .pairs);
+                few-columns = rw same (sh .few);
+                near = omega arith;
+                pairs-inside = λ h. omega (arith, sh .size, paired, same);
+                columns-inside = λ h. omega (arith, sh .size, paired, same);
+              })
 
 -- ---- kinds 6, 7, 8
 
@@ -350,11 +383,10 @@ module _ (xs : List ℕ) (count : ℕ) (long : count ≤ length xs) (signs : Lis
         pub set-ok : getD xs l 0 ≡ getD xs r 0 → ReadsBody (take count xs) signs (setKind o) bs at (NodeRecord (Set o l r))
         unfolding itemFits nodeFits fitsOn
         set-ok h =
-            reads-ok (take count xs) signs bs at (setKind o) (NodeRecord (Set o l r)) set-shaped
+            reads-node (take count xs) signs bs at (setKind o) set-shaped
             (rw (set-item o bs at, ← is, ← of, counted xs count long bs at, lt-ltb l count left, lt-ltb r count right, first-at xs count l left, first-at xs count r right)
-            (eq-eqb (getD xs l 0) (getD xs r 0) h)) refl
-            (rw (set-item o bs at, is, of))
-            (rw (counted xs count long bs at) left, rw (counted xs count long bs at) right)
+            (eq-eqb (getD xs l 0) (getD xs r 0) h)) (Set o l r)
+            (rw (set-item o bs at, is, of)) (none-fit bs at)
 
 -- ---- kind 9
 
@@ -391,7 +423,7 @@ module _ (xs : List ℕ) (count : ℕ) (long : count ≤ length xs) (ws : List �
         pub watch-ok : getD xs n 0 ≡ 0 → ReadsBody ws (take count xs) 9 bs at (WatchRecord n s)
         unfolding itemFits itemAt watchFits
         watch-ok h =
-            reads-ok ws (take count xs) bs at 9 (WatchRecord n s) watch-shaped
-            (rw (← is, ← of, counted xs count long bs at, lt-ltb n count within, le-leb 1 s low, le-leb s 3 high, first-at xs count n within) (eq-eqb (getD xs n 0) 0 h)) refl
+            reads-watch ws (take count xs) bs at 9 watch-shaped
+            (rw (← is, ← of, counted xs count long bs at, lt-ltb n count within, le-leb 1 s low, le-leb s 3 high, first-at xs count n within) (eq-eqb (getD xs n 0) 0 h)) n s
             (rw (is, of))
             (rw (counted xs count long bs at) within)

@@ -1,6 +1,6 @@
 -- What nodes and record readings mean: the model's nodes and items, and the order's numbers.
 use mathlib.Core.Path.{_≡_}
-use mathlib.Core.Bool.{Bool, not, _&&_}
+use mathlib.Core.Bool.{Bool, true, cond, not, _&&_}
 use mathlib.Core.List.{List, [], _∷_}
 use Prim.Native.Nat.{ℕ, zero, suc, _+_, _*_, _≤_, _<_}
 use lib.Dec.{ltb}
@@ -9,17 +9,20 @@ use Rattle.model.specs.Algebra.{Pair, constant, column}
 use Rattle.model.specs.Record.{Bytes, kindAt, fieldAt, fieldsAt, rule, firstBroken}
 use Rattle.model.specs.Network.{Item, nodeItem, watchItem, table, select, project, join, setOperation, union}
 use Rattle.model.specs.Network.{difference, intersection, kindOf, pairsAt, hasShape, itemAt, itemFits, recordFault}
+use Rattle.model.specs.Network.{leftOf, rightOf, isTable, widthOn, widthOf, nodeFits}
 use Rattle.nodes.specs.declared.Operand.{Operand}
 use Rattle.nodes.specs.declared.Operand.the-variants.{Constant, Column}
 use Rattle.nodes.specs.declared.SetOperation.{SetOperation}
 use Rattle.nodes.specs.declared.SetOperation.the-variants.{Union, Difference, Intersection}
 use Rattle.nodes.specs.declared.Node.{Node}
 use Rattle.nodes.specs.declared.Node.the-variants.{Table, Select, Project, Join, Set}
+use Rattle.nodes.specs.declared.ListSizes.{ListSizes}
+use Rattle.nodes.specs.declared.Parts.{Parts}
 use Rattle.nodes.specs.declared.Record.{Record}
 use Rattle.nodes.specs.declared.Item.the-variants.{Node as NodeBrought, Watch as WatchBrought}
 use Rattle.nodes.specs.declared.Record.the-variants.{Item as Brought, Refused}
-use Rattle.model.specs.Algebra as algebra
 use Rattle.model.specs.Network as model
+use Rattle.model.specs.Algebra as algebra
 use Rattle.nodes.specs.declared.Item as declaredItem
 
 -- ---- nodes
@@ -35,6 +38,10 @@ operationOf Union = union
 operationOf Difference = difference
 operationOf Intersection = intersection
 
+-- the number of a select's kind
+abbrev pub selectKind : Operand → ℕ
+selectKind o = kindOf (select 0 0 0 (operandOf o))
+
 -- the number of a set operation's kind
 abbrev pub setKind : SetOperation → ℕ
 setKind o = kindOf (setOperation (operationOf o) 0 0)
@@ -44,21 +51,41 @@ abbrev pub pairsOf : ℕ → List ℕ → List Pair
 pairsOf zero l = []
 pairsOf (suc n) l = record { left = getD l 0 0; right = getD l 1 0 } ∷ pairsOf n (drop 2 l)
 
--- a node, with its columns and pairs beside it
+-- the lists of a node's record
+abbrev pub listsOf : Node → ListSizes
+listsOf (Table w) = record { pairs = 0; columns = 0; from = 0 }
+listsOf (Select i c k o) = record { pairs = 0; columns = 0; from = 0 }
+listsOf (Project i n) = record { pairs = 0; columns = n; from = 2 }
+listsOf (Join l r p n) = record { pairs = p; columns = n; from = 4 }
+listsOf (Set o l r) = record { pairs = 0; columns = 0; from = 0 }
+
+-- a node with its lists
+abbrev pub withLists : Node → List ℕ → List Pair → model.Node
+withLists (Table w) columns pairs = table w
+withLists (Select i c k o) columns pairs = select i c k (operandOf o)
+withLists (Project i n) columns pairs = project i columns
+withLists (Join l r p n) columns pairs = join l r pairs columns
+withLists (Set o l r) columns pairs = setOperation (operationOf o) l r
+
+-- a node, with its columns and pairs in arrays beside it
 abbrev pub nodeOf : Node → List ℕ → List ℕ → model.Node
-nodeOf (Table w) columns pairs = table w
-nodeOf (Select i c k o) columns pairs = select i c k (operandOf o)
-nodeOf (Project i n) columns pairs = project i (take n columns)
-nodeOf (Join l r p n) columns pairs = join l r (pairsOf p pairs) (take n columns)
-nodeOf (Set o l r) columns pairs = setOperation (operationOf o) l r
+nodeOf n columns pairs = withLists n (take (listsOf n .columns) columns) (pairsOf (listsOf n .pairs) pairs)
 
 -- a node whose columns and pairs stand in the record at an offset
 abbrev pub nodeAt : Node → Bytes → ℕ → model.Node
-nodeAt (Table w) bs at = table w
-nodeAt (Select i c k o) bs at = select i c k (operandOf o)
-nodeAt (Project i n) bs at = project i (fieldsAt bs at 2 n)
-nodeAt (Join l r p n) bs at = join l r (pairsAt bs at 3 p) (fieldsAt bs at (4 + 2 * p) n)
-nodeAt (Set o l r) bs at = setOperation (operationOf o) l r
+nodeAt n bs at =
+    withLists n (fieldsAt bs at (listsOf n .from + 2 * listsOf n .pairs) (listsOf n .columns))
+    (pairsAt bs at 3 (listsOf n .pairs))
+
+-- the parts of a node
+pub record PartsAre (n : Node) (r : Parts) : Type 0 where
+  pub lists : r .lists ≡ listsOf n
+  pub kind : (columns : List ℕ) (pairs : List Pair) → r .kind ≡ kindOf (withLists n columns pairs)
+  pub derived : (columns : List ℕ) (pairs : List Pair) → r .inputs .derived ≡ not (isTable (withLists n columns pairs))
+  pub left : (columns : List ℕ) (pairs : List Pair) → r .inputs .left ≡ leftOf (withLists n columns pairs)
+  pub right : (columns : List ℕ) (pairs : List Pair) → r .inputs .right ≡ rightOf (withLists n columns pairs)
+  pub width : (columns : List ℕ) (pairs : List Pair) (v : ℕ) → length columns ≡ listsOf n .columns →
+      cond (r .width .inherited) v (r .width .own) ≡ widthOn v (withLists n columns pairs)
 
 -- ---- records
 
@@ -97,17 +124,23 @@ Narrow ws = (i : ℕ) → getD ws i 0 ≤ 4
 unfoldable pub bodyFault : List ℕ → List ℕ → ℕ → Bytes → ℕ → ℕ
 bodyFault ws signs kind bs at = firstBroken (rule 6 (not (hasShape kind bs at)) ∷ rule 7 (not (itemFits ws signs (itemAt kind bs at))) ∷ [])
 
--- a node after so many others uses these alone, and its lists stand inside the record
-abbrev pub NodeFits : Node → ℕ → Bytes → ℕ → Type 0
-NodeFits (Table w) count bs at = w ≤ 4
-NodeFits (Select i c k o) count bs at = i < count
-NodeFits (Project i n) count bs at = (i < count) × (n ≤ 4) × (at + 8 + 2 * n ≤ length bs)
-NodeFits (Join l r p n) count bs at = (l < count) × (r < count) × (p ≤ 2) × (n ≤ 4) × (at + 12 + 4 * p + 2 * n ≤ length bs)
-NodeFits (Set o l r) count bs at = (l < count) × (r < count)
+-- a node's lists stand inside its record, and a slot has room for them
+pub record ListsFit (l : ListSizes) (bs : Bytes) (at : ℕ) : Type 0 where
+  pub few-pairs : l .pairs ≤ 2
+  pub few-columns : l .columns ≤ 4
+  pub near : l .from ≤ 4
+  pub pairs-inside : 1 ≤ l .pairs → at + 10 + 4 * l .pairs ≤ length bs
+  pub columns-inside : 1 ≤ l .columns → at + 4 + 2 * (l .from + 2 * l .pairs) + 2 * l .columns ≤ length bs
+
+-- a node of the record at an offset can come after nodes of some widths
+pub record NodeFits (n : Node) (ws : List ℕ) (bs : Bytes) (at : ℕ) : Type 0 where
+  pub fits : nodeFits ws (nodeAt n bs at) ≡ true
+  pub narrow : Narrow ws → widthOf (nodeAt n bs at) ws ≤ 4
+  pub lists : ListsFit (listsOf n) bs at
 
 -- what a record brings fits what was read before it; a refusal has a number
 abbrev pub Fits : Record → List ℕ → List ℕ → Bytes → ℕ → Type 0
-Fits (Brought (NodeBrought n)) ws signs bs at = NodeFits n (length ws) bs at
+Fits (Brought (NodeBrought n)) ws signs bs at = NodeFits n ws bs at
 Fits (Brought (WatchBrought n s)) ws signs bs at = n < length signs
 Fits (Refused k) ws signs bs at = 1 ≤ k
 

@@ -4,14 +4,17 @@ ghost use mathlib.Core.Bool.{true, false};
 ghost use mathlib.Core.List.{List};
 ghost use Prim.Native.Nat.{ℕ, _+_, _*_, _≤_, _<_};
 ghost use lib.ListN.{length, take};
-ghost use Rattle.model.specs.Network.{columnsBelow, pairsBelow, pairsAt, projectShape, joinShape, kindOf};
+ghost use Rattle.model.specs.Network.{columnsBelow, pairsBelow, pairsAt, projectShape, joinShape};
 ghost use Rattle.model.specs.Record.{fieldsAt, isBroken};
-ghost use Rattle.nodes.specs.Nodes.{ReadsBody, ReadsRecord, selectFits, Narrow, setKind, nodeOf, numberOf};
+ghost use Rattle.nodes.specs.Nodes.{ReadsBody, ReadsRecord, selectFits, Narrow, selectKind, setKind, PartsAre, numberOf};
 
 // The most fields of a row, and the most nodes of a network.
 pub const MAX_WIDTH: usize = 4;
 
 pub const MAX_NODES: usize = 32;
+
+// The most pairs of a join.
+pub const MAX_PAIRS: usize = 2;
 
 // What a select compares its column with.
 pub enum Operand {
@@ -27,17 +30,36 @@ pub enum SetOperation {
 
 // A node's inputs and numbers; its columns and pairs stand in arrays beside it.
 pub enum Node {
-    Table(usize),
-    Select(usize, usize, usize, Operand),
-    Project(usize, usize),
-    Join(usize, usize, usize, usize),
-    Set(SetOperation, usize, usize),
+    Table {
+        width: usize,
+    },
+    Select {
+        input: usize,
+        column: usize,
+        comparison: usize,
+        operand: Operand,
+    },
+    Project {
+        input: usize,
+        columns: usize,
+    },
+    Join {
+        left: usize,
+        right: usize,
+        pairs: usize,
+        columns: usize,
+    },
+    Set {
+        operation: SetOperation,
+        left: usize,
+        right: usize,
+    },
 }
 
 // What a record brings: a node, or a watch's node and sign.
 pub enum Item {
     Node(Node),
-    Watch(usize, usize),
+    Watch { node: usize, sign: usize },
 }
 
 // What reading a record gives: what it brings, or the number of the rule that it breaks.
@@ -95,7 +117,7 @@ fn read_table(bytes: &[u8], at: usize) -> Record
     if MAX_WIDTH < width {
         return Record::Refused(7);
     }
-    Record::Item(Item::Node(Node::Table(width)))
+    Record::Item(Item::Node(Node::Table { width }))
 }
 
 // Whether the record's input is below the count, its column below the input's width and its comparison a code.
@@ -127,7 +149,13 @@ fn read_select_constant(bytes: &[u8], at: usize, count: usize, widths: &[usize])
     let column = records::field_at(bytes, at, 1);
     let comparison = records::field_at(bytes, at, 2);
     let constant = records::u32_at(bytes, at + 10);
-    Record::Item(Item::Node(Node::Select(input, column, comparison, Operand::Constant(constant))))
+    let operand = Operand::Constant(constant);
+    Record::Item(Item::Node(Node::Select {
+        input,
+        column,
+        comparison,
+        operand,
+    }))
 }
 
 fn read_select_column(bytes: &[u8], at: usize, count: usize, widths: &[usize]) -> Record
@@ -147,7 +175,13 @@ fn read_select_column(bytes: &[u8], at: usize, count: usize, widths: &[usize]) -
     }
     let column = records::field_at(bytes, at, 1);
     let comparison = records::field_at(bytes, at, 2);
-    Record::Item(Item::Node(Node::Select(input, column, comparison, Operand::Column(other))))
+    let operand = Operand::Column(other);
+    Record::Item(Item::Node(Node::Select {
+        input,
+        column,
+        comparison,
+        operand,
+    }))
 }
 
 // Rule 6 for kind 4.
@@ -184,7 +218,7 @@ fn read_project(bytes: &[u8], at: usize, count: usize, widths: &[usize]) -> Reco
     if !columns_below(bytes, at, 2, columns, widths[input]) {
         return Record::Refused(7);
     }
-    Record::Item(Item::Node(Node::Project(input, columns)))
+    Record::Item(Item::Node(Node::Project { input, columns }))
 }
 
 // Rule 6 for kind 5.
@@ -197,7 +231,7 @@ fn join_shape(bytes: &[u8], at: usize) -> bool
         return false;
     }
     let pairs = records::field_at(bytes, at, 2);
-    if 2 < pairs {
+    if MAX_PAIRS < pairs {
         return false;
     }
     if size < 12 + 4 * pairs {
@@ -242,7 +276,12 @@ fn read_join(bytes: &[u8], at: usize, count: usize, widths: &[usize]) -> Record
     ) {
         return Record::Refused(7);
     }
-    Record::Item(Item::Node(Node::Join(left, right, pairs, columns)))
+    Record::Item(Item::Node(Node::Join {
+        left,
+        right,
+        pairs,
+        columns,
+    }))
 }
 
 fn read_set(
@@ -270,7 +309,11 @@ fn read_set(
     if widths[left] != widths[right] {
         return Record::Refused(7);
     }
-    Record::Item(Item::Node(Node::Set(operation, left, right)))
+    Record::Item(Item::Node(Node::Set {
+        operation,
+        left,
+        right,
+    }))
 }
 
 fn read_watch(bytes: &[u8], at: usize, count: usize, signs: &[usize]) -> Record
@@ -294,7 +337,7 @@ fn read_watch(bytes: &[u8], at: usize, count: usize, signs: &[usize]) -> Record
     if signs[node] != 0 {
         return Record::Refused(7);
     }
-    Record::Item(Item::Watch(node, sign))
+    Record::Item(Item::Watch { node, sign })
 }
 
 // The record at an offset, after so many nodes: rules 3 to 7 in order.
@@ -338,7 +381,8 @@ fn set_operation(kind: usize) -> SetOperation
 
 // The record of a node, by its kind.
 fn read_node(kind: usize, bytes: &[u8], at: usize, count: usize, widths: &[usize]) -> Record
-    requires { ⌜ (1 ≤ kind) × (kind ≤ 9) × (kind ≡ 9 → ⊥) × (isBroken (now bytes) at ≡ false) × (count ≤ length (now widths)) × Narrow (now widths) ⌝ }
+    requires { ⌜ (1 ≤ kind) × (kind ≤ 9) × (kind ≡ 9 → ⊥)
+        × (isBroken (now bytes) at ≡ false) × (count ≤ length (now widths)) × Narrow (now widths) ⌝ }
     ensures { λ r. ⌜ ((signs : List ℕ) → ReadsBody (take count (now (widths .entry))) signs kind (now (bytes .entry)) at r) ⌝ }
 {
     match kind {
@@ -351,23 +395,130 @@ fn read_node(kind: usize, bytes: &[u8], at: usize, count: usize, widths: &[usize
     }
 }
 
-// The number of a node's kind.
-pub fn kind_of(node: Node) -> usize
-    ensures { λ r. ⌜ ((columns pairs : List ℕ) → r ≡ kindOf (nodeOf node columns pairs)) ⌝ }
+// ---- what goes by a node's kind, but for its rows
+
+// Whether a node has inputs, and the first and the last of them, 0 if it has none.
+pub struct Inputs {
+    pub derived: bool,
+    pub left: usize,
+    pub right: usize,
+}
+
+// A node's own width, or that it has its first input's.
+pub struct Width {
+    pub inherited: bool,
+    pub own: usize,
+}
+
+// How many pairs and columns a node's record has: the pairs from field 3 on, the columns from a field on, behind the pairs.
+pub struct ListSizes {
+    pub pairs: usize,
+    pub columns: usize,
+    pub from: usize,
+}
+
+// A node's kind, inputs, width and lists.
+pub struct Parts {
+    pub kind: usize,
+    pub inputs: Inputs,
+    pub width: Width,
+    pub lists: ListSizes,
+}
+
+fn uses(derived: bool, left: usize, right: usize) -> Inputs
+    ensures { λ r. ⌜ r ≡ record { derived = derived; left = left; right = right } ⌝ }
+{
+    Inputs {
+        derived,
+        left,
+        right,
+    }
+}
+
+fn wide(inherited: bool, own: usize) -> Width
+    ensures { λ r. ⌜ r ≡ record { inherited = inherited; own = own } ⌝ }
+{
+    Width { inherited, own }
+}
+
+fn listed(pairs: usize, columns: usize, from: usize) -> ListSizes
+    ensures { λ r. ⌜ r ≡ record { pairs = pairs; columns = columns; from = from } ⌝ }
+{
+    ListSizes {
+        pairs,
+        columns,
+        from,
+    }
+}
+
+fn select_kind(operand: Operand) -> usize
+    ensures { λ r. ⌜ r ≡ selectKind operand ⌝ }
+{
+    match operand {
+        Operand::Constant(_) => 2,
+        Operand::Column(_) => 3,
+    }
+}
+
+fn set_kind(operation: SetOperation) -> usize
+    ensures { λ r. ⌜ r ≡ setKind operation ⌝ }
+{
+    match operation {
+        SetOperation::Union => 6,
+        SetOperation::Difference => 7,
+        SetOperation::Intersection => 8,
+    }
+}
+
+fn made(kind: usize, inputs: Inputs, width: Width, lists: ListSizes) -> Parts
+    ensures { λ r. ⌜ r ≡ record { kind = kind; inputs = inputs; width = width; lists = lists } ⌝ }
+{
+    Parts {
+        kind,
+        inputs,
+        width,
+        lists,
+    }
+}
+
+// The parts of a node, by its kind.
+pub fn parts_of(node: Node) -> Parts
+    ensures { λ r. ⌜ PartsAre node r ⌝ }
 {
     match node {
-        Node::Table(_) => 1,
-        Node::Select(_, _, _, operand) => match operand {
-            Operand::Constant(_) => 2,
-            Operand::Column(_) => 3,
-        },
-        Node::Project(_, _) => 4,
-        Node::Join(_, _, _, _) => 5,
-        Node::Set(operation, _, _) => match operation {
-            SetOperation::Union => 6,
-            SetOperation::Difference => 7,
-            SetOperation::Intersection => 8,
-        },
+        Node::Table { width } => made(1, uses(false, 0, 0), wide(false, width), listed(0, 0, 0)),
+        Node::Select {
+            input,
+            column: _,
+            comparison: _,
+            operand,
+        } => {
+            let kind = select_kind(operand);
+            let inputs = uses(true, input, input);
+            made(kind, inputs, wide(true, 0), listed(0, 0, 0))
+        }
+        Node::Project { input, columns } => {
+            let inputs = uses(true, input, input);
+            made(4, inputs, wide(false, columns), listed(0, columns, 2))
+        }
+        Node::Join {
+            left,
+            right,
+            pairs,
+            columns,
+        } => {
+            let inputs = uses(true, left, right);
+            made(5, inputs, wide(false, columns), listed(pairs, columns, 4))
+        }
+        Node::Set {
+            operation,
+            left,
+            right,
+        } => {
+            let kind = set_kind(operation);
+            let inputs = uses(true, left, right);
+            made(kind, inputs, wide(true, 0), listed(0, 0, 0))
+        }
     }
 }
 

@@ -20,11 +20,12 @@ pub fn input_changed(slot: Slot, changed: &[bool]) -> bool
     requires { ⌜ (leftOf (slotNode slot) < length (now changed)) × (rightOf (slotNode slot) < length (now changed)) ⌝ }
     ensures { λ r. ⌜ r ≡ inputChanged slot (now (changed .entry)) ⌝ }
 {
-    let l = evaluation::left_of(slot);
+    let inputs = evaluation::inputs_of(slot);
+    let l = inputs.left;
     if changed[l] {
         return true;
     }
-    let r = evaluation::right_of(slot);
+    let r = inputs.right;
     changed[r]
 }
 

@@ -19,8 +19,7 @@ use Rattle.coherence.proofs.evaluate_held.Tie as tie
 use Rattle.coherence.proofs.evaluate_held.Reads as reads
 use Rattle.coherence.proofs.evaluate_held.Lts as lts
 use Rattle.evaluation.proofs.evaluate.Reads as evaluate-reads
-use Rattle.evaluation.proofs.left_of.Reads as left-of-reads
-use Rattle.evaluation.proofs.right_of.Reads as right-of-reads
+use Rattle.evaluation.proofs.inputs_of.Reads as inputs-of-reads
 use Rattle.coherence.proofs.held.Reads as held-reads
 
 as-held : (slot : Slot) (ws head rows : List ℕ) (n l r : ℕ) (lh rh : Held) → Places ws n rows head → Derived slot ws n → l ≡ leftOf (slotNode slot) → r ≡ rightOf (slotNode slot) →
@@ -37,30 +36,27 @@ as-held slot ws head rows n l r lh rh p d el er ewl ewr =
       held-at ws n rows head p (rightOf (slotNode slot)) (d .right),
     )
 
-left-of-requires : tie.Need-left-of-requires
-left-of-requires c κs = search needs
-
-right-of-requires : tie.Need-right-of-requires
-right-of-requires c κs = search needs
+inputs-of-requires : tie.Need-inputs-of-requires
+inputs-of-requires c κs = search needs
 
 held-requires : tie.Need-held-requires
-held-requires c κs = let b = c .before .before .before .before .before .before .pre .1 .left in omega (
+held-requires c κs = let b = c .before .before .before .before .before .pre .1 .left in omega (
+  arith,
+  c .before .before .before .before .before .pre .0 .few,
+  c .before .before .before .before .before .pre .0 .widths-long,
+  c .before .before .before .before .before .pre .0 .head-long,
+  b,
+  c .inputs-of .ensures .0,
+)
+
+held-requires-2 : tie.Need-held-requires-2
+held-requires-2 c κs = let b = c .before .before .before .before .before .before .pre .1 .right in omega (
   arith,
   c .before .before .before .before .before .before .pre .0 .few,
   c .before .before .before .before .before .before .pre .0 .widths-long,
   c .before .before .before .before .before .before .pre .0 .head-long,
   b,
-  c .before .left-of .ensures,
-)
-
-held-requires-2 : tie.Need-held-requires-2
-held-requires-2 c κs = let b = c .before .before .before .before .before .before .before .pre .1 .right in omega (
-  arith,
-  c .before .before .before .before .before .before .before .pre .0 .few,
-  c .before .before .before .before .before .before .before .pre .0 .widths-long,
-  c .before .before .before .before .before .before .before .pre .0 .head-long,
-  b,
-  c .before .right-of .ensures,
+  c .before .inputs-of .ensures .1,
 )
 
 mul-evaluate : tie.Need-mul-evaluate
@@ -107,17 +103,17 @@ part-evaluate-end-2 c = search needs
 
 evaluate-requires : tie.Need-evaluate-requires
 evaluate-requires c κs =
-    let a = c .before .before .before .before .before .before .before .before .before .before .before .args in
-    let s = as-held (a .slot) (a .widths .now) (a .head .now) (a .rows .now) (a .n) (c .before .before .before .before .before .before .left-of .result)
-    (c .before .before .before .before .before .right-of .result) (c .before .before .before .before .held .result) (c .before .before .before .held2 .result)
-    (c .before .before .before .before .before .before .before .before .before .before .before .pre .0)
-    (c .before .before .before .before .before .before .before .before .before .before .before .pre .1) (c .before .before .before .before .before .before .left-of .ensures)
-    (c .before .before .before .before .before .right-of .ensures) (c .before .before .before .before .held .ensures) (c .before .before .before .held2 .ensures) in (
-      c .before .before .before .before .before .before .before .before .before .before .before .pre .1 .shaped,
+    let a = c .before .before .before .before .before .before .before .before .before .before .args in
+    let s = as-held (a .slot) (a .widths .now) (a .head .now) (a .rows .now) (a .n) (c .before .before .before .before .before .inputs-of .result .left)
+    (c .before .before .before .before .before .inputs-of .result .right) (c .before .before .before .before .held .result) (c .before .before .before .held2 .result)
+    (c .before .before .before .before .before .before .before .before .before .before .pre .0)
+    (c .before .before .before .before .before .before .before .before .before .before .pre .1) (c .before .before .before .before .before .inputs-of .ensures .0)
+    (c .before .before .before .before .before .inputs-of .ensures .1) (c .before .before .before .before .held .ensures) (c .before .before .before .held2 .ensures) in (
+      c .before .before .before .before .before .before .before .before .before .before .pre .1 .shaped,
       s .0,
       s .1,
       s .2,
-      c .before .before .before .before .before .before .before .before .before .before .before .pre .2,
+      c .before .before .before .before .before .before .before .before .before .before .pre .2,
     )
 
 same-length : tie.Need-same-length
@@ -125,13 +121,13 @@ same-length c = search needs
 
 returns : tie.Need-returns
 returns c =
-    let a = c .before .before .before .before .before .before .before .before .before .before .before .before .before .before .args in
-    let s = as-held (a .slot) (a .widths .now) (a .head .now) (a .rows .now) (a .n) (c .before .before .before .before .before .before .before .before .before .left-of .result)
-    (c .before .before .before .before .before .before .before .before .right-of .result) (c .before .before .before .before .before .before .before .held .result)
+    let a = c .before .before .before .before .before .before .before .before .before .before .before .before .before .args in
+    let s = as-held (a .slot) (a .widths .now) (a .head .now) (a .rows .now) (a .n) (c .before .before .before .before .before .before .before .before .inputs-of .result .left)
+    (c .before .before .before .before .before .before .before .before .inputs-of .result .right) (c .before .before .before .before .before .before .before .held .result)
     (c .before .before .before .before .before .before .held2 .result)
-    (c .before .before .before .before .before .before .before .before .before .before .before .before .before .before .pre .0)
-    (c .before .before .before .before .before .before .before .before .before .before .before .before .before .before .pre .1)
-    (c .before .before .before .before .before .before .before .before .before .left-of .ensures) (c .before .before .before .before .before .before .before .before .right-of .ensures)
+    (c .before .before .before .before .before .before .before .before .before .before .before .before .before .pre .0)
+    (c .before .before .before .before .before .before .before .before .before .before .before .before .before .pre .1)
+    (c .before .before .before .before .before .before .before .before .inputs-of .ensures .0) (c .before .before .before .before .before .before .before .before .inputs-of .ensures .1)
     (c .before .before .before .before .before .before .before .held .ensures) (c .before .before .before .before .before .before .held2 .ensures) in
     rw (← s .3, ← s .4) (c .before .before .evaluate .ensures)
 
@@ -139,8 +135,7 @@ pub evaluate-held-spec : {M : Type 1} → statement M
 evaluate-held-spec =
     tie.close
     (tie.spec
-    left-of-requires
-    right-of-requires
+    inputs-of-requires
     held-requires
     held-requires-2
     mul-evaluate

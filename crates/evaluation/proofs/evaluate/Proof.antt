@@ -44,7 +44,7 @@ project-rows-requires c κs =
     let few = place-few (a .l .width) (a .left .now) (a .l .count) (c .before .before .before .before .before .before .before .before .before .before .pre .1) in
     let counts = rw (c .before .before .before .before .before .node2 .given .1) at (c .before .before .before .before .before .before .before .before .before .before .pre .0 .counts) in (
       omega (arith, c .before .before .before .before .before .before .before .before .before .before .pre .1 .long),
-      counts,
+      counts .1,
       omega (arith, c .before .before .before .before .before .before .before .before .before .before .pre .0 .columns-length),
       columns-more (a .l .width) stride (take (c .before .before .before .before .before .node2 .given .0 .1 .0) (a .t1 .columns))
           (c .before .before .before .before .before .before .before .before .before .before .pre .1 .narrow) s,

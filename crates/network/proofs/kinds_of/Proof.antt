@@ -1,7 +1,8 @@
 use mathlib.Core.Path.{_≡_, refl, _∙_}
 use Prim.Native.Nat.{_≤_, _-_}
-use lib.ListN.{length, length-set, getD}
+use lib.ListN.{length, length-set, getD, take}
 use Rattle.model.specs.Areas.{padded}
+use Rattle.nodes.specs.Nodes.{listsOf, pairsOf}
 use Rattle.network.specs.Reading.{noSlot}
 use Rattle.network.proofs.Kept.{kindsTo, kinds-more}
 use native.Mathlib.Omega.{arith}
@@ -10,7 +11,7 @@ use Rattle.network.proofs.kinds_of.Statement.{statement}
 use Rattle.network.proofs.kinds_of.Tie as tie
 use Rattle.network.proofs.kinds_of.Reads as reads
 use Rattle.network.proofs.kinds_of.Lts as lts
-use Rattle.nodes.proofs.kind_of.Reads as kind-of-reads
+use Rattle.nodes.proofs.parts_of.Reads as parts-of-reads
 
 abbrev Inv-loop : tie.InvT-loop
 Inv-loop net kinds₀ count i₀ kinds i = (i ≤ count) × (length kinds ≡ 32) × (kinds ≡ padded 32 (kindsTo (net .slots) i))
@@ -27,8 +28,8 @@ mul-slot c = omega (arith, c .before .before .pre .sound .few)
 element-copy-out-slot : tie.Need-element-copy-out-slot Inv-loop μ-loop
 element-copy-out-slot c = omega (arith, c .before .before .pre .sound .few, c .before .before .pre .slots-length)
 
-kind-of-requires : tie.Need-kind-of-requires Inv-loop μ-loop
-kind-of-requires c κs = search needs
+parts-of-requires : tie.Need-parts-of-requires Inv-loop μ-loop
+parts-of-requires c κs = search needs
 
 mul-kinds : tie.Need-mul-kinds Inv-loop μ-loop
 mul-kinds c = omega (arith, c .before .before .before .before .pre .sound .few)
@@ -47,10 +48,10 @@ loop-again c =
     let s = c .before .before .before .before .args .t1 .slots in (
       omega arith,
       simp length-set (c .before .before .before .loop .inv .1),
-      kinds-more s (c .before .before .before .loop .i) (c .kind-of .result) (c .before .before .before .loop .kinds)
+      kinds-more s (c .before .before .before .loop .i) (c .parts-of .result .kind) (c .before .before .before .loop .kinds)
           (omega (arith, c .before .before .before .before .pre .sound .few, c .before .before .before .before .pre .slots-length))
           (omega (arith, c .before .before .before .before .pre .sound .few)) (c .before .before .before .loop .inv .2)
-          (c .kind-of .ensures (getD s (c .before .before .before .loop .i) noSlot .columns) (getD s (c .before .before .before .loop .i) noSlot .pairs)),
+          (c .parts-of .ensures .kind (take (listsOf (getD s (c .before .before .before .loop .i) noSlot .node) .columns) (getD s (c .before .before .before .loop .i) noSlot .columns)) (pairsOf (listsOf (getD s (c .before .before .before .loop .i) noSlot .node) .pairs) (getD s (c .before .before .before .loop .i) noSlot .pairs))),
     )
 
 returns : tie.Need-returns Inv-loop μ-loop
@@ -65,7 +66,7 @@ kinds-of-spec =
     loop-holds
     mul-slot
     element-copy-out-slot
-    kind-of-requires
+    parts-of-requires
     mul-kinds
     array-write-kinds
     add-i
