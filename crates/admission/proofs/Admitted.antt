@@ -21,6 +21,8 @@ use Rattle.model.proofs.Fits.{read-fits, length-widths}
 use Rattle.states.proofs.Fitted.{form-parts, place-good, few-at}
 use Rattle.coherence.proofs.Coherent.{nodes-count, narrow-widths, width-is}
 use Rattle.model.specs.Network as model
+use Rattle.model.specs.Areas.{areaSize, headWords}
+use Rattle.model.specs.Row.{maxNodes, maxWidth}
 
 -- ---- the parts of good form
 
@@ -32,13 +34,13 @@ module _ (net : Network) (b : Built net) (rows gained lost head : List ℕ) (goo
   size : length (widths (nodesOf net)) ≡ net .count
   size = length-widths (nodesOf net) ∙ nodes-count net b
 
-  few : length (widths (nodesOf net)) ≤ 32
+  few : length (widths (nodesOf net)) ≤ maxNodes
   few = rw size (b .sound .few)
 
-  narrow : (i : ℕ) → getD (widths (nodesOf net)) i 0 ≤ 4
+  narrow : (i : ℕ) → getD (widths (nodesOf net)) i 0 ≤ maxWidth
   narrow = narrow-widths net b
 
-  pub rows-places : (8192 ≤ length rows) → (162 ≤ length head) → Places (net .widths) (net .count) rows head
+  pub rows-places : (areaSize ≤ length rows) → (headWords ≤ length head) → Places (net .widths) (net .count) rows head
   rows-places lr lh =
       record {
         few = b .sound .few;
@@ -49,7 +51,7 @@ module _ (net : Network) (b : Built net) (rows gained lost head : List ℕ) (goo
         good = λ i h. rw (← width-is net b i h) (place-good (widths (nodesOf net)) few narrow (rowCount head) rows (parts .0) i (rw size h));
       }
 
-  pub changes-good : (8192 ≤ length gained) → (8192 ≤ length lost) → (162 ≤ length head) → Changes net gained lost head
+  pub changes-good : (areaSize ≤ length gained) → (areaSize ≤ length lost) → (headWords ≤ length head) → Changes net gained lost head
   changes-good lg ll lh =
       record {
         gained-long = lg;
@@ -87,7 +89,7 @@ module _ (net : Bytes) (rows gained lost head : List ℕ) (r : Reading) (f : Adm
     fits : AllFit (nodesOf (r .network))
     fits = rw (ap (λ (x : model.Network). x .nodes) (f .network z)) (read-fits net)
 
-    long : (8192 ≤ length rows) × (8192 ≤ length gained) × (8192 ≤ length lost) × (162 ≤ length head)
+    long : (areaSize ≤ length rows) × (areaSize ≤ length gained) × (areaSize ≤ length lost) × (headWords ≤ length head)
     long = long-parts rows gained lost head (f .long z)
 
     pub checkable : Checkable (r .network) rows head

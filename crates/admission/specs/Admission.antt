@@ -7,8 +7,9 @@ use lib.ListN.{getD, length}
 use Rattle.model.specs.Record.{Bytes}
 use Rattle.model.specs.Network.{readNetwork}
 use Rattle.model.specs.Delta.{Change}
-use Rattle.model.specs.Areas.{Areas, layout, longEnough, goodForm, gainedCount, heldIn, lostCount}
+use Rattle.model.specs.Areas.{Areas, layout, longEnough, goodForm, gainedCount, heldIn, lostCount, areaSize, headWords}
 use Rattle.model.specs.Calls.{formVerdict}
+use Rattle.model.specs.Row.{maxRows}
 use Rattle.network.specs.Reading.{verdictOf, networkOf, nodesOf, Built}
 use Rattle.network.specs.declared.Network.{Network}
 use Rattle.network.specs.declared.Reading.{Reading}
@@ -23,11 +24,11 @@ pub record Admits (net : Bytes) (a : Areas) (r : Reading) : Type 0 where
 
 -- the gained and lost rows are of good form
 pub record Changes (net : Network) (gained lost head : List ℕ) : Type 0 where
-  pub gained-long : 8192 ≤ length gained
-  pub lost-long : 8192 ≤ length lost
-  pub head-long : 162 ≤ length head
-  pub gained-few : (i : ℕ) → i < net .count → gainedCount head i ≤ 64
-  pub lost-few : (i : ℕ) → i < net .count → lostCount head i ≤ 64
+  pub gained-long : areaSize ≤ length gained
+  pub lost-long : areaSize ≤ length lost
+  pub head-long : headWords ≤ length head
+  pub gained-few : (i : ℕ) → i < net .count → gainedCount head i ≤ maxRows
+  pub lost-few : (i : ℕ) → i < net .count → lostCount head i ≤ maxRows
 
 -- a node's gained and lost rows
 abbrev pub changeIn : Network → ℕ → List ℕ → List ℕ → List ℕ → Change

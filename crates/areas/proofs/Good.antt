@@ -8,7 +8,7 @@ use lib.ListN.{drop, getD, length, take}
 use lib.Dec.{eqb, ltb, leb}
 use lib.Seq.{getD-take, length-take-le, slice}
 use borrow.Author.Tests.{lt-leb, ltb-true, leb-true, not-false, not-true}
-use Rattle.model.specs.Row.{allOf, numbersBelow}
+use Rattle.model.specs.Row.{allOf, numbersBelow, maxNodes, maxRows, maxWidth}
 use Rattle.model.specs.Areas.{allZero, emptyPlace, goodArea, goodPlace, heldIn, layout, goodForm, goodStamps, goodWorked, longEnough}
 use Rattle.rows.specs.Rows.{firstRows, goodRows}
 use Rattle.rows.proofs.Checked.{place-checked}
@@ -17,6 +17,7 @@ use Rattle.model.specs.Network.{Node, widths}
 use Rattle.model.proofs.Sets.{and-first, and-second}
 use Rattle.areas.specs.Lent.{countsFrom, lent, placeAt}
 use Rattle.model.proofs.Fits.{length-widths}
+use Rattle.model.specs.Areas.{areaSize, headWords, placeSize, stride}
 
 -- ---- long enough
 
@@ -35,9 +36,9 @@ long-last a b c d e f g = rw (e, f, g)
 
 -- ---- places
 
-pub too-many : (w count : ℕ) (area : List ℕ) (i : ℕ) → 64 < count → goodPlace layout w count area i ≡ false
+pub too-many : (w count : ℕ) (area : List ℕ) (i : ℕ) → maxRows < count → goodPlace layout w count area i ≡ false
 unfolding goodPlace
-too-many w count area i h = rw (lt-leb count 64 h)
+too-many w count area i h = rw (lt-leb count maxRows h)
 
 pub empty-is : (area : List ℕ) (i count : ℕ) → count ≡ 0 → goodPlace layout 0 0 area i ≡ emptyPlace layout count area i
 unfolding goodPlace emptyPlace heldIn
@@ -47,28 +48,28 @@ pub empty-not : (area : List ℕ) (i count : ℕ) → eqb count 0 ≡ false → 
 unfolding emptyPlace
 empty-not area i count e = rw e
 
-pub part-is : (area : List ℕ) (i : ℕ) → placeAt area i ≡ take 256 (drop (256 * i) area)
+pub part-is : (area : List ℕ) (i : ℕ) → placeAt area i ≡ take placeSize (drop (placeSize * i) area)
 part-is area i =
-    let e : i * 256 ≡ 256 * i = omega arith in
-    let f : i * 256 + 256 - i * 256 ≡ 256 = omega arith in
+    let e : i * placeSize ≡ placeSize * i = omega arith in
+    let f : i * placeSize + placeSize - i * placeSize ≡ placeSize = omega arith in
     ap₂ {A = ℕ} {B = ℕ} {C = List ℕ} (λ a b. take a (drop b area)) f e
 
 -- what the check of a place says
-pub place-form : (w count : ℕ) (area part : List ℕ) (i : ℕ) (good clean : Bool) → w ≤ 4 → count ≤ 64 → i < 32 → 8192 ≤ length area → part ≡ take 256 (drop (256 * i) area) →
-    good ≡ goodRows w (firstRows part count) → clean ≡ allZero (slice (count * 4) 256 part) → goodPlace layout w count area i ≡ (good && clean)
+pub place-form : (w count : ℕ) (area part : List ℕ) (i : ℕ) (good clean : Bool) → w ≤ maxWidth → count ≤ maxRows → i < maxNodes → areaSize ≤ length area → part ≡ take placeSize (drop (placeSize * i) area) →
+    good ≡ goodRows w (firstRows part count) → clean ≡ allZero (slice (count * stride) placeSize part) → goodPlace layout w count area i ≡ (good && clean)
 place-form w count area part i good clean narrow few h l p g z =
     sym (place-checked w count area i narrow few (omega arith))
-    ∙ ap (λ (s : List ℕ). goodRows w (firstRows s count) && allZero (slice (count * 4) 256 s)) (sym p)
+    ∙ ap (λ (s : List ℕ). goodRows w (firstRows s count) && allZero (slice (count * stride) placeSize s)) (sym p)
     ∙ ap₂ {A = Bool} {B = Bool} {C = Bool} (λ a b. a && b) (sym g) (sym z)
 
 -- the place with number i is of good form
 abbrev pub nodeGood : List ℕ → ℕ → (ℕ → ℕ) → List ℕ → ℕ → Bool
 nodeGood ws n count area i = cond (ltb i n) (goodPlace layout (getD ws i 0) (count i) area i) (emptyPlace layout (count i) area i)
 
-pub area-is : (ws : List ℕ) (n : ℕ) (count : ℕ → ℕ) (area : List ℕ) → n ≤ length ws → goodArea layout (take n ws) count area ≡ allOf (nodeGood ws n count area) (numbersBelow 32)
+pub area-is : (ws : List ℕ) (n : ℕ) (count : ℕ → ℕ) (area : List ℕ) → n ≤ length ws → goodArea layout (take n ws) count area ≡ allOf (nodeGood ws n count area) (numbersBelow maxNodes)
 unfolding goodArea
 area-is ws n count area h =
-    all-ext (λ i. cond (ltb i (length (take n ws))) (goodPlace layout (getD (take n ws) i 0) (count i) area i) (emptyPlace layout (count i) area i)) (nodeGood ws n count area) 0 32
+    all-ext (λ i. cond (ltb i (length (take n ws))) (goodPlace layout (getD (take n ws) i 0) (count i) area i) (emptyPlace layout (count i) area i)) (nodeGood ws n count area) 0 maxNodes
     (λ i. go i (ltb i n) refl)
   where
     go : (i : ℕ) (t : Bool) → ltb i n ≡ t → cond (ltb i (length (take n ws))) (goodPlace layout (getD (take n ws) i 0) (count i) area i) (emptyPlace layout (count i) area i)
@@ -78,17 +79,17 @@ area-is ws n count area h =
 
 -- ---- all four areas
 
-pub long-parts : (rows gained lost head : List ℕ) → longEnough layout (lent rows gained lost head) ≡ true → (8192 ≤ length rows) × (8192 ≤ length gained) × (8192 ≤ length lost)
-    × (162 ≤ length head)
+pub long-parts : (rows gained lost head : List ℕ) → longEnough layout (lent rows gained lost head) ≡ true → (areaSize ≤ length rows) × (areaSize ≤ length gained) × (areaSize ≤ length lost)
+    × (headWords ≤ length head)
 unfolding longEnough
 long-parts rows gained lost head e =
-    let three : (leb 8192 (length rows) && leb 8192 (length gained) && leb 8192 (length lost))
-    ≡ true = and-first (leb 8192 (length rows) && leb 8192 (length gained) && leb 8192 (length lost)) (leb 162 (length head)) e in
-    let two : (leb 8192 (length rows) && leb 8192 (length gained)) ≡ true = and-first (leb 8192 (length rows) && leb 8192 (length gained)) (leb 8192 (length lost)) three in (
-      leb-true 8192 (length rows) (and-first (leb 8192 (length rows)) (leb 8192 (length gained)) two),
-      leb-true 8192 (length gained) (and-second (leb 8192 (length rows)) (leb 8192 (length gained)) two),
-      leb-true 8192 (length lost) (and-second (leb 8192 (length rows) && leb 8192 (length gained)) (leb 8192 (length lost)) three),
-      leb-true 162 (length head) (and-second (leb 8192 (length rows) && leb 8192 (length gained) && leb 8192 (length lost)) (leb 162 (length head)) e),
+    let three : (leb areaSize (length rows) && leb areaSize (length gained) && leb areaSize (length lost))
+    ≡ true = and-first (leb areaSize (length rows) && leb areaSize (length gained) && leb areaSize (length lost)) (leb headWords (length head)) e in
+    let two : (leb areaSize (length rows) && leb areaSize (length gained)) ≡ true = and-first (leb areaSize (length rows) && leb areaSize (length gained)) (leb areaSize (length lost)) three in (
+      leb-true areaSize (length rows) (and-first (leb areaSize (length rows)) (leb areaSize (length gained)) two),
+      leb-true areaSize (length gained) (and-second (leb areaSize (length rows)) (leb areaSize (length gained)) two),
+      leb-true areaSize (length lost) (and-second (leb areaSize (length rows) && leb areaSize (length gained)) (leb areaSize (length lost)) three),
+      leb-true headWords (length head) (and-second (leb areaSize (length rows) && leb areaSize (length gained) && leb areaSize (length lost)) (leb headWords (length head)) e),
     )
 
 -- good form from the widths alone

@@ -9,6 +9,8 @@ use lib.Dec.{ltb}
 use mathlib.Core.Bool.{Bool, true, false}
 use borrow.Author.Tests.{ltb-true, ltb-false}
 use Rattle.areas.specs.Lent.{placeAt}
+use Rattle.model.specs.Areas.{areaSize, placeSize}
+use Rattle.model.specs.Row.{maxNodes}
 
 module _ (area p : List ℕ) (at n : ℕ) (fits : at + n ≤ length area) (size : n ≤ length p) where
   start : length (take at area) ≡ at
@@ -44,22 +46,22 @@ module _ (area p : List ℕ) (at n : ℕ) (fits : at + n ≤ length area) (size 
       ∙ drop-drop (k - (at + n)) (at + n) area
       ∙ ap (λ (m : ℕ). drop m area) (sym e)
 
-module _ (area p : List ℕ) (i : ℕ) (fits : i * 256 + 256 ≤ length area) (size : 256 ≤ length p) where
-  cut : (j : ℕ) → j * 256 + 256 - j * 256 ≡ 256
+module _ (area p : List ℕ) (i : ℕ) (fits : i * placeSize + placeSize ≤ length area) (size : placeSize ≤ length p) where
+  cut : (j : ℕ) → j * placeSize + placeSize - j * placeSize ≡ placeSize
   cut j = omega arith
 
-  pub place-pasted : placeAt (paste area (i * 256) p 256) i ≡ take 256 p
-  place-pasted = ap (λ (m : ℕ). take m (drop (i * 256) (paste area (i * 256) p 256))) (cut i) ∙ pasted-here area p (i * 256) 256 fits size
+  pub place-pasted : placeAt (paste area (i * placeSize) p placeSize) i ≡ take placeSize p
+  place-pasted = ap (λ (m : ℕ). take m (drop (i * placeSize) (paste area (i * placeSize) p placeSize))) (cut i) ∙ pasted-here area p (i * placeSize) placeSize fits size
 
-  pub place-other : (j : ℕ) → (j ≡ i → ⊥) → placeAt (paste area (i * 256) p 256) j ≡ placeAt area j
+  pub place-other : (j : ℕ) → (j ≡ i → ⊥) → placeAt (paste area (i * placeSize) p placeSize) j ≡ placeAt area j
   place-other j n = go (ltb j i) refl
     where
-      go : (t : Bool) → ltb j i ≡ t → placeAt (paste area (i * 256) p 256) j ≡ placeAt area j
-      go true e = let h : j < i = ltb-true j i e in rw (cut j) (pasted-before area p (i * 256) 256 fits size (j * 256) 256 (omega arith))
-      go false e = let h : i ≤ j = ltb-false j i e in let k : i < j = omega (arith, n) in ap (take (j * 256 + 256 - j * 256))
-          (pasted-after area p (i * 256) 256 fits size (j * 256) (omega arith))
+      go : (t : Bool) → ltb j i ≡ t → placeAt (paste area (i * placeSize) p placeSize) j ≡ placeAt area j
+      go true e = let h : j < i = ltb-true j i e in rw (cut j) (pasted-before area p (i * placeSize) placeSize fits size (j * placeSize) placeSize (omega arith))
+      go false e = let h : i ≤ j = ltb-false j i e in let k : i < j = omega (arith, n) in ap (take (j * placeSize + placeSize - j * placeSize))
+          (pasted-after area p (i * placeSize) placeSize fits size (j * placeSize) (omega arith))
 
 -- a place has its words
-pub place-long : (area : List ℕ) (i : ℕ) → i < 32 → 8192 ≤ length area → length (placeAt area i) ≡ 256
-place-long area i h l = let e : i * 256 + 256 - i * 256 ≡ 256 = omega arith in ap (λ (m : ℕ). length (take m (drop (i * 256) area))) e
-    ∙ length-take-le 256 (drop (i * 256) area) (rw (length-drop (i * 256) area) (omega arith))
+pub place-long : (area : List ℕ) (i : ℕ) → i < maxNodes → areaSize ≤ length area → length (placeAt area i) ≡ placeSize
+place-long area i h l = let e : i * placeSize + placeSize - i * placeSize ≡ placeSize = omega arith in ap (λ (m : ℕ). length (take m (drop (i * placeSize) area))) e
+    ∙ length-take-le placeSize (drop (i * placeSize) area) (rw (length-drop (i * placeSize) area) (omega arith))

@@ -2,7 +2,7 @@
 use mathlib.Core.List.{List}
 use Prim.Native.Nat.{ℕ, _+_, _-_, _*_}
 use lib.ListN.{getD, take, drop}
-use Rattle.model.specs.Areas.{Areas}
+use Rattle.model.specs.Areas.{Areas, placeSize}
 
 -- the four areas
 abbrev pub lent : List ℕ → List ℕ → List ℕ → List ℕ → Areas
@@ -14,4 +14,4 @@ countsFrom head first i = getD head (first + i) 0
 
 -- the part of an area that is lent as a node's place
 abbrev pub placeAt : List ℕ → ℕ → List ℕ
-placeAt area i = take (i * 256 + 256 - i * 256) (drop (i * 256) area)
+placeAt area i = take (i * placeSize + placeSize - i * placeSize) (drop (i * placeSize) area)

@@ -2,37 +2,39 @@
 ghost use mathlib.Core.Path.{_≡_};
 ghost use mathlib.Core.Bool.{true, false, cond};
 ghost use mathlib.Core.List.{List};
-ghost use Prim.Native.Nat.{_+_, _*_, _≤_, _<_};
+ghost use Prim.Native.Nat.{_+_, _-_, _*_, _≤_, _<_};
 ghost use lib.Dec.{ltb, leb, eqb};
 ghost use lib.ListN.{length, getD, take};
 ghost use Rattle.model.specs.Network.{Node, widths};
 ghost use Rattle.model.specs.Areas.{layout, longEnough, goodPlace, emptyPlace, goodArea, goodStamps, goodWorked, goodForm, stampAt, workedAt};
+ghost use Rattle.model.specs.Areas.{areaSize, headWords};
+ghost use Rattle.model.specs.Row.{maxNodes, maxWidth};
 ghost use Rattle.nodes.specs.Nodes.{Narrow};
 ghost use Rattle.areas.specs.Lent.{lent, countsFrom};
+use nodes::MAX_NODES;
+use rows::MAX_ROWS;
 use rows::STRIDE;
 
-// How many rows and words a node's place has, and how many nodes there may be.
-pub const CAPACITY: usize = 64;
+// How many words a node's place has.
+pub const PLACE: usize = MAX_ROWS * STRIDE;
 
-pub const PLACE: usize = 256;
+// The named words of rows, gained and lost.
+pub const AREA: usize = MAX_NODES * PLACE;
 
-pub const NODES: usize = 32;
-
-// The named words of rows, gained and lost, and those of the head.
-pub const AREA: usize = 8192;
-
-pub const HEAD: usize = 162;
-
-// Where the head's lists begin.
+// Where the head's lists begin, one behind the other after the batch number.
 pub const ROW_COUNTS: usize = 1;
 
-pub const STAMPS: usize = 33;
+pub const STAMPS: usize = ROW_COUNTS + MAX_NODES;
 
-pub const GAINED_COUNTS: usize = 65;
+pub const GAINED_COUNTS: usize = STAMPS + MAX_NODES;
 
-pub const LOST_COUNTS: usize = 97;
+pub const LOST_COUNTS: usize = GAINED_COUNTS + MAX_NODES;
 
-pub const WORKED: usize = 129;
+// How many nodes were worked on; their numbers stand behind it.
+pub const WORKED: usize = LOST_COUNTS + MAX_NODES;
+
+// The named words of the head.
+pub const HEAD: usize = WORKED + 1 + MAX_NODES;
 
 // Whether every area has its named words.
 pub fn long_enough(rows: &[u32], gained: &[u32], lost: &[u32], head: &[u32]) -> bool
@@ -55,10 +57,10 @@ pub fn long_enough(rows: &[u32], gained: &[u32], lost: &[u32], head: &[u32]) -> 
 
 // Whether node i's place is of good form, given its rows' width and their count.
 fn good_place(area: &[u32], i: usize, width: usize, count: usize) -> bool
-    requires { ⌜ (i < 32) × (8192 ≤ length (now area)) × (width ≤ 4) ⌝ }
+    requires { ⌜ (i < maxNodes) × (areaSize ≤ length (now area)) × (width ≤ maxWidth) ⌝ }
     ensures { λ r. ⌜ r ≡ goodPlace layout width count (now (area .entry)) i ⌝ }
 {
-    if CAPACITY < count {
+    if MAX_ROWS < count {
         return false;
     }
     let place = &area[i * PLACE..i * PLACE + PLACE];
@@ -70,7 +72,7 @@ fn good_place(area: &[u32], i: usize, width: usize, count: usize) -> bool
 
 // Whether the place of a number past the last node has 0 throughout.
 fn empty_place(area: &[u32], i: usize, count: usize) -> bool
-    requires { ⌜ (i < 32) × (8192 ≤ length (now area)) ⌝ }
+    requires { ⌜ (i < maxNodes) × (areaSize ≤ length (now area)) ⌝ }
     ensures { λ r. ⌜ r ≡ emptyPlace layout count (now (area .entry)) i ⌝ }
 {
     if count != 0 {
@@ -81,7 +83,7 @@ fn empty_place(area: &[u32], i: usize, count: usize) -> bool
 
 // Whether the place with number i is of good form, in a network of n nodes.
 fn good_node(area: &[u32], widths: &[usize], n: usize, head: &[u32], first: usize, i: usize) -> bool
-    requires { ⌜ (i < 32) × (8192 ≤ length (now area)) × (n ≤ length (now widths)) × Narrow (now widths) × (162 ≤ length (now head)) × (first ≤ 130) ⌝ }
+    requires { ⌜ (i < maxNodes) × (areaSize ≤ length (now area)) × (n ≤ length (now widths)) × Narrow (now widths) × (headWords ≤ length (now head)) × (first ≤ headWords - maxNodes) ⌝ }
     ensures { λ r. ⌜ r ≡ cond (ltb i n)
         (goodPlace layout (getD (now (widths .entry)) i 0) (countsFrom (now (head .entry)) first i) (now (area .entry)) i)
         (emptyPlace layout (countsFrom (now (head .entry)) first i) (now (area .entry)) i) ⌝ }
@@ -95,11 +97,11 @@ fn good_node(area: &[u32], widths: &[usize], n: usize, head: &[u32], first: usiz
 
 // Whether every place of an area is of good form, in a network of n nodes, the counts standing in the head from a word on.
 fn good_area(area: &[u32], widths: &[usize], n: usize, head: &[u32], first: usize) -> bool
-    requires { ⌜ (8192 ≤ length (now area)) × (n ≤ length (now widths)) × Narrow (now widths) × (162 ≤ length (now head)) × (first ≤ 130) ⌝ }
+    requires { ⌜ (areaSize ≤ length (now area)) × (n ≤ length (now widths)) × Narrow (now widths) × (headWords ≤ length (now head)) × (first ≤ headWords - maxNodes) ⌝ }
     ensures { λ r. ⌜ r ≡ goodArea layout (take n (now (widths .entry))) (countsFrom (now (head .entry)) first) (now (area .entry)) ⌝ }
 {
     let mut i = 0;
-    while i < NODES {
+    while i < MAX_NODES {
         if !good_node(area, widths, n, head, first, i) {
             return false;
         }
@@ -110,7 +112,7 @@ fn good_area(area: &[u32], widths: &[usize], n: usize, head: &[u32], first: usiz
 
 // Whether node i's change stamp is at most the batch number, or 0 past the last node.
 fn good_stamp(head: &[u32], n: usize, number: u32, i: usize) -> bool
-    requires { ⌜ (162 ≤ length (now head)) × (i < 32) ⌝ }
+    requires { ⌜ (headWords ≤ length (now head)) × (i < maxNodes) ⌝ }
     ensures { λ r. ⌜ r ≡ leb (stampAt (now (head .entry)) i) (cond (ltb i n) number 0) ⌝ }
 {
     let stamp = head[STAMPS + i];
@@ -122,12 +124,12 @@ fn good_stamp(head: &[u32], n: usize, number: u32, i: usize) -> bool
 
 // Whether every change stamp is in order, in a network of n nodes.
 fn good_stamps(head: &[u32], n: usize) -> bool
-    requires { ⌜ 162 ≤ length (now head) ⌝ }
+    requires { ⌜ headWords ≤ length (now head) ⌝ }
     ensures { λ r. ⌜ r ≡ goodStamps n (now (head .entry)) ⌝ }
 {
     let number = head[0];
     let mut node = 0;
-    while node < NODES {
+    while node < MAX_NODES {
         if !good_stamp(head, n, number, node) {
             return false;
         }
@@ -138,7 +140,7 @@ fn good_stamps(head: &[u32], n: usize) -> bool
 
 // Whether entry k of the worked list is a node's number, or 0 past those that are counted.
 fn good_entry(head: &[u32], n: usize, counted: usize, k: usize) -> bool
-    requires { ⌜ (162 ≤ length (now head)) × (k < 32) ⌝ }
+    requires { ⌜ (headWords ≤ length (now head)) × (k < maxNodes) ⌝ }
     ensures { λ r. ⌜ r ≡ cond (ltb k counted) (ltb (workedAt (now (head .entry)) k) n) (eqb (workedAt (now (head .entry)) k) 0) ⌝ }
 {
     let entry = head[WORKED + 1 + k];
@@ -150,7 +152,7 @@ fn good_entry(head: &[u32], n: usize, counted: usize, k: usize) -> bool
 
 // Whether the worked list is in order, in a network of n nodes.
 fn good_worked(head: &[u32], n: usize) -> bool
-    requires { ⌜ 162 ≤ length (now head) ⌝ }
+    requires { ⌜ headWords ≤ length (now head) ⌝ }
     ensures { λ r. ⌜ r ≡ goodWorked n (now (head .entry)) ⌝ }
 {
     let counted = head[WORKED] as usize;
@@ -158,7 +160,7 @@ fn good_worked(head: &[u32], n: usize) -> bool
         return false;
     }
     let mut k = 0;
-    while k < NODES {
+    while k < MAX_NODES {
         if !good_entry(head, n, counted, k) {
             return false;
         }

@@ -13,7 +13,7 @@ use Rattle.model.specs.Areas.{Areas, holding, holdingRows, layout, coherent, ov
 use Rattle.model.specs.Station.{Step, State, limit, refusedStep, advance, advanceRows, step, lastNumber, applyEvents}
 use Rattle.model.specs.Record.{isAccepted, refused, accepted, Bytes, Verdict}
 use Rattle.model.specs.Calls.{resultOf, promiseOf, settled, free, Result, Keeps, Free, freelyRefused, freelyAccepted}
-use Rattle.model.specs.Row.{Relation, numbersBelow}
+use Rattle.model.specs.Row.{Relation, numbersBelow, maxNodes}
 use Rattle.network.specs.declared.Network.{Network}
 use Rattle.batch.specs.Applying.{Applicable, AppliedTo, Unrefused}
 use Rattle.areas.specs.Lent.{lent}
@@ -38,6 +38,7 @@ use Rattle.changes.specs.Written.{WorkedOut}
 use Rattle.areas.proofs.Good.{long-parts}
 use Rattle.changes.proofs.Out.{changes-count, gained-fit, lost-fit}
 use Rattle.model.proofs.Parts.{length-counted}
+use Rattle.model.specs.Areas.{areaSize, headWords}
 use Rattle.states.proofs.Changes.{stamps-length}
 use Rattle.states.proofs.Head.{head-size, head-length}
 use Rattle.states.proofs.Worked.{worked-few}
@@ -201,23 +202,23 @@ module _ (net : Network) (bs : Bytes) (rows gained lost head : List ℕ) (can : 
       under : overfull 0 (newRows net rows head bs) ≡ []
       under = all-under 0 (newRows net rows head bs) (λ i h. to .worked i (rw new-many at h) .few)
 
-      few : net .count ≤ 32
+      few : net .count ≤ maxNodes
       few = can .checkable .built .sound .few
 
-      longs : (8192 ≤ length rows) × (8192 ≤ length gained) × (8192 ≤ length lost) × (162 ≤ length head)
+      longs : (areaSize ≤ length rows) × (areaSize ≤ length gained) × (areaSize ≤ length lost) × (headWords ≤ length head)
       longs = long-parts rows gained lost head (can .long)
 
       changes-many : length (next .changes) ≡ net .count
       changes-many = changes-count net rows gained lost head work counts changed worked-out
 
-      stamps-many : length (next .stamps) ≤ 32
+      stamps-many : length (next .stamps) ≤ maxNodes
       unfolding stateIn
       stamps-many =
           let earlier : length (map (stampAt head) (numbersBelow (length (nodesOf net)))) ≡ length (nodesOf net) = length-counted (stampAt head) 0 (length (nodesOf net)) in
           rw (stamps-length (batchNumber head + 1) (next .changes) (map (stampAt head) (numbersBelow (length (nodesOf net))))
           (changes-many ∙ sym (earlier ∙ nodes-count net (can .checkable .built))) ∙ earlier ∙ nodes-count net (can .checkable .built)) few
 
-      head-words : length (headOf (newRows net rows head bs) next) ≡ 162
+      head-words : length (headOf (newRows net rows head bs) next) ≡ headWords
       head-words =
           head-size (newRows net rows head bs) next (rw new-many few) stamps-many (rw changes-many few)
           (omega (arith, few, worked-few (nodesOf net) (next .changes), nodes-count net (can .checkable .built)))
@@ -225,20 +226,20 @@ module _ (net : Network) (bs : Bytes) (rows gained lost head : List ℕ) (can : 
       -- no word past the named ones
       keeps-rest : KeepsRest layout (lent rows gained lost head) (holdingRows layout (newRows net rows head bs) next (lent rows gained lost head))
       keeps-rest =
-          let r : length (areaOf layout (newRows net rows head bs)) ≡ 8192 = area-length (widths (nodesOf net)) (newRows net rows head bs) fits in
-          let g : length (areaOf layout (map (λ c. c .gained) (next .changes))) ≡ 8192 = area-length (widths (nodesOf net)) (map (λ c. c .gained) (next .changes))
+          let r : length (areaOf layout (newRows net rows head bs)) ≡ areaSize = area-length (widths (nodesOf net)) (newRows net rows head bs) fits in
+          let g : length (areaOf layout (map (λ c. c .gained) (next .changes))) ≡ areaSize = area-length (widths (nodesOf net)) (map (λ c. c .gained) (next .changes))
           (gained-fit net rows gained lost head work counts changed worked-out) in
-          let l : length (areaOf layout (map (λ c. c .lost) (next .changes))) ≡ 8192 = area-length (widths (nodesOf net)) (map (λ c. c .lost) (next .changes))
+          let l : length (areaOf layout (map (λ c. c .lost) (next .changes))) ≡ areaSize = area-length (widths (nodesOf net)) (map (λ c. c .lost) (next .changes))
           (lost-fit net rows gained lost head work counts changed worked-out) in
           record {
             rows-length = over-length (areaOf layout (newRows net rows head bs)) rows (rw r (longs .0));
-            rows = over-rest (areaOf layout (newRows net rows head bs)) rows 8192 r;
+            rows = over-rest (areaOf layout (newRows net rows head bs)) rows areaSize r;
             gained-length = over-length (areaOf layout (map (λ c. c .gained) (next .changes))) gained (rw g (longs .1));
-            gained = over-rest (areaOf layout (map (λ c. c .gained) (next .changes))) gained 8192 g;
+            gained = over-rest (areaOf layout (map (λ c. c .gained) (next .changes))) gained areaSize g;
             lost-length = over-length (areaOf layout (map (λ c. c .lost) (next .changes))) lost (rw l (longs .2));
-            lost = over-rest (areaOf layout (map (λ c. c .lost) (next .changes))) lost 8192 l;
+            lost = over-rest (areaOf layout (map (λ c. c .lost) (next .changes))) lost areaSize l;
             head-length = over-length (headOf (newRows net rows head bs) next) head (rw head-words (longs .3));
-            head = over-rest (headOf (newRows net rows head bs) next) head 162 head-words;
+            head = over-rest (headOf (newRows net rows head bs) next) head headWords head-words;
           }
 
       -- from coherent areas they hold the plain station's next state

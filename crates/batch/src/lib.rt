@@ -3,9 +3,9 @@ ghost use Rattle.areas.specs.Lent.{lent};
 ghost use Rattle.network.specs.Reading.{resultWith};
 ghost use Rattle.batch.specs.Applying.{Applicable, AppliedTo, Unrefused};
 use areas::AREA;
-use areas::NODES;
 use network::Network;
 use network::Verdict;
+use nodes::MAX_NODES;
 use propagation::Propagated;
 
 // The largest batch number.
@@ -25,8 +25,8 @@ fn advance(
         (resultWith r (lent (now (rows .exit)) (now (gained .exit)) (now (lost .exit)) (now (head .exit)))) ⌝ }
 {
     let mut work = [0u32; AREA];
-    let mut counts = [0u32; NODES];
-    let mut changed = [false; NODES];
+    let mut counts = [0u32; MAX_NODES];
+    let mut changed = [false; MAX_NODES];
     let done = propagation::propagate(net, bytes, rows, head, &mut work, &mut counts, &mut changed);
     let Propagated::All = done else {
         return propagation::verdict_of(done);

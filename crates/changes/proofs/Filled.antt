@@ -7,8 +7,8 @@ use native.Mathlib.Nat.{zero-add, not-suc-le-zero, le-of-suc-le-suc, zero-mul}
 use native.Mathlib.Omega.{arith}
 use lib.Seq.{take-nil, take-add, take-all, paste, drop-drop, drop-append-add, take-suc, take-at, take-length}
 use Rattle.areas.specs.Lent.{placeAt}
-use Rattle.model.specs.Row.{Relation}
-use Rattle.model.specs.Areas.{placeOf, layout, over, areaOf}
+use Rattle.model.specs.Row.{Relation, maxNodes, maxRows}
+use Rattle.model.specs.Areas.{placeOf, layout, over, areaOf, areaSize, placeSize, stride}
 use Rattle.changes.specs.Written.{placed, filled}
 use Rattle.places.specs.Places.{Place, relationIn}
 use Rattle.places.proofs.Places.{place-few, place-count, place-is, place-wide}
@@ -23,55 +23,55 @@ drop-take (suc a) b (x ∷ l) = let e : suc a + b ≡ suc (a + b) = omega arith 
 
 -- ---- one place
 
-module _ (area : List ℕ) (i : ℕ) (fits : i * 256 + 256 ≤ length area) where
-  cut : i * 256 + 256 - i * 256 ≡ 256
+module _ (area : List ℕ) (i : ℕ) (fits : i * placeSize + placeSize ≤ length area) where
+  cut : i * placeSize + placeSize - i * placeSize ≡ placeSize
   cut = omega arith
 
-  whole : take (i * 256) area ++ placeAt area i ++ drop (i * 256 + 256) area ≡ area
+  whole : take (i * placeSize) area ++ placeAt area i ++ drop (i * placeSize + placeSize) area ≡ area
   whole =
-      ap (λ (n : ℕ). take (i * 256) area ++ take n (drop (i * 256) area) ++ drop (i * 256 + 256) area) cut
-      ∙ ap (λ (l : List ℕ). l ++ drop (i * 256 + 256) area) (sym (take-add (i * 256) 256 area))
-      ∙ take-append-drop (i * 256 + 256) area
+      ap (λ (n : ℕ). take (i * placeSize) area ++ take n (drop (i * placeSize) area) ++ drop (i * placeSize + placeSize) area) cut
+      ∙ ap (λ (l : List ℕ). l ++ drop (i * placeSize + placeSize) area) (sym (take-add (i * placeSize) placeSize area))
+      ∙ take-append-drop (i * placeSize + placeSize) area
 
   -- rows written where they stand already
-  pub placed-same : (rel : Relation) → length (placeOf layout rel) ≡ 256 → placeAt area i ≡ placeOf layout rel → area ≡ placed area i rel
-  placed-same rel size e = sym (ap (λ (l : List ℕ). take (i * 256) area ++ l ++ drop (i * 256 + 256) area) (take-all 256 (placeOf layout rel) (omega (arith, size)) ∙ sym e) ∙ whole)
+  pub placed-same : (rel : Relation) → length (placeOf layout rel) ≡ placeSize → placeAt area i ≡ placeOf layout rel → area ≡ placed area i rel
+  placed-same rel size e = sym (ap (λ (l : List ℕ). take (i * placeSize) area ++ l ++ drop (i * placeSize + placeSize) area) (take-all placeSize (placeOf layout rel) (omega (arith, size)) ∙ sym e) ∙ whole)
 
   -- the words of the rows set to 0
   pub placed-none : (w count : ℕ) (after : List ℕ) → Place w (placeAt area i) count →
-      after ≡ paste area (i * 256) (replicate (i * 256 + count * 4 - i * 256) 0) (i * 256 + count * 4 - i * 256) → after ≡ placed area i []
+      after ≡ paste area (i * placeSize) (replicate (i * placeSize + count * stride - i * placeSize) 0) (i * placeSize + count * stride - i * placeSize) → after ≡ placed area i []
   unfolding placeOf
   placed-none w count after p e =
-      let few : count ≤ 64 = place-few w (placeAt area i) count p in
-      let n : ℕ = count * 4 in
-      let cut′ : i * 256 + count * 4 - i * 256 ≡ count * 4 = omega arith in
-      let split : 256 ≡ count * 4 + (256 - count * 4) = omega arith in
+      let few : count ≤ maxRows = place-few w (placeAt area i) count p in
+      let n : ℕ = count * stride in
+      let cut′ : i * placeSize + count * stride - i * placeSize ≡ count * stride = omega arith in
+      let split : placeSize ≡ count * stride + (placeSize - count * stride) = omega arith in
       let rel : Relation = relationIn w (placeAt area i) count in
       let size : length (relationIn w (placeAt area i) count) ≡ count = place-count w (placeAt area i) count p in
-      let tail : drop (count * 4) (placeAt area i) ≡ replicate (256 - count * 4) 0 =
-      ap (drop (count * 4)) (place-is w (placeAt area i) count p) ∙ ap (λ (k : ℕ). drop (k * 4) (placeOf layout (relationIn w (placeAt area i) count))) (sym size)
-      ∙ rest-zero w (relationIn w (placeAt area i) count) (p .narrow) (place-wide w (placeAt area i) count p) (rw size few) ∙ ap (λ (k : ℕ). replicate (256 - k * 4) 0) size in
-      let same : take (256 - count * 4) (drop (i * 256 + count * 4) area) ≡ replicate (256 - count * 4) 0 =
-      ap (take (256 - count * 4)) (sym (drop-drop (count * 4) (i * 256) area)) ∙ sym (drop-take (count * 4) (256 - count * 4) (drop (i * 256) area))
-      ∙ ap (λ (k : ℕ). drop (count * 4) (take k (drop (i * 256) area))) (sym split ∙ sym cut) ∙ tail in
-      let rest : drop (i * 256 + count * 4) area ≡ replicate (256 - count * 4) 0 ++ drop (i * 256 + 256) area =
-      sym (take-append-drop (256 - count * 4) (drop (i * 256 + count * 4) area))
+      let tail : drop (count * stride) (placeAt area i) ≡ replicate (placeSize - count * stride) 0 =
+      ap (drop (count * stride)) (place-is w (placeAt area i) count p) ∙ ap (λ (k : ℕ). drop (k * stride) (placeOf layout (relationIn w (placeAt area i) count))) (sym size)
+      ∙ rest-zero w (relationIn w (placeAt area i) count) (p .narrow) (place-wide w (placeAt area i) count p) (rw size few) ∙ ap (λ (k : ℕ). replicate (placeSize - k * stride) 0) size in
+      let same : take (placeSize - count * stride) (drop (i * placeSize + count * stride) area) ≡ replicate (placeSize - count * stride) 0 =
+      ap (take (placeSize - count * stride)) (sym (drop-drop (count * stride) (i * placeSize) area)) ∙ sym (drop-take (count * stride) (placeSize - count * stride) (drop (i * placeSize) area))
+      ∙ ap (λ (k : ℕ). drop (count * stride) (take k (drop (i * placeSize) area))) (sym split ∙ sym cut) ∙ tail in
+      let rest : drop (i * placeSize + count * stride) area ≡ replicate (placeSize - count * stride) 0 ++ drop (i * placeSize + placeSize) area =
+      sym (take-append-drop (placeSize - count * stride) (drop (i * placeSize + count * stride) area))
       ∙ ap₂ {A = List ℕ} {B = List ℕ} {C = List ℕ} (λ a b. a ++ b) same
-      (drop-drop (256 - count * 4) (i * 256 + count * 4) area ∙ ap (λ (k : ℕ). drop k area) (let f : i * 256 + count * 4 + (256 - count * 4) ≡ i * 256 + 256 = omega arith in f)) in
-      let zeros : replicate {A = ℕ} (count * 4) 0 ++ replicate (256 - count * 4) 0 ≡ placeOf layout [] = replicate-append-replicate {A = ℕ} (count * 4) (256 - count * 4) 0
+      (drop-drop (placeSize - count * stride) (i * placeSize + count * stride) area ∙ ap (λ (k : ℕ). drop k area) (let f : i * placeSize + count * stride + (placeSize - count * stride) ≡ i * placeSize + placeSize = omega arith in f)) in
+      let zeros : replicate {A = ℕ} (count * stride) 0 ++ replicate (placeSize - count * stride) 0 ≡ placeOf layout [] = replicate-append-replicate {A = ℕ} (count * stride) (placeSize - count * stride) 0
       ∙ ap (λ (k : ℕ). replicate {A = ℕ} k 0) (sym split) ∙ place-none in
       e
-      ∙ ap (λ (k : ℕ). paste area (i * 256) (replicate k 0) k) cut′
-      ∙ ap₂ {A = List ℕ} {B = List ℕ} {C = List ℕ} (λ a b. take (i * 256) area ++ a ++ b)
-      (take-all (count * 4) (replicate (count * 4) 0) (omega (arith, length-replicate {A = ℕ} (count * 4) 0))) rest
-      ∙ sym (append-assoc (take (i * 256) area ++ replicate (count * 4) 0) (replicate (256 - count * 4) 0) (drop (i * 256 + 256) area))
-      ∙ ap (λ (l : List ℕ). l ++ drop (i * 256 + 256) area) (append-assoc (take (i * 256) area) (replicate (count * 4) 0) (replicate (256 - count * 4) 0))
-      ∙ ap (λ (l : List ℕ). take (i * 256) area ++ l ++ drop (i * 256 + 256) area) zeros
+      ∙ ap (λ (k : ℕ). paste area (i * placeSize) (replicate k 0) k) cut′
+      ∙ ap₂ {A = List ℕ} {B = List ℕ} {C = List ℕ} (λ a b. take (i * placeSize) area ++ a ++ b)
+      (take-all (count * stride) (replicate (count * stride) 0) (omega (arith, length-replicate {A = ℕ} (count * stride) 0))) rest
+      ∙ sym (append-assoc (take (i * placeSize) area ++ replicate (count * stride) 0) (replicate (placeSize - count * stride) 0) (drop (i * placeSize + placeSize) area))
+      ∙ ap (λ (l : List ℕ). l ++ drop (i * placeSize + placeSize) area) (append-assoc (take (i * placeSize) area) (replicate (count * stride) 0) (replicate (placeSize - count * stride) 0))
+      ∙ ap (λ (l : List ℕ). take (i * placeSize) area ++ l ++ drop (i * placeSize + placeSize) area) zeros
 
 -- ---- all places
 
 -- the words of the first i places
-pub flat-take : (rels : List Relation) (i : ℕ) → Sized rels → i ≤ length rels → length (flatMap (placeOf layout) (take i rels)) ≡ i * 256
+pub flat-take : (rels : List Relation) (i : ℕ) → Sized rels → i ≤ length rels → length (flatMap (placeOf layout) (take i rels)) ≡ i * placeSize
 unfolding flatMap Sized
 flat-take rels zero s h = refl
 flat-take [] (suc i) s h = absurd (not-suc-le-zero h)
@@ -81,26 +81,26 @@ flat-take (r ∷ rels) (suc i) s h =
 module _ (rels : List Relation) (area : List ℕ) (s : Sized rels) where
   pub filled-none : area ≡ filled rels 0 area
   unfolding flatMap
-  filled-none = ap (λ (k : ℕ). drop k area) (sym (zero-mul 256))
+  filled-none = ap (λ (k : ℕ). drop k area) (sym (zero-mul placeSize))
 
   module _ (i : ℕ) (h : i ≤ length rels) where
-    front : length (flatMap (placeOf layout) (take i rels)) ≡ i * 256
+    front : length (flatMap (placeOf layout) (take i rels)) ≡ i * placeSize
     front = flat-take rels i s h
 
-    past : (k : ℕ) → i * 256 ≤ k → drop k (filled rels i area) ≡ drop k area
+    past : (k : ℕ) → i * placeSize ≤ k → drop k (filled rels i area) ≡ drop k area
     past k g =
-        let e : k ≡ length (flatMap (placeOf layout) (take i rels)) + (k - i * 256) = omega (arith, front) in
+        let e : k ≡ length (flatMap (placeOf layout) (take i rels)) + (k - i * placeSize) = omega (arith, front) in
         ap (λ (n : ℕ). drop n (filled rels i area)) e
-        ∙ drop-append-add (flatMap (placeOf layout) (take i rels)) (drop (i * 256) area) (k - i * 256)
-        ∙ drop-drop (k - i * 256) (i * 256) area
-        ∙ ap (λ (n : ℕ). drop n area) (let f : i * 256 + (k - i * 256) ≡ k = omega arith in f)
+        ∙ drop-append-add (flatMap (placeOf layout) (take i rels)) (drop (i * placeSize) area) (k - i * placeSize)
+        ∙ drop-drop (k - i * placeSize) (i * placeSize) area
+        ∙ ap (λ (n : ℕ). drop n area) (let f : i * placeSize + (k - i * placeSize) ≡ k = omega arith in f)
 
     -- a place that is still to be written
     pub filled-later : (j : ℕ) → i ≤ j → placeAt (filled rels i area) j ≡ placeAt area j
-    filled-later j g = ap (take (j * 256 + 256 - j * 256)) (past (j * 256) (omega arith))
+    filled-later j g = ap (take (j * placeSize + placeSize - j * placeSize)) (past (j * placeSize) (omega arith))
 
-    pub filled-length : i * 256 ≤ length area → length (filled rels i area) ≡ length area
-    filled-length g = length-append (flatMap (placeOf layout) (take i rels)) (drop (i * 256) area) ∙ rw (length-drop (i * 256) area, front) (omega arith)
+    pub filled-length : i * placeSize ≤ length area → length (filled rels i area) ≡ length area
+    filled-length g = length-append (flatMap (placeOf layout) (take i rels)) (drop (i * placeSize) area) ∙ rw (length-drop (i * placeSize) area, front) (omega arith)
 
   -- one place more
   pub filled-more : (i : ℕ) → i < length rels → placed (filled rels i area) i (getD rels i []) ≡ filled rels (i + 1) area
@@ -111,54 +111,54 @@ module _ (rels : List Relation) (area : List ℕ) (s : Sized rels) where
       let next : flatMap (placeOf layout) (take (i + 1) rels) ≡ flatMap (placeOf layout) (take i rels) ++ placeOf layout (getD rels i []) =
       ap (λ (k : ℕ). flatMap (placeOf layout) (take k rels)) e ∙ ap (flatMap (placeOf layout)) (take-suc rels i [] h) ∙ flat-append (placeOf layout) (take i rels) (getD rels i [] ∷ [])
       ∙ ap (λ (l : List ℕ). flatMap (placeOf layout) (take i rels) ++ l) (flat-one (placeOf layout) (getD rels i [])) in
-      ap₂ {A = List ℕ} {B = List ℕ} {C = List ℕ} (λ a b. a ++ take 256 (placeOf layout (getD rels i [])) ++ b)
-      (take-at (flatMap (placeOf layout) (take i rels)) (drop (i * 256) area) (i * 256) (front i (omega arith))) (past i (omega arith) (i * 256 + 256) (omega arith))
+      ap₂ {A = List ℕ} {B = List ℕ} {C = List ℕ} (λ a b. a ++ take placeSize (placeOf layout (getD rels i [])) ++ b)
+      (take-at (flatMap (placeOf layout) (take i rels)) (drop (i * placeSize) area) (i * placeSize) (front i (omega arith))) (past i (omega arith) (i * placeSize + placeSize) (omega arith))
       ∙ ap₂ {A = List ℕ} {B = ℕ} {C = List ℕ} (λ a k. flatMap (placeOf layout) (take i rels) ++ a ++ drop k area)
-      (take-all 256 (placeOf layout (getD rels i [])) (omega (arith, place-size i h))) (let f : i * 256 + 256 ≡ (i + 1) * 256 = omega arith in f)
-      ∙ ap (λ (l : List ℕ). l ++ drop ((i + 1) * 256) area) (sym next)
+      (take-all placeSize (placeOf layout (getD rels i [])) (omega (arith, place-size i h))) (let f : i * placeSize + placeSize ≡ (i + 1) * placeSize = omega arith in f)
+      ∙ ap (λ (l : List ℕ). l ++ drop ((i + 1) * placeSize) area) (sym next)
     where
-      place-size : (j : ℕ) → j < length rels → length (placeOf layout (getD rels j [])) ≡ 256
+      place-size : (j : ℕ) → j < length rels → length (placeOf layout (getD rels j [])) ≡ placeSize
       place-size j g = s j g
 
 -- places that are all 0
-zeros-to : (area : List ℕ) (k n : ℕ) → n + k ≡ 32 → ((j : ℕ) → n ≤ j → j < 32 → placeAt area j ≡ replicate 256 0) → take (k * 256) (drop (n * 256) area) ≡ replicate (k * 256) 0
-zeros-to area zero n e z = ap (λ (m : ℕ). take m (drop (n * 256) area)) (zero-mul 256) ∙ ap (λ (m : ℕ). replicate {A = ℕ} m 0) (sym (zero-mul 256))
+zeros-to : (area : List ℕ) (k n : ℕ) → n + k ≡ maxNodes → ((j : ℕ) → n ≤ j → j < maxNodes → placeAt area j ≡ replicate placeSize 0) → take (k * placeSize) (drop (n * placeSize) area) ≡ replicate (k * placeSize) 0
+zeros-to area zero n e z = ap (λ (m : ℕ). take m (drop (n * placeSize) area)) (zero-mul placeSize) ∙ ap (λ (m : ℕ). replicate {A = ℕ} m 0) (sym (zero-mul placeSize))
 zeros-to area (suc k) n e z =
-    let f : suc k * 256 ≡ 256 + k * 256 = omega arith in
-    let cut : n * 256 + 256 - n * 256 ≡ 256 = omega arith in
-    let g : n * 256 + 256 ≡ suc n * 256 = omega arith in
-    ap (λ (m : ℕ). take m (drop (n * 256) area)) f
-    ∙ take-add 256 (k * 256) (drop (n * 256) area)
+    let f : suc k * placeSize ≡ placeSize + k * placeSize = omega arith in
+    let cut : n * placeSize + placeSize - n * placeSize ≡ placeSize = omega arith in
+    let g : n * placeSize + placeSize ≡ suc n * placeSize = omega arith in
+    ap (λ (m : ℕ). take m (drop (n * placeSize) area)) f
+    ∙ take-add placeSize (k * placeSize) (drop (n * placeSize) area)
     ∙ ap₂ {A = List ℕ} {B = List ℕ} {C = List ℕ} (λ a b. a ++ b)
-    (ap (λ (m : ℕ). take m (drop (n * 256) area)) (sym cut) ∙ z n (omega arith) (omega arith))
-    (ap (take (k * 256)) (drop-drop 256 (n * 256) area ∙ ap (λ (m : ℕ). drop m area) g) ∙ zeros-to area k (suc n) (omega arith) (λ j h. z j (omega arith)))
-    ∙ replicate-append-replicate {A = ℕ} 256 (k * 256) 0
+    (ap (λ (m : ℕ). take m (drop (n * placeSize) area)) (sym cut) ∙ z n (omega arith) (omega arith))
+    (ap (take (k * placeSize)) (drop-drop placeSize (n * placeSize) area ∙ ap (λ (m : ℕ). drop m area) g) ∙ zeros-to area k (suc n) (omega arith) (λ j h. z j (omega arith)))
+    ∙ replicate-append-replicate {A = ℕ} placeSize (k * placeSize) 0
     ∙ ap (λ (m : ℕ). replicate {A = ℕ} m 0) (sym f)
 
 -- every node's place written: the named words are those of the relations
-pub filled-all : (rels : List Relation) (area : List ℕ) → Sized rels → length rels ≤ 32 → 8192 ≤ length area → ((j : ℕ) → length rels ≤ j → j < 32 → placeAt area j ≡ replicate 256 0) →
+pub filled-all : (rels : List Relation) (area : List ℕ) → Sized rels → length rels ≤ maxNodes → areaSize ≤ length area → ((j : ℕ) → length rels ≤ j → j < maxNodes → placeAt area j ≡ replicate placeSize 0) →
     filled rels (length rels) area ≡ over (areaOf layout rels) area
 unfolding areaOf
 filled-all rels area s few long z =
     let n : ℕ = length rels in
-    let size : length (flatMap (placeOf layout) rels) ≡ 256 * length rels = flat-length rels s in
-    let left : ℕ = 8192 - length (flatMap (placeOf layout) rels) in
-    let part : 8192 - length (flatMap (placeOf layout) rels) ≡ (32 - length rels) * 256 = omega (arith, size) in
-    let words : length (flatMap (placeOf layout) rels ++ replicate (8192 - length (flatMap (placeOf layout) rels)) 0)
-    ≡ 8192 = length-append (flatMap (placeOf layout) rels) (replicate (8192 - length (flatMap (placeOf layout) rels)) 0) ∙ rw (length-replicate, size) (omega arith) in
-    let rest : drop (length rels * 256) area ≡ replicate (8192 - length (flatMap (placeOf layout) rels)) 0 ++ drop 8192 area =
-    sym (take-append-drop ((32 - length rels) * 256) (drop (length rels * 256) area))
-    ∙ ap₂ {A = List ℕ} {B = List ℕ} {C = List ℕ} (λ a b. a ++ b) (zeros-to area (32 - length rels) (length rels) (omega arith) z ∙ ap (λ (m : ℕ). replicate {A = ℕ} m 0) (sym part))
-    (drop-drop ((32 - length rels) * 256) (length rels * 256) area ∙ ap (λ (m : ℕ). drop m area) (let f : length rels * 256 + (32 - length rels) * 256 ≡ 8192 = omega arith in f)) in
+    let size : length (flatMap (placeOf layout) rels) ≡ placeSize * length rels = flat-length rels s in
+    let left : ℕ = areaSize - length (flatMap (placeOf layout) rels) in
+    let part : areaSize - length (flatMap (placeOf layout) rels) ≡ (maxNodes - length rels) * placeSize = omega (arith, size) in
+    let words : length (flatMap (placeOf layout) rels ++ replicate (areaSize - length (flatMap (placeOf layout) rels)) 0)
+    ≡ areaSize = length-append (flatMap (placeOf layout) rels) (replicate (areaSize - length (flatMap (placeOf layout) rels)) 0) ∙ rw (length-replicate, size) (omega arith) in
+    let rest : drop (length rels * placeSize) area ≡ replicate (areaSize - length (flatMap (placeOf layout) rels)) 0 ++ drop areaSize area =
+    sym (take-append-drop ((maxNodes - length rels) * placeSize) (drop (length rels * placeSize) area))
+    ∙ ap₂ {A = List ℕ} {B = List ℕ} {C = List ℕ} (λ a b. a ++ b) (zeros-to area (maxNodes - length rels) (length rels) (omega arith) z ∙ ap (λ (m : ℕ). replicate {A = ℕ} m 0) (sym part))
+    (drop-drop ((maxNodes - length rels) * placeSize) (length rels * placeSize) area ∙ ap (λ (m : ℕ). drop m area) (let f : length rels * placeSize + (maxNodes - length rels) * placeSize ≡ areaSize = omega arith in f)) in
     ap₂ {A = List Relation} {B = List ℕ} {C = List ℕ} (λ r l. flatMap (placeOf layout) r ++ l) (take-length rels) rest
-    ∙ sym (append-assoc (flatMap (placeOf layout) rels) (replicate (8192 - length (flatMap (placeOf layout) rels)) 0) (drop 8192 area))
-    ∙ ap (λ (m : ℕ). (flatMap (placeOf layout) rels ++ replicate (8192 - length (flatMap (placeOf layout) rels)) 0) ++ drop m area) (sym words)
+    ∙ sym (append-assoc (flatMap (placeOf layout) rels) (replicate (areaSize - length (flatMap (placeOf layout) rels)) 0) (drop areaSize area))
+    ∙ ap (λ (m : ℕ). (flatMap (placeOf layout) rels ++ replicate (areaSize - length (flatMap (placeOf layout) rels)) 0) ++ drop m area) (sym words)
 
 -- a place copied from another area
-pub placed-from : (work area : List ℕ) (i w n : ℕ) → Place w (placeAt work i) n → paste area (i * 256) (drop (i * 256) work) 256 ≡ placed area i (relationIn w (placeAt work i) n)
+pub placed-from : (work area : List ℕ) (i w n : ℕ) → Place w (placeAt work i) n → paste area (i * placeSize) (drop (i * placeSize) work) placeSize ≡ placed area i (relationIn w (placeAt work i) n)
 placed-from work area i w n p =
-    let cut : i * 256 + 256 - i * 256 ≡ 256 = omega arith in
+    let cut : i * placeSize + placeSize - i * placeSize ≡ placeSize = omega arith in
     let rel : Relation = relationIn w (placeAt work i) n in
     let is : placeAt work i ≡ placeOf layout (relationIn w (placeAt work i) n) = place-is w (placeAt work i) n p in
-    ap (λ (l : List ℕ). take (i * 256) area ++ l ++ drop (i * 256 + 256) area)
-    (ap (λ (m : ℕ). take m (drop (i * 256) work)) (sym cut) ∙ is ∙ sym (take-all 256 (placeOf layout (relationIn w (placeAt work i) n)) (omega (arith, sym (ap length is) ∙ p .long))))
+    ap (λ (l : List ℕ). take (i * placeSize) area ++ l ++ drop (i * placeSize + placeSize) area)
+    (ap (λ (m : ℕ). take m (drop (i * placeSize) work)) (sym cut) ∙ is ∙ sym (take-all placeSize (placeOf layout (relationIn w (placeAt work i) n)) (omega (arith, sym (ap length is) ∙ p .long))))

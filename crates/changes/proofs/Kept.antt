@@ -5,13 +5,13 @@ use mathlib.Core.List.{List, []}
 use mathlib.Core.Bool.{Bool, false, cond}
 use lib.ListN.{length}
 use native.Mathlib.Omega.{arith}
-use Rattle.model.specs.Row.{Relation}
+use Rattle.model.specs.Row.{Relation, maxNodes}
 use Rattle.model.specs.Algebra.{differenceRows}
 use Rattle.states.proofs.Changes.{difference-self}
 use Rattle.places.specs.Places.{Place, relationIn}
 use Rattle.areas.specs.Lent.{placeAt}
 use Rattle.changes.specs.Written.{placed, WritesNode}
-use Rattle.model.specs.Areas.{placeOf, layout}
+use Rattle.model.specs.Areas.{placeOf, layout, areaSize}
 use Rattle.places.proofs.Places.{place-is}
 use Rattle.changes.proofs.Filled.{placed-same}
 
@@ -19,7 +19,7 @@ difference-none : (a b : Relation) → a ≡ b → differenceRows a b ≡ []
 unfolding differenceRows
 difference-none a b e = difference-self a b (λ r h. rw (← e) h)
 
-pub keeps-node : (w : ℕ) (work rows gained lost gained′ lost′ : List ℕ) (i n m : ℕ) (t : Bool) → t ≡ false → n ≡ m → i < 32 → 8192 ≤ length rows → Place w (placeAt rows i) m →
+pub keeps-node : (w : ℕ) (work rows gained lost gained′ lost′ : List ℕ) (i n m : ℕ) (t : Bool) → t ≡ false → n ≡ m → i < maxNodes → areaSize ≤ length rows → Place w (placeAt rows i) m →
     gained′ ≡ placed gained i [] → lost′ ≡ placed lost i [] →
     WritesNode (relationIn w (placeAt rows i) m) (relationIn w (placeAt (cond t work rows) i) n) rows gained lost rows gained′ lost′ i (record { gained = 0; lost = 0 })
 keeps-node w work rows gained lost gained′ lost′ i n m t z e inside long p eg el =

@@ -8,7 +8,7 @@ use native.Mathlib.Omega.{arith}
 use lib.Seq.{take-suc, length-take-le}
 use mathlib.Core.Bool.{Bool, true, cond, false, not}
 use native.Mathlib.Nat.{le-refl}
-use Rattle.model.specs.Row.{Relation, sameRows}
+use Rattle.model.specs.Row.{Relation, sameRows, maxNodes, maxRows, maxWidth}
 use Rattle.model.specs.Areas.{padded, Areas, rowsIn, layout, goodArea, rowCount, gainedCount, lostCount, goodStamps, goodWorked, heldIn}
 use Rattle.rows.proofs.Padding.{padded-more}
 use Rattle.model.specs.Network.{widths}
@@ -35,17 +35,18 @@ use Rattle.changes.proofs.Filled.{filled-later, filled-length, filled-m
 use Rattle.changes.specs.declared.Sizes.{Sizes}
 use Rattle.states.proofs.Head.{padded-length}
 use Rattle.model.proofs.Parts.{map-append}
+use Rattle.model.specs.Areas.{areaSize, headWords}
 
 lengths-more : (rels : List Relation) (i : ℕ) → i < length rels → map length (take (i + 1) rels) ≡ map length (take i rels) ++ (length (getD rels i []) ∷ [])
 lengths-more rels i h = let e : i + 1 ≡ suc i = omega arith in ap (λ (k : ℕ). map length (take k rels)) e ∙ ap (map length) (take-suc rels i [] h) ∙ map-append {A = Relation} {B = ℕ} length (take i rels) (getD rels i [] ∷ [])
 
 -- a count set in an array of 32
-sizes-more : (rels : List Relation) (i : ℕ) (array : List ℕ) (x : ℕ) → i < length rels → length rels ≤ 32 → array ≡ padded 32 (map length (take i rels)) → x ≡ length (getD rels i []) →
-    set array i x ≡ padded 32 (map length (take (i + 1) rels))
+sizes-more : (rels : List Relation) (i : ℕ) (array : List ℕ) (x : ℕ) → i < length rels → length rels ≤ maxNodes → array ≡ padded maxNodes (map length (take i rels)) → x ≡ length (getD rels i []) →
+    set array i x ≡ padded maxNodes (map length (take (i + 1) rels))
 sizes-more rels i array x h few e f =
     let size : length (map length (take i rels)) ≡ i = length-map (take i rels) length ∙ length-take-le i rels (omega arith) in
-    ap₂ {A = List ℕ} {B = ℕ} {C = List ℕ} (λ a y. set a i y) e f ∙ padded-more 32 (map length (take i rels)) (length (getD rels i [])) i size (omega arith)
-    ∙ ap (padded 32) (sym (lengths-more rels i h))
+    ap₂ {A = List ℕ} {B = ℕ} {C = List ℕ} (λ a y. set a i y) e f ∙ padded-more maxNodes (map length (take i rels)) (length (getD rels i [])) i size (omega arith)
+    ∙ ap (padded maxNodes) (sym (lengths-more rels i h))
 
 module _ (net : Network) (rows gained lost head work counts : List ℕ) (changed : List Bool) (o : WorkedOut net rows gained lost head work counts changed) where
   abbrev a : Areas
@@ -60,22 +61,22 @@ module _ (net : Network) (rows gained lost head work counts : List ℕ) (changed
   b : Built net
   b = o .built
 
-  longs : (8192 ≤ length rows) × (8192 ≤ length gained) × (8192 ≤ length lost) × (162 ≤ length head)
+  longs : (areaSize ≤ length rows) × (areaSize ≤ length gained) × (areaSize ≤ length lost) × (headWords ≤ length head)
   longs = long-parts rows gained lost head (o .long)
 
-  pub head-long : 162 ≤ length head
+  pub head-long : headWords ≤ length head
   head-long = longs .3
 
   pub size : length (widths (nodesOf net)) ≡ net .count
   size = length-widths (nodesOf net) ∙ nodes-count net b
 
-  pub few-nodes : net .count ≤ 32
+  pub few-nodes : net .count ≤ maxNodes
   few-nodes = b .sound .few
 
-  few : length (widths (nodesOf net)) ≤ 32
+  few : length (widths (nodesOf net)) ≤ maxNodes
   few = rw size few-nodes
 
-  narrow : (i : ℕ) → getD (widths (nodesOf net)) i 0 ≤ 4
+  narrow : (i : ℕ) → getD (widths (nodesOf net)) i 0 ≤ maxWidth
   narrow = o .fits .narrow
 
   inside : (i : ℕ) → i < net .count → i < length (widths (nodesOf net))
@@ -166,7 +167,7 @@ module _ (net : Network) (rows gained lost head work counts : List ℕ) (changed
       later : (rels : List Relation) (area area′ : List ℕ) → Fitting (widths (nodesOf net)) rels → area′ ≡ filled rels i area → placeAt area′ i ≡ placeAt area i
       later rels area area′ f e = ap (λ (l : List ℕ). placeAt l i) e ∙ filled-later rels area (sized (widths (nodesOf net)) rels f) i (before rels f) i (le-refl i)
 
-      long-still : (rels : List Relation) (area area′ : List ℕ) → Fitting (widths (nodesOf net)) rels → 8192 ≤ length area → area′ ≡ filled rels i area → 8192 ≤ length area′
+      long-still : (rels : List Relation) (area area′ : List ℕ) → Fitting (widths (nodesOf net)) rels → areaSize ≤ length area → area′ ≡ filled rels i area → areaSize ≤ length area′
       long-still rels area area′ f l e = rw (ap length e ∙ filled-length rels area (sized (widths (nodesOf net)) rels f) i (before rels f) (omega (arith, h, few-nodes, l))) l
 
       rows-still : placeAt rows′ i ≡ placeAt rows i
@@ -187,10 +188,10 @@ module _ (net : Network) (rows gained lost head work counts : List ℕ) (changed
 
       -- what writing the node asks
       pub record Asks : Type 0 where
-        pub rows-long : 8192 ≤ length rows′
-        pub gained-long : 8192 ≤ length gained′
-        pub lost-long : 8192 ≤ length lost′
-        pub work-long : 8192 ≤ length work
+        pub rows-long : areaSize ≤ length rows′
+        pub gained-long : areaSize ≤ length gained′
+        pub lost-long : areaSize ≤ length lost′
+        pub work-long : areaSize ≤ length work
         pub new-at : Place (getD (widths (nodesOf net)) i 0) (placeAt (cond (getD changed i false) work rows′) i) (getD counts i 0)
         pub old-at : Place (getD (widths (nodesOf net)) i 0) (placeAt rows′ i) (rowCount head i)
         pub gained-at′ : Place (getD (widths (nodesOf net)) i 0) (placeAt gained′ i) (gainedCount head i)
@@ -228,7 +229,7 @@ module _ (net : Network) (rows gained lost head work counts : List ℕ) (changed
       -- the sizes of a change are those of places
       pub sizes-small : (rows″ gained″ lost″ : List ℕ) (sizes : Sizes) → WritesNode (relationIn (getD (widths (nodesOf net)) i 0) (placeAt rows′ i) (rowCount head i))
           (relationIn (getD (widths (nodesOf net)) i 0) (placeAt (cond (getD changed i false) work rows′) i) (getD counts i 0)) rows′ gained′ lost′ rows″ gained″ lost″ i sizes →
-          (sizes .gained ≤ 64) × (sizes .lost ≤ 64)
+          (sizes .gained ≤ maxRows) × (sizes .lost ≤ maxRows)
       sizes-small rows″ gained″ lost″ sizes n =
           let g : sizes .gained ≡ length (getD (gainedOf old (o .new)) i []) = ap (λ (x : Sizes). x .gained) (n .sizes-are) ∙ ap length gained-is in
           let l : sizes .lost ≡ length (getD (lostOf old (o .new)) i []) = ap (λ (x : Sizes). x .lost) (n .sizes-are) ∙ ap length lost-is in
@@ -256,11 +257,11 @@ module _ (net : Network) (rows gained lost head work counts : List ℕ) (changed
           below : (rels : List Relation) → Fitting (widths (nodesOf net)) rels → i < length rels
           below rels f = omega (arith, f .size, size, h)
 
-          short : (rels : List Relation) → Fitting (widths (nodesOf net)) rels → length rels ≤ 32
+          short : (rels : List Relation) → Fitting (widths (nodesOf net)) rels → length rels ≤ maxNodes
           short rels f = omega (arith, f .size, f .few)
 
   -- nothing written yet
-  pub writes-none : WritesNodes (nodesOf net) (o .new) rows gained lost head rows gained lost (replicate 32 0) (replicate 32 0) 0
+  pub writes-none : WritesNodes (nodesOf net) (o .new) rows gained lost head rows gained lost (replicate maxNodes 0) (replicate maxNodes 0) 0
   writes-none =
       record {
         rows-are = filled-none (o .new) rows (sized (widths (nodesOf net)) (o .new) (o .fits));
@@ -272,7 +273,7 @@ module _ (net : Network) (rows gained lost head work counts : List ℕ) (changed
 
   -- the lengths stay
   pub writes-lengths : (rows′ gained′ lost′ gains losses : List ℕ) (i : ℕ) → i ≤ net .count → WritesNodes (nodesOf net) (o .new) rows gained lost head rows′ gained′ lost′ gains losses i →
-      (length rows′ ≡ length rows) × (length gained′ ≡ length gained) × (length lost′ ≡ length lost) × (length gains ≡ 32) × (length losses ≡ 32)
+      (length rows′ ≡ length rows) × (length gained′ ≡ length gained) × (length lost′ ≡ length lost) × (length gains ≡ maxNodes) × (length losses ≡ maxNodes)
   writes-lengths rows′ gained′ lost′ gains losses i h k = (
     area (o .new) rows rows′ (o .fits) (longs .0) (k .rows-are),
     area (gainedOf old (o .new)) gained gained′ gained-fit (longs .1) (k .gained-are),
@@ -282,9 +283,9 @@ module _ (net : Network) (rows gained lost head work counts : List ℕ) (changed
         (k .losses-are),
   )
     where
-      area : (rels : List Relation) (x y : List ℕ) → Fitting (widths (nodesOf net)) rels → 8192 ≤ length x → y ≡ filled rels i x → length y ≡ length x
+      area : (rels : List Relation) (x y : List ℕ) → Fitting (widths (nodesOf net)) rels → areaSize ≤ length x → y ≡ filled rels i x → length y ≡ length x
       area rels x y f l e = ap length e ∙ filled-length rels x (sized (widths (nodesOf net)) rels f) i (omega (arith, f .size, size, h)) (omega (arith, h, few-nodes, l))
 
-      array : (rels : List Relation) (x : List ℕ) → Fitting (widths (nodesOf net)) rels → x ≡ padded 32 (map length (take i rels)) → length x ≡ 32
+      array : (rels : List Relation) (x : List ℕ) → Fitting (widths (nodesOf net)) rels → x ≡ padded maxNodes (map length (take i rels)) → length x ≡ maxNodes
       array rels x f e = ap length e
-          ∙ padded-length 32 (map length (take i rels)) (rw (length-map (take i rels) length, length-take-le i rels (omega (arith, f .size, size, h))) (omega (arith, h, few-nodes)))
+          ∙ padded-length maxNodes (map length (take i rels)) (rw (length-map (take i rels) length, length-take-le i rels (omega (arith, f .size, size, h))) (omega (arith, h, few-nodes)))

@@ -5,11 +5,11 @@ use mathlib.Core.List.{List, _++_, map, flatMap}
 use Prim.Native.Nat.{ℕ, _*_}
 use lib.ListN.{length, take, drop}
 use lib.Seq.{paste}
-use Rattle.model.specs.Row.{Relation}
+use Rattle.model.specs.Row.{Relation, maxNodes}
 use Rattle.model.specs.Algebra.{differenceRows}
 use Rattle.model.specs.Network.{Node, widths}
 use Rattle.model.specs.Delta.{netChanges}
-use Rattle.model.specs.Areas.{layout, placeOf, padded, goodForm, longEnough, rowsIn}
+use Rattle.model.specs.Areas.{layout, placeOf, padded, goodForm, longEnough, rowsIn, placeSize}
 use Rattle.network.specs.declared.Network.{Network}
 use Rattle.network.specs.Reading.{nodesOf, Built}
 use Rattle.areas.specs.Lent.{lent}
@@ -22,7 +22,7 @@ use Rattle.changes.specs.declared.Sizes.{Sizes}
 
 -- the area with other rows in node i's place
 abbrev pub placed : List ℕ → ℕ → Relation → List ℕ
-placed area i rel = paste area (i * 256) (placeOf layout rel) 256
+placed area i rel = paste area (i * placeSize) (placeOf layout rel) placeSize
 
 -- node i's new rows and its change are written
 pub record WritesNode (old new : Relation) (rows gained lost rows′ gained′ lost′ : List ℕ) (i : ℕ) (sizes : Sizes) : Type 0 where
@@ -44,7 +44,7 @@ pub record WorkedOut (net : Network) (rows gained lost head work counts : List �
 
 -- the area with other rows in the places of the first i nodes
 abbrev pub filled : List Relation → ℕ → List ℕ → List ℕ
-filled rels i area = flatMap (placeOf layout) (take i rels) ++ drop (i * 256) area
+filled rels i area = flatMap (placeOf layout) (take i rels) ++ drop (i * placeSize) area
 
 -- each node's gained and lost rows
 abbrev pub gainedOf : List Relation → List Relation → List Relation
@@ -59,5 +59,5 @@ pub record WritesNodes (nodes : List Node) (new : List Relation) (rows gained lo
   pub rows-are : rows′ ≡ filled new i rows
   pub gained-are : gained′ ≡ filled (gainedOf (rowsIn layout nodes (lent rows gained lost head)) new) i gained
   pub lost-are : lost′ ≡ filled (lostOf (rowsIn layout nodes (lent rows gained lost head)) new) i lost
-  pub gains-are : gains ≡ padded 32 (map length (take i (gainedOf (rowsIn layout nodes (lent rows gained lost head)) new)))
-  pub losses-are : losses ≡ padded 32 (map length (take i (lostOf (rowsIn layout nodes (lent rows gained lost head)) new)))
+  pub gains-are : gains ≡ padded maxNodes (map length (take i (gainedOf (rowsIn layout nodes (lent rows gained lost head)) new)))
+  pub losses-are : losses ≡ padded maxNodes (map length (take i (lostOf (rowsIn layout nodes (lent rows gained lost head)) new)))

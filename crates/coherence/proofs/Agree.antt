@@ -9,13 +9,13 @@ use lib.ListN.{getD, length, take}
 use lib.Seq.{take-all}
 use Rattle.coherence.specs.Held.{Derived, Places, givenAt, heldAt}
 use Rattle.places.specs.Places.{Fills}
-use Rattle.model.specs.Row.{Relation, sameRow, sameRows}
+use Rattle.model.specs.Row.{Relation, sameRow, sameRows, maxRows, maxWidth}
 use Rattle.network.specs.declared.Slot.{Slot}
 use Rattle.rows.specs.Rows.{Wide, firstRows}
 use Rattle.rows.proofs.Checked.{bool-same, placed-rows, place-length}
 use Rattle.words.specs.Runs.{sameFirst}
 use Rattle.rows.proofs.Place.{held-wide, length-held}
-use Rattle.model.specs.Areas.{layout, placeOf, rowCount}
+use Rattle.model.specs.Areas.{layout, placeOf, rowCount, placeSize, stride}
 use Rattle.model.specs.Network.{leftOf, rightOf}
 use Rattle.evaluation.proofs.Inside.{on-wide}
 use Rattle.coherence.proofs.Placed.{rows-few, words-at}
@@ -39,29 +39,29 @@ fewer ws n m rows head h p =
     }
 
 -- rows of one width and count with the same words are the same
-pub words-rows-same : (w : ℕ) (a b : Relation) → w ≤ 4 → Wide w a → Wide w b → length a ≤ 64 → length a ≡ length b → placeOf layout a ≡ placeOf layout b → a ≡ b
+pub words-rows-same : (w : ℕ) (a b : Relation) → w ≤ maxWidth → Wide w a → Wide w b → length a ≤ maxRows → length a ≡ length b → placeOf layout a ≡ placeOf layout b → a ≡ b
 words-rows-same w a b h wa wb few size e =
-    let read : (r : Relation) → Wide w r → length r ≤ 64 → map (take w) (firstRows (placeOf layout r) (length r)) ≡ r = λ r wr f. ap (map (take w)) (placed-rows w r h wr f)
-    ∙ unpadded 4 w r wr in
+    let read : (r : Relation) → Wide w r → length r ≤ maxRows → map (take w) (firstRows (placeOf layout r) (length r)) ≡ r = λ r wr f. ap (map (take w)) (placed-rows w r h wr f)
+    ∙ unpadded stride w r wr in
     sym (read a wa few)
     ∙ ap₂ {A = List ℕ} {B = ℕ} {C = Relation} (λ s n. map (take w) (firstRows s n)) e size
     ∙ read b wb (rw (← size) few)
 
 -- two places with the rows of one width: the words are the same exactly if the rows are
-pub places-decide : (w : ℕ) (a b : Relation) (x y : List ℕ) → w ≤ 4 → Wide w a → Wide w b → length a ≤ 64 → length a ≡ length b → x ≡ placeOf layout a → y ≡ placeOf layout b →
-    sameFirst 256 x y ≡ sameRows a b
+pub places-decide : (w : ℕ) (a b : Relation) (x y : List ℕ) → w ≤ maxWidth → Wide w a → Wide w b → length a ≤ maxRows → length a ≡ length b → x ≡ placeOf layout a → y ≡ placeOf layout b →
+    sameFirst placeSize x y ≡ sameRows a b
 places-decide w a b x y narrow wa wb few size ex ey =
-    let whole : (r : Relation) (s : List ℕ) → Wide w r → length r ≤ 64 → s ≡ placeOf layout r →
-    take 256 s ≡ s = λ r s wr f e. take-all 256 s (rw (ap length e ∙ place-length w r narrow wr f) (le-refl 256)) in
-    let first : take 256 x ≡ x = whole a x wa few ex in
-    let second : take 256 y ≡ y = whole b y wb (rw (← size) few) ey in
-    bool-same (sameFirst 256 x y) (sameRows a b)
+    let whole : (r : Relation) (s : List ℕ) → Wide w r → length r ≤ maxRows → s ≡ placeOf layout r →
+    take placeSize s ≡ s = λ r s wr f e. take-all placeSize s (rw (ap length e ∙ place-length w r narrow wr f) (le-refl placeSize)) in
+    let first : take placeSize x ≡ x = whole a x wa few ex in
+    let second : take placeSize y ≡ y = whole b y wb (rw (← size) few) ey in
+    bool-same (sameFirst placeSize x y) (sameRows a b)
     (λ g.
-    let same : a ≡ b = words-rows-same w a b narrow wa wb few size (sym ex ∙ sym first ∙ sameRow-eq (take 256 x) (take 256 y) g ∙ second ∙ ey) in
+    let same : a ≡ b = words-rows-same w a b narrow wa wb few size (sym ex ∙ sym first ∙ sameRow-eq (take placeSize x) (take placeSize y) g ∙ second ∙ ey) in
     ap (sameRows a) (sym same) ∙ sameRows-refl a)
     (λ g.
     let words : x ≡ y = ex ∙ ap (placeOf layout) (sameRows-eq a b g) ∙ sym ey in
-    ap (λ (s : List ℕ). sameRow (take 256 x) (take 256 s)) (sym words) ∙ sameRow-refl (take 256 x))
+    ap (λ (s : List ℕ). sameRow (take placeSize x) (take placeSize s)) (sym words) ∙ sameRow-refl (take placeSize x))
 
 -- relations of other sizes are not the same
 pub sizes-differ : (a b : Relation) → (length a ≡ length b → ⊥) → sameRows a b ≡ false
@@ -93,11 +93,11 @@ module _ (slot : Slot) (ws rows head : List ℕ) (i : ℕ) (p : Places ws (i + 1
       (λ g. e (sym (length-held layout (getD ws i 0) (rowCount head i) rows i) ∙ g ∙ sym (f .count)))
 
   -- too many: other rows
-  pub over-differs : 64 < length (givenAt slot ws head rows) → sameRows (heldAt ws head rows i) (givenAt slot ws head rows) ≡ false
+  pub over-differs : maxRows < length (givenAt slot ws head rows) → sameRows (heldAt ws head rows i) (givenAt slot ws head rows) ≡ false
   over-differs o = sizes-differ (heldAt ws head rows i) (givenAt slot ws head rows) (λ g. absurd (omega (arith, o, g, rows-few ws (i + 1) rows head p i here)))
 
   -- the same count: the same rows exactly if the words are the same
-  pub words-decide : (out : List ℕ) (count : ℕ) → Fills (givenAt slot ws head rows) out count → rowCount head i ≡ count → sameFirst 256 (placeAt rows i) out
+  pub words-decide : (out : List ℕ) (count : ℕ) → Fills (givenAt slot ws head rows) out count → rowCount head i ≡ count → sameFirst placeSize (placeAt rows i) out
       ≡ sameRows (heldAt ws head rows i) (givenAt slot ws head rows)
   words-decide out count f e =
       places-decide (getD ws i 0) (heldAt ws head rows i) (givenAt slot ws head rows) (placeAt rows i) out (p .narrow i) wide-held wide-given (rows-few ws (i + 1) rows head p i here)

@@ -15,7 +15,7 @@ use Rattle.model.specs.Network.{AllFit, isTable, nodeAt, table, widths, Node, h
 use Rattle.network.specs.declared.Network.{Network}
 use Rattle.network.specs.Reading.{Built, noSlot, nodesOf, slotNode}
 use Rattle.coherence.specs.Held.{Derived, freshIn, heldAt, rowsHeld, slotAgrees}
-use Rattle.model.specs.Row.{allOf, numbersBelow}
+use Rattle.model.specs.Row.{allOf, numbersBelow, maxWidth}
 use Rattle.network.specs.declared.Slot.{Slot}
 use Rattle.evaluation.proofs.Fresh.{agreesAt, columns-fit, fresh-checked, inputs-before, width-at}
 use Rattle.rows.proofs.Checked.{bool-same}
@@ -60,10 +60,10 @@ module _ (net : Network) (b : Built net) where
   pub width-is : (i : ℕ) → i < net .count → getD (widths (nodesOf net)) i 0 ≡ getD (net .widths) i 0
   width-is i h = ap (λ (l : List ℕ). getD l i 0) (sym (b .sound .widths)) ∙ getD-take (net .count) (net .widths) i 0 h
 
-  pub narrow-widths : (i : ℕ) → getD (widths (nodesOf net)) i 0 ≤ 4
+  pub narrow-widths : (i : ℕ) → getD (widths (nodesOf net)) i 0 ≤ maxWidth
   narrow-widths i = go (ltb i (net .count)) refl
     where
-      go : (t : Bool) → ltb i (net .count) ≡ t → getD (widths (nodesOf net)) i 0 ≤ 4
+      go : (t : Bool) → ltb i (net .count) ≡ t → getD (widths (nodesOf net)) i 0 ≤ maxWidth
       go true e = rw (width-is i (ltb-true i (net .count) e)) (b .narrow i)
       go false e = rw (List·getD-eq-default (widths (nodesOf net)) 0 {n = i} (rw (length-widths (nodesOf net), nodes-count) (ltb-false i (net .count) e))) zero-le
 

@@ -11,8 +11,8 @@ use borrow.Author.Tests.{leb-true}
 use Rattle.places.specs.Places.{Place, relationIn}
 use Rattle.coherence.specs.Held.{Places, heldAt}
 use Rattle.model.proofs.Sets.{and-first}
-use Rattle.model.specs.Row.{ascending}
-use Rattle.model.specs.Areas.{goodPlace, layout, placeOf, rowCount, unusedZero}
+use Rattle.model.specs.Row.{ascending, maxRows}
+use Rattle.model.specs.Areas.{goodPlace, layout, placeOf, rowCount, unusedZero, placeSize}
 use Rattle.rows.proofs.Place.{length-held}
 use Rattle.rows.proofs.Checked.{part-good, part-held}
 use Rattle.areas.proofs.Good.{part-is}
@@ -20,20 +20,20 @@ use Rattle.areas.specs.Lent.{placeAt}
 use Rattle.rows.proofs.Checked as checked
 
 module _ (ws : List ℕ) (n : ℕ) (rows head : List ℕ) (p : Places ws n rows head) (j : ℕ) (h : j < n) where
-  few-rows : rowCount head j ≤ 64
+  few-rows : rowCount head j ≤ maxRows
   unfolding goodPlace
   few-rows =
-      leb-true (rowCount head j) 64
-      (and-first (leb (rowCount head j) 64) (ascending (heldAt ws head rows j))
-      (and-first (leb (rowCount head j) 64 && ascending (heldAt ws head rows j)) (unusedZero layout (getD ws j 0) (rowCount head j) rows j) (p .good j h)))
+      leb-true (rowCount head j) maxRows
+      (and-first (leb (rowCount head j) maxRows) (ascending (heldAt ws head rows j))
+      (and-first (leb (rowCount head j) maxRows && ascending (heldAt ws head rows j)) (unusedZero layout (getD ws j 0) (rowCount head j) rows j) (p .good j h)))
 
-  inside : 256 * j + 256 ≤ length rows
+  inside : placeSize * j + placeSize ≤ length rows
   inside = omega (arith, p .few, p .rows-long)
 
   pub place-at : Place (getD ws j 0) (placeAt rows j) (rowCount head j)
   place-at =
       record {
-        long = ap length (part-is rows j) ∙ length-take-le 256 (drop (256 * j) rows) (rw length-drop (omega (arith, inside)));
+        long = ap length (part-is rows j) ∙ length-take-le placeSize (drop (placeSize * j) rows) (rw length-drop (omega (arith, inside)));
         narrow = p .narrow j;
         good = rw (part-is rows j) (part-good (getD ws j 0) (rowCount head j) rows j (p .narrow j) few-rows inside (p .good j h));
       }
@@ -47,5 +47,5 @@ module _ (ws : List ℕ) (n : ℕ) (rows head : List ℕ) (p : Places ws n rows 
   pub words-at : placeAt rows j ≡ placeOf layout (heldAt ws head rows j)
   words-at = part-is rows j ∙ checked.part-is (getD ws j 0) (rowCount head j) rows j (p .narrow j) few-rows inside (p .good j h)
 
-  pub rows-few : length (heldAt ws head rows j) ≤ 64
+  pub rows-few : length (heldAt ws head rows j) ≤ maxRows
   rows-few = rw (length-held layout (getD ws j 0) (rowCount head j) rows j) few-rows

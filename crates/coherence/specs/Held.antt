@@ -4,8 +4,8 @@ use mathlib.Core.Bool.{Bool, true, false, cond}
 use mathlib.Core.List.{List}
 use Prim.Native.Nat.{ℕ, _≤_, _<_}
 use lib.ListN.{getD, length}
-use Rattle.model.specs.Row.{Relation, sameRows}
-use Rattle.model.specs.Areas.{layout, heldIn, goodPlace, rowCount, relationsIn, sameRelations, tablesOf}
+use Rattle.model.specs.Row.{Relation, sameRows, maxNodes}
+use Rattle.model.specs.Areas.{layout, heldIn, goodPlace, rowCount, relationsIn, sameRelations, tablesOf, areaSize, headWords}
 use Rattle.nodes.specs.Nodes.{Narrow}
 use Rattle.network.specs.Reading.{slotNode, Shaped, nodesOf, Built}
 use Rattle.network.specs.declared.Slot.{Slot}
@@ -20,11 +20,11 @@ heldAt ws head rows i = heldIn layout (getD ws i 0) (rowCount head i) rows i
 
 -- the places of the first n nodes are of good form
 pub record Places (ws : List ℕ) (n : ℕ) (rows head : List ℕ) : Type 0 where
-  pub few : n ≤ 32
+  pub few : n ≤ maxNodes
   pub widths-long : n ≤ length ws
   pub narrow : Narrow ws
-  pub rows-long : 8192 ≤ length rows
-  pub head-long : 162 ≤ length head
+  pub rows-long : areaSize ≤ length rows
+  pub head-long : headWords ≤ length head
   pub good : (i : ℕ) → i < n → goodPlace layout (getD ws i 0) (rowCount head i) rows i ≡ true
 
 -- a derived node, number i, whose inputs come before it and whose columns are inside their rows

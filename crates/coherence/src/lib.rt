@@ -3,9 +3,9 @@ ghost use mathlib.Core.Path.{_≡_};
 ghost use mathlib.Core.Bool.{true, false};
 ghost use Prim.Native.Nat.{_+_, _≤_, _<_};
 ghost use lib.ListN.{length, getD};
-ghost use Rattle.model.specs.Row.{sameRows};
+ghost use Rattle.model.specs.Row.{sameRows, maxNodes};
 ghost use Rattle.model.specs.Network.{isTable};
-ghost use Rattle.model.specs.Areas.{rowCount, coherent};
+ghost use Rattle.model.specs.Areas.{rowCount, coherent, headWords};
 ghost use Rattle.network.specs.Reading.{slotNode};
 ghost use Rattle.places.specs.Places.{Blank, Makes};
 ghost use Rattle.coherence.specs.Held.{heldAt, Places, Derived, givenAt, Checkable, slotAgrees, freshIn};
@@ -18,7 +18,7 @@ use places::Made;
 
 // The width and the count of node i's rows.
 fn held(widths: &[usize], head: &[u32], i: usize) -> Held
-    requires { ⌜ (i < length (now widths)) × (i < 32) × (162 ≤ length (now head)) ⌝ }
+    requires { ⌜ (i < length (now widths)) × (i < maxNodes) × (headWords ≤ length (now head)) ⌝ }
     ensures { λ r. ⌜ r ≡ record { width = getD (now (widths .entry)) i 0; count = rowCount (now (head .entry)) i } ⌝ }
 {
     Held {

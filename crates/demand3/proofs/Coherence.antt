@@ -14,7 +14,7 @@ use Rattle.model.specs.Areas.{Areas, batchNumber, changesIn, coherent, gainedCo
 use Rattle.model.specs.Areas.{sameRelations, stampAt, stateIn, tablesOf, workedAt, workedCount}
 use Rattle.states.specs.Fitting.{Fitting}
 use Rattle.demand3.proofs.Holds.{Proper}
-use Rattle.model.specs.Row.{allOf, numbersBelow}
+use Rattle.model.specs.Row.{allOf, numbersBelow, maxNodes}
 use Rattle.model.proofs.Fits.{Small, length-widths}
 use Rattle.model.proofs.Sets.{and-first, and-second}
 use Rattle.model.specs.Evaluation.{evaluate}
@@ -32,7 +32,7 @@ module _ (nodes : List Node) (small : Small nodes) (a : Areas) (c : coherent lay
   fresh = same-eq (rowsIn layout nodes a) (evaluate nodes (tablesOf nodes (rowsIn layout nodes a)))
       (and-second (goodForm layout nodes a) (sameRelations (rowsIn layout nodes a) (evaluate nodes (tablesOf nodes (rowsIn layout nodes a)))) c)
 
-  pub few : length (widths nodes) ≤ 32
+  pub few : length (widths nodes) ≤ maxNodes
   few = omega (arith, small .few, length-widths nodes)
 
   pub parts : (goodArea layout (widths nodes) (rowCount (a .head)) (a .rows) ≡ true) × (goodArea layout (widths nodes) (gainedCount (a .head)) (a .gained) ≡ true) ×
@@ -62,17 +62,17 @@ module _ (nodes : List Node) (small : Small nodes) (a : Areas) (c : coherent lay
   unfolding goodWorked
   worked-few-here = leb-true (workedCount (a .head)) (length nodes)
       (and-first (leb (workedCount (a .head)) (length nodes))
-      (allOf (λ k. cond (ltb k (workedCount (a .head))) (ltb (workedAt (a .head) k) (length nodes)) (eqb (workedAt (a .head) k) 0)) (numbersBelow 32)) worked)
+      (allOf (λ k. cond (ltb k (workedCount (a .head))) (ltb (workedAt (a .head) k) (length nodes)) (eqb (workedAt (a .head) k) 0)) (numbersBelow maxNodes)) worked)
 
   worked-at : (k : ℕ) → k < workedCount (a .head) → workedAt (a .head) k < length nodes
   unfolding goodWorked
   worked-at k h =
-      let all : allOf (λ j. cond (ltb j (workedCount (a .head))) (ltb (workedAt (a .head) j) (length nodes)) (eqb (workedAt (a .head) j) 0)) (numbersBelow 32)
+      let all : allOf (λ j. cond (ltb j (workedCount (a .head))) (ltb (workedAt (a .head) j) (length nodes)) (eqb (workedAt (a .head) j) 0)) (numbersBelow maxNodes)
       ≡ true = and-second (leb (workedCount (a .head)) (length nodes))
-      (allOf (λ j. cond (ltb j (workedCount (a .head))) (ltb (workedAt (a .head) j) (length nodes)) (eqb (workedAt (a .head) j) 0)) (numbersBelow 32)) worked in
+      (allOf (λ j. cond (ltb j (workedCount (a .head))) (ltb (workedAt (a .head) j) (length nodes)) (eqb (workedAt (a .head) j) 0)) (numbersBelow maxNodes)) worked in
       let here : cond (ltb k (workedCount (a .head))) (ltb (workedAt (a .head) k) (length nodes)) (eqb (workedAt (a .head) k) 0)
       ≡ true = ap (λ (j : ℕ). cond (ltb j (workedCount (a .head))) (ltb (workedAt (a .head) j) (length nodes)) (eqb (workedAt (a .head) j) 0)) (sym (zero-add k))
-      ∙ all-below (λ j. cond (ltb j (workedCount (a .head))) (ltb (workedAt (a .head) j) (length nodes)) (eqb (workedAt (a .head) j) 0)) 0 32 all k
+      ∙ all-below (λ j. cond (ltb j (workedCount (a .head))) (ltb (workedAt (a .head) j) (length nodes)) (eqb (workedAt (a .head) j) 0)) 0 maxNodes all k
       (omega (arith, worked-few-here, small .few)) in
       ltb-true (workedAt (a .head) k) (length nodes) (rw (lt-ltb k (workedCount (a .head)) h) at here)
 
@@ -81,7 +81,7 @@ module _ (nodes : List Node) (small : Small nodes) (a : Areas) (c : coherent lay
   stamp-low i h =
       let here : leb (stampAt (a .head) i) (cond (ltb i (length nodes)) (batchNumber (a .head)) 0)
       ≡ true = ap (λ (j : ℕ). leb (stampAt (a .head) j) (cond (ltb j (length nodes)) (batchNumber (a .head)) 0)) (sym (zero-add i))
-      ∙ all-below (λ j. leb (stampAt (a .head) j) (cond (ltb j (length nodes)) (batchNumber (a .head)) 0)) 0 32 stamps i (omega (arith, small .few)) in
+      ∙ all-below (λ j. leb (stampAt (a .head) j) (cond (ltb j (length nodes)) (batchNumber (a .head)) 0)) 0 maxNodes stamps i (omega (arith, small .few)) in
       leb-true (stampAt (a .head) i) (batchNumber (a .head)) (rw (lt-ltb i (length nodes) h) at here)
 
   -- the state that coherent areas hold

@@ -9,7 +9,7 @@ use lib.Dec.{leb, ltb, eqb}
 use lib.ListN.{getD, length, take, drop, replicate, length-append, length-drop, length-replicate, getD-replicate, take-append-drop}
 use lib.Seq.{drop-at, ext-getD, take-add, drop-drop, getD-drop, length-take-le}
 use borrow.Author.Tests.{eqb-true, leb-true, le-ltb, ltb-false, ltb-true}
-use Rattle.model.specs.Row.{Relation, allOf, numbersBelow}
+use Rattle.model.specs.Row.{Relation, allOf, numbersBelow, maxNodes, maxWidth}
 use Rattle.model.specs.Network.{Node, widths}
 use Rattle.model.specs.Evaluation.{evaluate}
 use Rattle.model.specs.Delta.{Change}
@@ -19,6 +19,7 @@ use Rattle.model.specs.Areas.{longEnough, lostCount, over, placeOf, relationsIn
 use Rattle.model.proofs.Sets.{and-first, and-second}
 use Rattle.model.proofs.Parts.{length-counted, counted-at}
 use Rattle.model.proofs.Fits.{Small}
+use Rattle.model.specs.Areas.{areaSize, headWords, placeSize}
 use Rattle.rows.proofs.Place.{all-below, length-held}
 use Rattle.places.proofs.Places.{place-is}
 use Rattle.areas.specs.Lent.{placeAt}
@@ -35,28 +36,28 @@ use Rattle.demand3.proofs.Coherence.{few, fresh, parts, state-proper}
 
 -- the places of some relations, one after the other, are the words of an area from a node on
 places-are : (area : List ℕ) (rels : List Relation) (from : ℕ) → ((j : ℕ) → j < length rels → placeAt area (from + j) ≡ placeOf layout (getD rels j [])) →
-    flatMap (placeOf layout) rels ≡ take (256 * length rels) (drop (from * 256) area)
+    flatMap (placeOf layout) rels ≡ take (placeSize * length rels) (drop (from * placeSize) area)
 unfolding flatMap
 places-are area [] from h = refl
 places-are area (r ∷ rels) from h =
     let here : from + 0 ≡ from = add-zero from in
-    let first : placeOf layout r ≡ take 256 (drop (from * 256) area) = sym (h 0 (suc-le-suc zero-le)) ∙ ap (placeAt area) here
-    ∙ ap (λ (k : ℕ). take k (drop (from * 256) area)) (let e : from * 256 + 256 - from * 256 ≡ 256 = omega arith in e) in
-    let rest : flatMap (placeOf layout) rels ≡ take (256 * length rels) (drop (suc from * 256) area) = places-are area rels (suc from)
+    let first : placeOf layout r ≡ take placeSize (drop (from * placeSize) area) = sym (h 0 (suc-le-suc zero-le)) ∙ ap (placeAt area) here
+    ∙ ap (λ (k : ℕ). take k (drop (from * placeSize) area)) (let e : from * placeSize + placeSize - from * placeSize ≡ placeSize = omega arith in e) in
+    let rest : flatMap (placeOf layout) rels ≡ take (placeSize * length rels) (drop (suc from * placeSize) area) = places-are area rels (suc from)
     (λ j b. ap (placeAt area) (let e : suc from + j ≡ from + suc j = omega arith in e) ∙ h (suc j) (suc-le-suc b)) in
-    let on : drop (suc from * 256) area ≡ drop 256 (drop (from * 256) area) = ap (λ (k : ℕ). drop k area) (let e : suc from * 256 ≡ from * 256 + 256 = omega arith in e)
-    ∙ sym (drop-drop 256 (from * 256) area) in
-    ap₂ {A = List ℕ} {B = List ℕ} {C = List ℕ} (λ x y. x ++ y) first (rest ∙ ap (take (256 * length rels)) on)
-    ∙ sym (take-add 256 (256 * length rels) (drop (from * 256) area))
-    ∙ ap (λ (k : ℕ). take k (drop (from * 256) area)) (let e : 256 + 256 * length rels ≡ 256 * suc (length rels) = omega arith in e)
+    let on : drop (suc from * placeSize) area ≡ drop placeSize (drop (from * placeSize) area) = ap (λ (k : ℕ). drop k area) (let e : suc from * placeSize ≡ from * placeSize + placeSize = omega arith in e)
+    ∙ sym (drop-drop placeSize (from * placeSize) area) in
+    ap₂ {A = List ℕ} {B = List ℕ} {C = List ℕ} (λ x y. x ++ y) first (rest ∙ ap (take (placeSize * length rels)) on)
+    ∙ sym (take-add placeSize (placeSize * length rels) (drop (from * placeSize) area))
+    ∙ ap (λ (k : ℕ). take k (drop (from * placeSize) area)) (let e : placeSize + placeSize * length rels ≡ placeSize * suc (length rels) = omega arith in e)
 
-module _ (ws : List ℕ) (few : length ws ≤ 32) (narrow : (i : ℕ) → getD ws i 0 ≤ 4) (count : ℕ → ℕ) (area : List ℕ) (g : goodArea layout ws count area ≡ true) where
+module _ (ws : List ℕ) (few : length ws ≤ maxNodes) (narrow : (i : ℕ) → getD ws i 0 ≤ maxWidth) (count : ℕ → ℕ) (area : List ℕ) (g : goodArea layout ws count area ≡ true) where
   -- past the last node every count is 0
-  count-none : (i : ℕ) → length ws ≤ i → i < 32 → count i ≡ 0
+  count-none : (i : ℕ) → length ws ≤ i → i < maxNodes → count i ≡ 0
   unfolding goodArea emptyPlace
   count-none i h k =
       let at : cond (ltb (0 + i) (length ws)) (goodPlace layout (getD ws (0 + i) 0) (count (0 + i)) area (0 + i)) (emptyPlace layout (count (0 + i)) area (0 + i)) ≡ true =
-      all-below (λ j. cond (ltb j (length ws)) (goodPlace layout (getD ws j 0) (count j) area j) (emptyPlace layout (count j) area j)) 0 32 g i k in
+      all-below (λ j. cond (ltb j (length ws)) (goodPlace layout (getD ws j 0) (count j) area j) (emptyPlace layout (count j) area j)) 0 maxNodes g i k in
       let empty : emptyPlace layout (count i) area i ≡ true = rw (zero-add i, le-ltb i (length ws) h) at at in
       eqb-true (count i) 0 (and-first (eqb (count i) 0) (unusedZero layout 0 0 area i) empty)
 
@@ -64,36 +65,36 @@ module _ (ws : List ℕ) (few : length ws ≤ 32) (narrow : (i : ℕ) → getD w
   pub count-is : (i : ℕ) → i < length ws → count i ≡ length (getD (relationsIn layout ws count area) i [])
   count-is i h = sym (ap length (relation-at ws count area i h) ∙ length-held layout (getD ws i 0) (count i) area i)
 
-  words-are : 8192 ≤ length area → areaOf layout (relationsIn layout ws count area) ≡ take 8192 area
+  words-are : areaSize ≤ length area → areaOf layout (relationsIn layout ws count area) ≡ take areaSize area
   unfolding areaOf
   words-are long =
       let rels : List Relation = relationsIn layout ws count area in
       let size : length (relationsIn layout ws count area) ≡ length ws = relations-length ws count area in
-      let first : flatMap (placeOf layout) (relationsIn layout ws count area) ≡ take (256 * length (relationsIn layout ws count area)) area =
+      let first : flatMap (placeOf layout) (relationsIn layout ws count area) ≡ take (placeSize * length (relationsIn layout ws count area)) area =
       places-are area rels 0
       (λ j b. let k : j < length ws = rw size at b in ap (placeAt area) (zero-add j)
       ∙ place-is (getD ws j 0) (placeAt area j) (count j) (area-place ws few narrow count area g long j k .0)
       ∙ ap (placeOf layout) (area-place ws few narrow count area g long j k .1)) in
-      let rest : replicate (256 * (32 - length ws)) 0 ≡ take (256 * (32 - length ws)) (drop (length ws * 256) area) =
-      sym (flat-none (32 - length ws))
-      ∙ places-are area (replicate (32 - length ws) []) (length ws)
-      (λ j b. let k : j < 32 - length ws = rw (length-replicate {A = Relation} (32 - length ws) []) at b in area-empty ws few narrow count area g long (length ws + j)
-      (omega arith) (omega arith) ∙ place-none ∙ ap (placeOf layout) (sym (getD-replicate {A = Relation} (32 - length ws) j [] [] k)))
-      ∙ ap (λ (n : ℕ). take (256 * n) (drop (length ws * 256) area)) (length-replicate {A = Relation} (32 - length ws) []) in
-      let part : length (take (256 * length (relationsIn layout ws count area)) area) ≡ 256 * length ws = length-take-le (256 * length rels) area (omega (arith, size))
-      ∙ ap (λ (n : ℕ). 256 * n) size in
-      let left : 8192 - length (flatMap (placeOf layout) (relationsIn layout ws count area)) ≡ 256 * (32 - length ws) = ap (λ (l : List ℕ). 8192 - length l) first
+      let rest : replicate (placeSize * (maxNodes - length ws)) 0 ≡ take (placeSize * (maxNodes - length ws)) (drop (length ws * placeSize) area) =
+      sym (flat-none (maxNodes - length ws))
+      ∙ places-are area (replicate (maxNodes - length ws) []) (length ws)
+      (λ j b. let k : j < maxNodes - length ws = rw (length-replicate {A = Relation} (maxNodes - length ws) []) at b in area-empty ws few narrow count area g long (length ws + j)
+      (omega arith) (omega arith) ∙ place-none ∙ ap (placeOf layout) (sym (getD-replicate {A = Relation} (maxNodes - length ws) j [] [] k)))
+      ∙ ap (λ (n : ℕ). take (placeSize * n) (drop (length ws * placeSize) area)) (length-replicate {A = Relation} (maxNodes - length ws) []) in
+      let part : length (take (placeSize * length (relationsIn layout ws count area)) area) ≡ placeSize * length ws = length-take-le (placeSize * length rels) area (omega (arith, size))
+      ∙ ap (λ (n : ℕ). placeSize * n) size in
+      let left : areaSize - length (flatMap (placeOf layout) (relationsIn layout ws count area)) ≡ placeSize * (maxNodes - length ws) = ap (λ (l : List ℕ). areaSize - length l) first
       ∙ omega (arith, part) in
-      ap₂ {A = List ℕ} {B = ℕ} {C = List ℕ} (λ x n. x ++ replicate n 0) (first ∙ ap (λ (n : ℕ). take (256 * n) area) size) left
-      ∙ ap (λ (l : List ℕ). take (256 * length ws) area ++ l)
-      (rest ∙ ap (λ (n : ℕ). take (256 * (32 - length ws)) (drop n area)) (let e : length ws * 256 ≡ 256 * length ws = omega arith in e))
-      ∙ sym (take-add (256 * length ws) (256 * (32 - length ws)) area)
-      ∙ ap (λ (n : ℕ). take n area) (let e : 256 * length ws + 256 * (32 - length ws) ≡ 8192 = omega arith in e)
+      ap₂ {A = List ℕ} {B = ℕ} {C = List ℕ} (λ x n. x ++ replicate n 0) (first ∙ ap (λ (n : ℕ). take (placeSize * n) area) size) left
+      ∙ ap (λ (l : List ℕ). take (placeSize * length ws) area ++ l)
+      (rest ∙ ap (λ (n : ℕ). take (placeSize * (maxNodes - length ws)) (drop n area)) (let e : length ws * placeSize ≡ placeSize * length ws = omega arith in e))
+      ∙ sym (take-add (placeSize * length ws) (placeSize * (maxNodes - length ws)) area)
+      ∙ ap (λ (n : ℕ). take n area) (let e : placeSize * length ws + placeSize * (maxNodes - length ws) ≡ areaSize = omega arith in e)
 
-  pub area-own : 8192 ≤ length area → over (areaOf layout (relationsIn layout ws count area)) area ≡ area
+  pub area-own : areaSize ≤ length area → over (areaOf layout (relationsIn layout ws count area)) area ≡ area
   area-own long =
       ap₂ {A = List ℕ} {B = ℕ} {C = List ℕ} (λ x n. x ++ drop n area) (words-are long) (area-length ws (relationsIn layout ws count area) (area-fits ws few narrow count area g))
-      ∙ take-append-drop 8192 area
+      ∙ take-append-drop areaSize area
 
 -- ---- the head
 
@@ -112,29 +113,29 @@ agree-more x y from n h g k b = go (ltb k from) refl
         rw same at (g (k - from) (omega arith))
 
 -- two heads with the same named words, and the same words past them
-head-ext : (x y : List ℕ) → 162 ≤ length x → length x ≡ length y → batchNumber x ≡ batchNumber y → ((i : ℕ) → i < 32 → rowCount x i ≡ rowCount y i) →
-    ((i : ℕ) → i < 32 → stampAt x i ≡ stampAt y i) → ((i : ℕ) → i < 32 → gainedCount x i ≡ gainedCount y i) → ((i : ℕ) → i < 32 → lostCount x i ≡ lostCount y i) →
-    workedCount x ≡ workedCount y → ((k : ℕ) → k < 32 → workedAt x k ≡ workedAt y k) → drop 162 x ≡ drop 162 y → x ≡ y
-head-ext x y long size number rows stamps gained lost worked entries rest = ext-getD 0 x y size (λ k b. go k (ltb k 162) refl)
+head-ext : (x y : List ℕ) → headWords ≤ length x → length x ≡ length y → batchNumber x ≡ batchNumber y → ((i : ℕ) → i < maxNodes → rowCount x i ≡ rowCount y i) →
+    ((i : ℕ) → i < maxNodes → stampAt x i ≡ stampAt y i) → ((i : ℕ) → i < maxNodes → gainedCount x i ≡ gainedCount y i) → ((i : ℕ) → i < maxNodes → lostCount x i ≡ lostCount y i) →
+    workedCount x ≡ workedCount y → ((k : ℕ) → k < maxNodes → workedAt x k ≡ workedAt y k) → drop headWords x ≡ drop headWords y → x ≡ y
+head-ext x y long size number rows stamps gained lost worked entries rest = ext-getD 0 x y size (λ k b. go k (ltb k headWords) refl)
   where
     one : (at : ℕ) → getD x at 0 ≡ getD y at 0 → (i : ℕ) → i < 1 → getD x (at + i) 0 ≡ getD y (at + i) 0
     one at e i b = let z : at + i ≡ at = omega arith in rw z e
 
-    named : Agree x y 162
+    named : Agree x y headWords
     named =
-        agree-more x y 130 32
+        agree-more x y 130 maxNodes
         (agree-more x y 129 1
-        (agree-more x y 97 32
-        (agree-more x y 65 32 (agree-more x y 33 32 (agree-more x y 1 32 (agree-more x y 0 1 (λ k b. absurd (not-suc-le-zero b)) (one 0 number)) rows) stamps) gained) lost)
+        (agree-more x y 97 maxNodes
+        (agree-more x y 65 maxNodes (agree-more x y 33 maxNodes (agree-more x y 1 maxNodes (agree-more x y 0 1 (λ k b. absurd (not-suc-le-zero b)) (one 0 number)) rows) stamps) gained) lost)
         (one 129 worked))
         entries
 
-    go : (k : ℕ) (t : Bool) → ltb k 162 ≡ t → getD x k 0 ≡ getD y k 0
-    go k true e = named k (ltb-true k 162 e)
+    go : (k : ℕ) (t : Bool) → ltb k headWords ≡ t → getD x k 0 ≡ getD y k 0
+    go k true e = named k (ltb-true k headWords e)
     go k false e =
-        let above : 162 ≤ k = ltb-false k 162 e in
-        let same : 162 + (k - 162) ≡ k = omega arith in
-        rw same at (sym (getD-drop 162 x (k - 162) 0) ∙ ap (λ (l : List ℕ). getD l (k - 162) 0) rest ∙ getD-drop 162 y (k - 162) 0)
+        let above : headWords ≤ k = ltb-false k headWords e in
+        let same : headWords + (k - headWords) ≡ k = omega arith in
+        rw same at (sym (getD-drop headWords x (k - headWords) 0) ∙ ap (λ (l : List ℕ). getD l (k - headWords) 0) rest ∙ getD-drop headWords y (k - headWords) 0)
 
 -- ---- the areas
 
@@ -148,10 +149,10 @@ module _ (nodes : List Node) (small : Small nodes) (a : Areas) (c : coherent lay
   p : Proper nodes (stateIn layout nodes a)
   p = state-proper nodes small a c
 
-  sizes : (8192 ≤ length (a .rows)) × (8192 ≤ length (a .gained)) × (8192 ≤ length (a .lost)) × (162 ≤ length (a .head))
+  sizes : (areaSize ≤ length (a .rows)) × (areaSize ≤ length (a .gained)) × (areaSize ≤ length (a .lost)) × (headWords ≤ length (a .head))
   sizes = long-parts (a .rows) (a .gained) (a .lost) (a .head) long
 
-  ws-few : length (widths nodes) ≤ 32
+  ws-few : length (widths nodes) ≤ maxNodes
   ws-few = few nodes small a c
 
   -- the node's rows are those that evaluation gives
@@ -178,7 +179,7 @@ module _ (nodes : List Node) (small : Small nodes) (a : Areas) (c : coherent lay
   -- a count of the head: of a node as many as its rows, past the last 0
   counts : (count written : ℕ → ℕ) (area : List ℕ) → goodArea layout (widths nodes) count area ≡ true → (rels : List Relation) →
       rels ≡ relationsIn layout (widths nodes) count area → ((i : ℕ) → i < length (widths nodes) → written i ≡ length (getD rels i [])) →
-      ((i : ℕ) → length (widths nodes) ≤ i → i < 32 → written i ≡ 0) → (i : ℕ) → i < 32 → written i ≡ count i
+      ((i : ℕ) → length (widths nodes) ≤ i → i < maxNodes → written i ≡ 0) → (i : ℕ) → i < maxNodes → written i ≡ count i
   counts count written area g rels e some none i b = go (ltb i (length (widths nodes))) refl
     where
       go : (t : Bool) → ltb i (length (widths nodes)) ≡ t → written i ≡ count i
@@ -187,7 +188,7 @@ module _ (nodes : List Node) (small : Small nodes) (a : Areas) (c : coherent lay
       go false f = let k : length (widths nodes) ≤ i = ltb-false i (length (widths nodes)) f in none i k b
           ∙ sym (count-none (widths nodes) ws-few (small .narrow) count area g i k b)
 
-  stamps-same : (i : ℕ) → i < 32 → stampAt (holding layout nodes (stateIn layout nodes a) a .head) i ≡ stampAt (a .head) i
+  stamps-same : (i : ℕ) → i < maxNodes → stampAt (holding layout nodes (stateIn layout nodes a) a .head) i ≡ stampAt (a .head) i
   unfolding stateIn goodStamps
   stamps-same i b = stamp-word nodes s p a i b ∙ go (ltb i (length nodes)) refl
     where
@@ -195,9 +196,9 @@ module _ (nodes : List Node) (small : Small nodes) (a : Areas) (c : coherent lay
       size = length-counted (stampAt (a .head)) 0 (length nodes)
 
       low : leb (stampAt (a .head) (0 + i)) (cond (ltb (0 + i) (length nodes)) (batchNumber (a .head)) 0) ≡ true
-      low = all-below (λ j. leb (stampAt (a .head) j) (cond (ltb j (length nodes)) (batchNumber (a .head)) 0)) 0 32 (parts nodes small a c .3) i b
+      low = all-below (λ j. leb (stampAt (a .head) j) (cond (ltb j (length nodes)) (batchNumber (a .head)) 0)) 0 maxNodes (parts nodes small a c .3) i b
 
-      go : (t : Bool) → ltb i (length nodes) ≡ t → getD (stateIn layout nodes a .stamps ++ replicate (32 - length (stateIn layout nodes a .stamps)) 0) i 0 ≡ stampAt (a .head) i
+      go : (t : Bool) → ltb i (length nodes) ≡ t → getD (stateIn layout nodes a .stamps ++ replicate (maxNodes - length (stateIn layout nodes a .stamps)) 0) i 0 ≡ stampAt (a .head) i
       go true e =
           let k : i < length nodes = ltb-true i (length nodes) e in
           padded-at (map (stampAt (a .head)) (numbersBelow (length nodes))) i (rw size k) ∙ counted-at 0 (stampAt (a .head)) 0 (length nodes) i k
@@ -205,24 +206,24 @@ module _ (nodes : List Node) (small : Small nodes) (a : Areas) (c : coherent lay
       go false e =
           let k : length nodes ≤ i = ltb-false i (length nodes) e in
           let zero : leb (stampAt (a .head) i) 0 ≡ true = rw (zero-add i, e) at low in
-          padded-zero 32 (map (stampAt (a .head)) (numbersBelow (length nodes))) i (rw size k) b ∙ omega (arith, leb-true (stampAt (a .head) i) 0 zero)
+          padded-zero maxNodes (map (stampAt (a .head)) (numbersBelow (length nodes))) i (rw size k) b ∙ omega (arith, leb-true (stampAt (a .head) i) 0 zero)
 
-  worked-same : (k : ℕ) → k < 32 → workedAt (holding layout nodes (stateIn layout nodes a) a .head) k ≡ workedAt (a .head) k
+  worked-same : (k : ℕ) → k < maxNodes → workedAt (holding layout nodes (stateIn layout nodes a) a .head) k ≡ workedAt (a .head) k
   unfolding stateIn goodWorked
   worked-same k b = worked-word nodes s p a k b ∙ go (ltb k (workedCount (a .head))) refl
     where
       size : length (map (workedAt (a .head)) (numbersBelow (workedCount (a .head)))) ≡ workedCount (a .head)
       size = length-counted (workedAt (a .head)) 0 (workedCount (a .head))
 
-      all : allOf (λ j. cond (ltb j (workedCount (a .head))) (ltb (workedAt (a .head) j) (length nodes)) (eqb (workedAt (a .head) j) 0)) (numbersBelow 32) ≡ true
+      all : allOf (λ j. cond (ltb j (workedCount (a .head))) (ltb (workedAt (a .head) j) (length nodes)) (eqb (workedAt (a .head) j) 0)) (numbersBelow maxNodes) ≡ true
       all = and-second (leb (workedCount (a .head)) (length nodes))
-          (allOf (λ j. cond (ltb j (workedCount (a .head))) (ltb (workedAt (a .head) j) (length nodes)) (eqb (workedAt (a .head) j) 0)) (numbersBelow 32))
+          (allOf (λ j. cond (ltb j (workedCount (a .head))) (ltb (workedAt (a .head) j) (length nodes)) (eqb (workedAt (a .head) j) 0)) (numbersBelow maxNodes))
           (parts nodes small a c .4)
 
       at : cond (ltb (0 + k) (workedCount (a .head))) (ltb (workedAt (a .head) (0 + k)) (length nodes)) (eqb (workedAt (a .head) (0 + k)) 0) ≡ true
-      at = all-below (λ j. cond (ltb j (workedCount (a .head))) (ltb (workedAt (a .head) j) (length nodes)) (eqb (workedAt (a .head) j) 0)) 0 32 all k b
+      at = all-below (λ j. cond (ltb j (workedCount (a .head))) (ltb (workedAt (a .head) j) (length nodes)) (eqb (workedAt (a .head) j) 0)) 0 maxNodes all k b
 
-      go : (t : Bool) → ltb k (workedCount (a .head)) ≡ t → getD (stateIn layout nodes a .worked ++ replicate (32 - length (stateIn layout nodes a .worked)) 0) k 0
+      go : (t : Bool) → ltb k (workedCount (a .head)) ≡ t → getD (stateIn layout nodes a .worked ++ replicate (maxNodes - length (stateIn layout nodes a .worked)) 0) k 0
           ≡ workedAt (a .head) k
       go true e =
           let i : k < workedCount (a .head) = ltb-true k (workedCount (a .head)) e in
@@ -231,9 +232,9 @@ module _ (nodes : List Node) (small : Small nodes) (a : Areas) (c : coherent lay
       go false e =
           let i : workedCount (a .head) ≤ k = ltb-false k (workedCount (a .head)) e in
           let zero : eqb (workedAt (a .head) k) 0 ≡ true = rw (zero-add k, e) at at in
-          padded-zero 32 (map (workedAt (a .head)) (numbersBelow (workedCount (a .head)))) k (rw size i) b ∙ sym (eqb-true (workedAt (a .head) k) 0 zero)
+          padded-zero maxNodes (map (workedAt (a .head)) (numbersBelow (workedCount (a .head)))) k (rw size i) b ∙ sym (eqb-true (workedAt (a .head) k) 0 zero)
 
-  words : length (headOf (evaluate nodes (stateIn layout nodes a .tables)) (stateIn layout nodes a)) ≡ 162
+  words : length (headOf (evaluate nodes (stateIn layout nodes a .tables)) (stateIn layout nodes a)) ≡ headWords
   words = head-words nodes s p
 
   abbrev written : List ℕ
@@ -244,8 +245,8 @@ module _ (nodes : List Node) (small : Small nodes) (a : Areas) (c : coherent lay
   head-form = refl
 
   -- the words past the named ones
-  head-rest : drop 162 (holding layout nodes (stateIn layout nodes a) a .head) ≡ drop 162 (a .head)
-  head-rest = ap (drop 162) head-form ∙ drop-at written (drop (length written) (a .head)) 162 words ∙ ap (λ (n : ℕ). drop n (a .head)) words
+  head-rest : drop headWords (holding layout nodes (stateIn layout nodes a) a .head) ≡ drop headWords (a .head)
+  head-rest = ap (drop headWords) head-form ∙ drop-at written (drop (length written) (a .head)) headWords words ∙ ap (λ (n : ℕ). drop n (a .head)) words
 
   head-length : length (holding layout nodes (stateIn layout nodes a) a .head) ≡ length (a .head)
   head-length = ap length head-form ∙ length-append written (drop (length written) (a .head)) ∙ rw (length-drop (length written) (a .head), words) (omega (arith, sizes .3))

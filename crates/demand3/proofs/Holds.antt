@@ -17,7 +17,7 @@ use Rattle.model.specs.Areas.{rowCount, rowsIn, stampAt, tablesOf, workedAt, wo
 use Rattle.model.specs.Delta.{Change}
 use Rattle.states.specs.Fitting.{Fitting}
 use Rattle.states.proofs.Written.{written-back, written-good, written-long, area-length}
-use Rattle.model.specs.Row.{Relation, allOf, countFrom, numbersBelow}
+use Rattle.model.specs.Row.{Relation, allOf, countFrom, numbersBelow, maxNodes}
 use Rattle.model.specs.Station.{State}
 use Rattle.model.proofs.Sets.{and-both}
 use Rattle.model.specs.Evaluation.{evaluate, rowsAt}
@@ -26,6 +26,7 @@ use Rattle.states.proofs.Head.{head-length, padded-length, padded-zero, word-b,
 use Rattle.model.proofs.Fits.{length-widths}
 use Rattle.evaluation.proofs.Fresh.{fresh-table, same-refl, tables-at}
 use Rattle.model.proofs.Build.{length-evaluate}
+use Rattle.model.specs.Areas.{areaSize, headWords}
 use Rattle.states.proofs.Fitted.{only-length}
 use Rattle.states.proofs.Changes.{map-twice, lengths-at}
 
@@ -55,8 +56,8 @@ map-getD f from (x ∷ l) h =
     (map-getD f (suc from) l (λ k g. let e : suc from + k ≡ from + suc k = omega arith in ap f e ∙ h (suc k) (suc-le-suc g)))
 
 -- a list padded to 32 numbers, each number or 0
-pub padded-at : (l : List ℕ) (i : ℕ) → i < length l → getD (padded 32 l) i 0 ≡ getD l i 0
-padded-at l i h = List·getD-append l (replicate (32 - length l) 0) 0 i h
+pub padded-at : (l : List ℕ) (i : ℕ) → i < length l → getD (padded maxNodes l) i 0 ≡ getD l i 0
+padded-at l i h = List·getD-append l (replicate (maxNodes - length l) 0) 0 i h
 
 -- evaluation leaves the tables as they are
 pub tables-back : (nodes : List Node) (tables : List Relation) → length tables ≡ length nodes → tablesOf nodes tables ≡ tables → AllFit nodes →
@@ -88,7 +89,7 @@ module _ (nodes : List Node) (s : State) (p : Proper nodes s) (before : Areas) w
   abbrev h : Areas
   h = holding layout nodes s before
 
-  few : length nodes ≤ 32
+  few : length nodes ≤ maxNodes
   few = omega (arith, p .rows .few, length-widths nodes)
 
   ws-size : length (widths nodes) ≡ length nodes
@@ -97,19 +98,19 @@ module _ (nodes : List Node) (s : State) (p : Proper nodes s) (before : Areas) w
   -- ---- the head
 
   abbrev c1 : List ℕ
-  c1 = padded 32 (map length (evaluate nodes (s .tables)))
+  c1 = padded maxNodes (map length (evaluate nodes (s .tables)))
 
   abbrev c2 : List ℕ
-  c2 = padded 32 (s .stamps)
+  c2 = padded maxNodes (s .stamps)
 
   abbrev c3 : List ℕ
-  c3 = padded 32 (map (λ c. length (c .gained)) (s .changes))
+  c3 = padded maxNodes (map (λ c. length (c .gained)) (s .changes))
 
   abbrev c4 : List ℕ
-  c4 = padded 32 (map (λ c. length (c .lost)) (s .changes))
+  c4 = padded maxNodes (map (λ c. length (c .lost)) (s .changes))
 
   abbrev c5 : List ℕ
-  c5 = padded 32 (s .worked)
+  c5 = padded maxNodes (s .worked)
 
   counted : (g : Change → Relation) → length (map g (s .changes)) ≡ length (widths nodes) → length (map (λ c. length (g c)) (s .changes)) ≡ length nodes
   counted g e = ap length (map-twice g (s .changes)) ∙ length-map (map g (s .changes)) length ∙ e ∙ ws-size
@@ -123,20 +124,20 @@ module _ (nodes : List Node) (s : State) (p : Proper nodes s) (before : Areas) w
   n4 : length (map (λ c. length (c .lost)) (s .changes)) ≡ length nodes
   n4 = counted (λ c. c .lost) (p .lost .size)
 
-  k1 : length c1 ≡ 32
-  k1 = padded-length 32 (map length (evaluate nodes (s .tables))) (omega (arith, n1, few))
+  k1 : length c1 ≡ maxNodes
+  k1 = padded-length maxNodes (map length (evaluate nodes (s .tables))) (omega (arith, n1, few))
 
-  k2 : length c2 ≡ 32
-  k2 = padded-length 32 (s .stamps) (omega (arith, p .stamps-size, few))
+  k2 : length c2 ≡ maxNodes
+  k2 = padded-length maxNodes (s .stamps) (omega (arith, p .stamps-size, few))
 
-  k3 : length c3 ≡ 32
-  k3 = padded-length 32 (map (λ c. length (c .gained)) (s .changes)) (omega (arith, n3, few))
+  k3 : length c3 ≡ maxNodes
+  k3 = padded-length maxNodes (map (λ c. length (c .gained)) (s .changes)) (omega (arith, n3, few))
 
-  k4 : length c4 ≡ 32
-  k4 = padded-length 32 (map (λ c. length (c .lost)) (s .changes)) (omega (arith, n4, few))
+  k4 : length c4 ≡ maxNodes
+  k4 = padded-length maxNodes (map (λ c. length (c .lost)) (s .changes)) (omega (arith, n4, few))
 
-  k5 : length c5 ≡ 32
-  k5 = padded-length 32 (s .worked) (omega (arith, p .worked-few, few))
+  k5 : length c5 ≡ maxNodes
+  k5 = padded-length maxNodes (s .worked) (omega (arith, p .worked-few, few))
 
   abbrev rest : List ℕ
   rest = drop (length (headOf (evaluate nodes (s .tables)) s)) (before .head)
@@ -145,19 +146,19 @@ module _ (nodes : List Node) (s : State) (p : Proper nodes s) (before : Areas) w
   unfolding holding headOf
   number-is = word-first (s .number ∷ []) c1 c2 c3 c4 (length (s .worked) ∷ []) c5 rest refl k1 k2 k3 k4 refl k5
 
-  count-word : (i : ℕ) → i < 32 → rowCount (holding layout nodes s before .head) i ≡ getD c1 i 0
+  count-word : (i : ℕ) → i < maxNodes → rowCount (holding layout nodes s before .head) i ≡ getD c1 i 0
   unfolding holding headOf
   count-word i b = word-p (s .number ∷ []) c1 c2 c3 c4 (length (s .worked) ∷ []) c5 rest refl k1 k2 k3 k4 refl k5 i b
 
-  pub stamp-word : (i : ℕ) → i < 32 → stampAt (holding layout nodes s before .head) i ≡ getD c2 i 0
+  pub stamp-word : (i : ℕ) → i < maxNodes → stampAt (holding layout nodes s before .head) i ≡ getD c2 i 0
   unfolding holding headOf
   stamp-word i b = word-q (s .number ∷ []) c1 c2 c3 c4 (length (s .worked) ∷ []) c5 rest refl k1 k2 k3 k4 refl k5 i b
 
-  gained-word : (i : ℕ) → i < 32 → gainedCount (holding layout nodes s before .head) i ≡ getD c3 i 0
+  gained-word : (i : ℕ) → i < maxNodes → gainedCount (holding layout nodes s before .head) i ≡ getD c3 i 0
   unfolding holding headOf
   gained-word i b = word-r (s .number ∷ []) c1 c2 c3 c4 (length (s .worked) ∷ []) c5 rest refl k1 k2 k3 k4 refl k5 i b
 
-  lost-word : (i : ℕ) → i < 32 → lostCount (holding layout nodes s before .head) i ≡ getD c4 i 0
+  lost-word : (i : ℕ) → i < maxNodes → lostCount (holding layout nodes s before .head) i ≡ getD c4 i 0
   unfolding holding headOf
   lost-word i b = word-s (s .number ∷ []) c1 c2 c3 c4 (length (s .worked) ∷ []) c5 rest refl k1 k2 k3 k4 refl k5 i b
 
@@ -165,7 +166,7 @@ module _ (nodes : List Node) (s : State) (p : Proper nodes s) (before : Areas) w
   unfolding holding headOf
   worked-is = word-b (s .number ∷ []) c1 c2 c3 c4 (length (s .worked) ∷ []) c5 rest refl k1 k2 k3 k4 refl k5
 
-  pub worked-word : (k : ℕ) → k < 32 → workedAt (holding layout nodes s before .head) k ≡ getD c5 k 0
+  pub worked-word : (k : ℕ) → k < maxNodes → workedAt (holding layout nodes s before .head) k ≡ getD c5 k 0
   unfolding holding headOf
   worked-word k b = word-t (s .number ∷ []) c1 c2 c3 c4 (length (s .worked) ∷ []) c5 rest refl k1 k2 k3 k4 refl k5 k b
 
@@ -175,56 +176,56 @@ module _ (nodes : List Node) (s : State) (p : Proper nodes s) (before : Areas) w
   rows-count i b = count-word i (omega (arith, ws-size, few)) ∙ padded-at (map length (evaluate nodes (s .tables))) i (omega (arith, n1, ws-size))
       ∙ lengths-at (evaluate nodes (s .tables)) i
 
-  pub rows-none : (i : ℕ) → length (widths nodes) ≤ i → i < 32 → rowCount (holding layout nodes s before .head) i ≡ 0
-  rows-none i b k = count-word i k ∙ padded-zero 32 (map length (evaluate nodes (s .tables))) i (omega (arith, n1, ws-size)) k
+  pub rows-none : (i : ℕ) → length (widths nodes) ≤ i → i < maxNodes → rowCount (holding layout nodes s before .head) i ≡ 0
+  rows-none i b k = count-word i k ∙ padded-zero maxNodes (map length (evaluate nodes (s .tables))) i (omega (arith, n1, ws-size)) k
 
   change-count : (g : Change → Relation) (i : ℕ) → length (map (λ c. length (g c)) (s .changes)) ≡ length nodes → i < length (widths nodes) →
-      getD (padded 32 (map (λ c. length (g c)) (s .changes))) i 0 ≡ length (getD (map g (s .changes)) i [])
+      getD (padded maxNodes (map (λ c. length (g c)) (s .changes))) i 0 ≡ length (getD (map g (s .changes)) i [])
   change-count g i n b = padded-at (map (λ c. length (g c)) (s .changes)) i (omega (arith, n, ws-size)) ∙ ap (λ (l : List ℕ). getD l i 0) (map-twice g (s .changes))
       ∙ lengths-at (map g (s .changes)) i
 
   pub gained-count : (i : ℕ) → i < length (widths nodes) → gainedCount (holding layout nodes s before .head) i ≡ length (getD (map (λ c. c .gained) (s .changes)) i [])
   gained-count i b = gained-word i (omega (arith, ws-size, few)) ∙ change-count (λ c. c .gained) i n3 b
 
-  pub gained-none : (i : ℕ) → length (widths nodes) ≤ i → i < 32 → gainedCount (holding layout nodes s before .head) i ≡ 0
-  gained-none i b k = gained-word i k ∙ padded-zero 32 (map (λ c. length (c .gained)) (s .changes)) i (omega (arith, n3, ws-size)) k
+  pub gained-none : (i : ℕ) → length (widths nodes) ≤ i → i < maxNodes → gainedCount (holding layout nodes s before .head) i ≡ 0
+  gained-none i b k = gained-word i k ∙ padded-zero maxNodes (map (λ c. length (c .gained)) (s .changes)) i (omega (arith, n3, ws-size)) k
 
   pub lost-count : (i : ℕ) → i < length (widths nodes) → lostCount (holding layout nodes s before .head) i ≡ length (getD (map (λ c. c .lost) (s .changes)) i [])
   lost-count i b = lost-word i (omega (arith, ws-size, few)) ∙ change-count (λ c. c .lost) i n4 b
 
-  pub lost-none : (i : ℕ) → length (widths nodes) ≤ i → i < 32 → lostCount (holding layout nodes s before .head) i ≡ 0
-  lost-none i b k = lost-word i k ∙ padded-zero 32 (map (λ c. length (c .lost)) (s .changes)) i (omega (arith, n4, ws-size)) k
+  pub lost-none : (i : ℕ) → length (widths nodes) ≤ i → i < maxNodes → lostCount (holding layout nodes s before .head) i ≡ 0
+  lost-none i b k = lost-word i k ∙ padded-zero maxNodes (map (λ c. length (c .lost)) (s .changes)) i (omega (arith, n4, ws-size)) k
 
   -- ---- good form
 
   good-stamps : goodStamps (length nodes) (holding layout nodes s before .head) ≡ true
   unfolding goodStamps
-  good-stamps = below-all (λ i. leb (stampAt (holding layout nodes s before .head) i) (cond (ltb i (length nodes)) (batchNumber (holding layout nodes s before .head)) 0)) 0 32
+  good-stamps = below-all (λ i. leb (stampAt (holding layout nodes s before .head) i) (cond (ltb i (length nodes)) (batchNumber (holding layout nodes s before .head)) 0)) 0 maxNodes
       (λ i b. rw (zero-add i) (go i b (ltb i (length nodes)) refl))
     where
-      go : (i : ℕ) → i < 32 → (t : Bool) → ltb i (length nodes) ≡ t →
+      go : (i : ℕ) → i < maxNodes → (t : Bool) → ltb i (length nodes) ≡ t →
           leb (stampAt (holding layout nodes s before .head) i) (cond t (batchNumber (holding layout nodes s before .head)) 0) ≡ true
       go i b true e =
           let k : i < length nodes = ltb-true i (length nodes) e in
           rw (stamp-word i b ∙ padded-at (s .stamps) i (rw (p .stamps-size) k), number-is) (le-leb (getD (s .stamps) i 0) (s .number) (p .stamps-low i))
-      go i b false e = rw (stamp-word i b ∙ padded-zero 32 (s .stamps) i (rw (p .stamps-size) (ltb-false i (length nodes) e)) b)
+      go i b false e = rw (stamp-word i b ∙ padded-zero maxNodes (s .stamps) i (rw (p .stamps-size) (ltb-false i (length nodes) e)) b)
 
   good-worked : goodWorked (length nodes) (holding layout nodes s before .head) ≡ true
   unfolding goodWorked
   good-worked =
       and-both (leb (workedCount (holding layout nodes s before .head)) (length nodes))
       (allOf (λ k. cond (ltb k (workedCount (holding layout nodes s before .head))) (ltb (workedAt (holding layout nodes s before .head) k) (length nodes))
-      (eqb (workedAt (holding layout nodes s before .head) k) 0)) (numbersBelow 32))
+      (eqb (workedAt (holding layout nodes s before .head) k) 0)) (numbersBelow maxNodes))
       (rw worked-is (le-leb (length (s .worked)) (length nodes) (p .worked-few)))
       (below-all (λ k. cond (ltb k (workedCount (holding layout nodes s before .head))) (ltb (workedAt (holding layout nodes s before .head) k) (length nodes))
-      (eqb (workedAt (holding layout nodes s before .head) k) 0)) 0 32 (λ k b. rw (zero-add k, worked-is) (go k b (ltb k (length (s .worked))) refl)))
+      (eqb (workedAt (holding layout nodes s before .head) k) 0)) 0 maxNodes (λ k b. rw (zero-add k, worked-is) (go k b (ltb k (length (s .worked))) refl)))
     where
-      go : (k : ℕ) → k < 32 → (t : Bool) → ltb k (length (s .worked)) ≡ t →
+      go : (k : ℕ) → k < maxNodes → (t : Bool) → ltb k (length (s .worked)) ≡ t →
           cond t (ltb (workedAt (holding layout nodes s before .head) k) (length nodes)) (eqb (workedAt (holding layout nodes s before .head) k) 0) ≡ true
       go k b true e =
           let i : k < length (s .worked) = ltb-true k (length (s .worked)) e in
           rw (worked-word k b ∙ padded-at (s .worked) k i) (lt-ltb (getD (s .worked) k 0) (length nodes) (p .worked-low k i))
-      go k b false e = rw (worked-word k b ∙ padded-zero 32 (s .worked) k (ltb-false k (length (s .worked)) e) b)
+      go k b false e = rw (worked-word k b ∙ padded-zero maxNodes (s .worked) k (ltb-false k (length (s .worked)) e) b)
 
   pub holding-good : goodForm layout nodes (holding layout nodes s before) ≡ true
   unfolding goodForm holding
@@ -245,12 +246,12 @@ module _ (nodes : List Node) (s : State) (p : Proper nodes s) (before : Areas) w
   pub holding-long : longEnough layout (holding layout nodes s before) ≡ true
   unfolding longEnough holding headOf
   holding-long =
-      long-last (leb 8192 (length (holding layout nodes s before .rows))) (leb 8192 (length (holding layout nodes s before .gained)))
-      (leb 8192 (length (holding layout nodes s before .lost))) (leb 162 (length (holding layout nodes s before .head)))
-      (le-leb 8192 (length (holding layout nodes s before .rows)) (written-long (widths nodes) (evaluate nodes (s .tables)) (p .rows) (before .rows)))
-      (le-leb 8192 (length (holding layout nodes s before .gained)) (written-long (widths nodes) (map (λ c. c .gained) (s .changes)) (p .gained) (before .gained)))
-      (le-leb 8192 (length (holding layout nodes s before .lost)) (written-long (widths nodes) (map (λ c. c .lost) (s .changes)) (p .lost) (before .lost)))
-      ∙ le-leb 162 (length (holding layout nodes s before .head))
+      long-last (leb areaSize (length (holding layout nodes s before .rows))) (leb areaSize (length (holding layout nodes s before .gained)))
+      (leb areaSize (length (holding layout nodes s before .lost))) (leb headWords (length (holding layout nodes s before .head)))
+      (le-leb areaSize (length (holding layout nodes s before .rows)) (written-long (widths nodes) (evaluate nodes (s .tables)) (p .rows) (before .rows)))
+      (le-leb areaSize (length (holding layout nodes s before .gained)) (written-long (widths nodes) (map (λ c. c .gained) (s .changes)) (p .gained) (before .gained)))
+      (le-leb areaSize (length (holding layout nodes s before .lost)) (written-long (widths nodes) (map (λ c. c .lost) (s .changes)) (p .lost) (before .lost)))
+      ∙ le-leb headWords (length (holding layout nodes s before .head))
       (omega (
         arith,
         head-length (s .number ∷ []) c1 c2 c3 c4 (length (s .worked) ∷ []) c5 rest refl k1 k2 k3 k4 refl k5,
@@ -324,9 +325,9 @@ over-over first second before n e f =
     ap (λ (l : List ℕ). second ++ l) (drop-at first (drop (length first) before) (length second) (e ∙ sym f) ∙ ap (λ (k : ℕ). drop k before) (e ∙ sym f))
 
 module _ (nodes : List Node) (s : State) (p : Proper nodes s) where
-  pub head-words : length (headOf (evaluate nodes (s .tables)) s) ≡ 162
+  pub head-words : length (headOf (evaluate nodes (s .tables)) s) ≡ headWords
   head-words =
-      let few : length nodes ≤ 32 = omega (arith, p .rows .few, length-widths nodes) in
+      let few : length nodes ≤ maxNodes = omega (arith, p .rows .few, length-widths nodes) in
       let changes : length (s .changes) ≡ length nodes = sym (length-map (s .changes) (λ c. c .gained)) ∙ p .gained .size ∙ length-widths nodes in
       head-size (evaluate nodes (s .tables)) s (omega (arith, p .rows .size, p .rows .few)) (omega (arith, p .stamps-size, few)) (omega (arith, changes, few))
       (omega (arith, p .worked-few, few))
@@ -338,11 +339,11 @@ unfolding holding
 holding-again nodes s t p q before =
     λ i.
     record {
-      rows = over-over (areaOf layout (evaluate nodes (s .tables))) (areaOf layout (evaluate nodes (t .tables))) (before .rows) 8192
+      rows = over-over (areaOf layout (evaluate nodes (s .tables))) (areaOf layout (evaluate nodes (t .tables))) (before .rows) areaSize
           (area-length (widths nodes) (evaluate nodes (s .tables)) (p .rows)) (area-length (widths nodes) (evaluate nodes (t .tables)) (q .rows)) i;
-      gained = over-over (areaOf layout (map (λ c. c .gained) (s .changes))) (areaOf layout (map (λ c. c .gained) (t .changes))) (before .gained) 8192
+      gained = over-over (areaOf layout (map (λ c. c .gained) (s .changes))) (areaOf layout (map (λ c. c .gained) (t .changes))) (before .gained) areaSize
           (area-length (widths nodes) (map (λ c. c .gained) (s .changes)) (p .gained)) (area-length (widths nodes) (map (λ c. c .gained) (t .changes)) (q .gained)) i;
-      lost = over-over (areaOf layout (map (λ c. c .lost) (s .changes))) (areaOf layout (map (λ c. c .lost) (t .changes))) (before .lost) 8192
+      lost = over-over (areaOf layout (map (λ c. c .lost) (s .changes))) (areaOf layout (map (λ c. c .lost) (t .changes))) (before .lost) areaSize
           (area-length (widths nodes) (map (λ c. c .lost) (s .changes)) (p .lost)) (area-length (widths nodes) (map (λ c. c .lost) (t .changes)) (q .lost)) i;
-      head = over-over (headOf (evaluate nodes (s .tables)) s) (headOf (evaluate nodes (t .tables)) t) (before .head) 162 (head-words nodes s p) (head-words nodes t q) i;
+      head = over-over (headOf (evaluate nodes (s .tables)) s) (headOf (evaluate nodes (t .tables)) t) (before .head) headWords (head-words nodes s p) (head-words nodes t q) i;
     }

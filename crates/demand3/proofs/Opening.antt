@@ -8,12 +8,12 @@ use native.Mathlib.Nat.{le-refl, not-suc-le-zero}
 use lib.Seq.{ext-getD}
 use lib.ListN.{getD, length, length-replicate, replicate, replicate-append-replicate}
 use Rattle.model.specs.Network.{Node, AllFit, widths, nodeAt, isTable, evaluateOn, leftOf, rightOf}
-use Rattle.model.specs.Areas.{Areas, areaOf, cleared, headOf, holding, layout, over, padded, tablesOf}
+use Rattle.model.specs.Areas.{Areas, areaOf, cleared, headOf, holding, layout, over, padded, tablesOf, areaSize, headWords}
 use Rattle.model.specs.Delta.{Change, noChange}
 use Rattle.states.specs.Fitting.{Fitting}
 use Rattle.states.proofs.Written.{flat-none}
 use Rattle.demand3.proofs.Holds.{Proper}
-use Rattle.model.specs.Row.{Relation}
+use Rattle.model.specs.Row.{Relation, maxNodes, maxWidth}
 use Rattle.model.proofs.Fits.{Small, length-widths}
 use Rattle.model.specs.Evaluation.{evaluate, rowsAt}
 use Rattle.evaluation.proofs.Fresh.{fresh-derived, fresh-table, inputs-before}
@@ -21,6 +21,7 @@ use Rattle.model.proofs.Build.{length-evaluate}
 use Rattle.model.proofs.ByKind.{on-none}
 use Rattle.model.proofs.Parts.{same-at}
 use Rattle.model.specs.Station.{opened}
+use Rattle.model.specs.Areas.{placeSize}
 use Rattle.states.proofs.Worked.{worked-few, worked-low}
 
 -- ---- an evaluation of empty tables is empty
@@ -46,7 +47,7 @@ module _ (nodes : List Node) (fit : AllFit nodes) where
       ext-getD [] (evaluate nodes (replicate (length nodes) [])) (replicate (length nodes) []) (size ∙ sym (length-replicate {A = Relation} (length nodes) []))
       (λ i h. none-to (length nodes) (le-refl (length nodes)) i (rw size at h) ∙ sym (same-at {A = Relation} [] (length nodes) i))
 
-none-fits : (ws : List ℕ) → length ws ≤ 32 → ((i : ℕ) → getD ws i 0 ≤ 4) → Fitting ws (replicate (length ws) [])
+none-fits : (ws : List ℕ) → length ws ≤ maxNodes → ((i : ℕ) → getD ws i 0 ≤ maxWidth) → Fitting ws (replicate (length ws) [])
 none-fits ws few narrow =
     record {
       size = length-replicate {A = Relation} (length ws) [];
@@ -71,7 +72,7 @@ map-none g zero e = refl
 map-none g (suc n) e = ap₂ {A = Relation} {B = List Relation} {C = List Relation} (λ a b. a ∷ b) e (map-none g n e)
 
 module _ (nodes : List Node) (fit : AllFit nodes) (small : Small nodes) where
-  ws-few : length (widths nodes) ≤ 32
+  ws-few : length (widths nodes) ≤ maxNodes
   ws-few = omega (arith, small .few, length-widths nodes)
 
   none-fitting : Fitting (widths nodes) (replicate (length nodes) [])
@@ -98,19 +99,19 @@ module _ (nodes : List Node) (fit : AllFit nodes) (small : Small nodes) where
 
   -- ---- its words are all 0
 
-  area-none : areaOf layout (replicate (length nodes) []) ≡ replicate 8192 0
+  area-none : areaOf layout (replicate (length nodes) []) ≡ replicate areaSize 0
   unfolding areaOf
   area-none =
-      let size : 256 * length nodes + (8192 - 256 * length nodes) ≡ 8192 = omega (arith, small .few) in
-      ap₂ {A = List ℕ} {B = ℕ} {C = List ℕ} (λ a n. a ++ replicate (8192 - n) 0) (flat-none (length nodes))
-      (ap length (flat-none (length nodes)) ∙ length-replicate {A = ℕ} (256 * length nodes) 0)
-      ∙ replicate-append-replicate {A = ℕ} (256 * length nodes) (8192 - 256 * length nodes) 0
+      let size : placeSize * length nodes + (areaSize - placeSize * length nodes) ≡ areaSize = omega (arith, small .few) in
+      ap₂ {A = List ℕ} {B = ℕ} {C = List ℕ} (λ a n. a ++ replicate (areaSize - n) 0) (flat-none (length nodes))
+      (ap length (flat-none (length nodes)) ∙ length-replicate {A = ℕ} (placeSize * length nodes) 0)
+      ∙ replicate-append-replicate {A = ℕ} (placeSize * length nodes) (areaSize - placeSize * length nodes) 0
       ∙ ap (λ (k : ℕ). replicate {A = ℕ} k 0) size
 
-  padded-none : (n : ℕ) → n ≤ 32 → padded 32 (replicate n 0) ≡ replicate 32 0
+  padded-none : (n : ℕ) → n ≤ maxNodes → padded maxNodes (replicate n 0) ≡ replicate maxNodes 0
   padded-none n h =
-      let size : n + (32 - n) ≡ 32 = omega arith in
-      ap (λ (k : ℕ). replicate {A = ℕ} n 0 ++ replicate (32 - k) 0) (length-replicate {A = ℕ} n 0) ∙ replicate-append-replicate {A = ℕ} n (32 - n) 0
+      let size : n + (maxNodes - n) ≡ maxNodes = omega arith in
+      ap (λ (k : ℕ). replicate {A = ℕ} n 0 ++ replicate (maxNodes - k) 0) (length-replicate {A = ℕ} n 0) ∙ replicate-append-replicate {A = ℕ} n (maxNodes - n) 0
       ∙ ap (λ (k : ℕ). replicate {A = ℕ} k 0) size
 
   lengths-none : (n : ℕ) → map length (replicate {A = Relation} n []) ≡ replicate n 0
@@ -121,7 +122,7 @@ module _ (nodes : List Node) (fit : AllFit nodes) (small : Small nodes) where
   counts-none g zero e = refl
   counts-none g (suc n) e = ap₂ {A = ℕ} {B = List ℕ} {C = List ℕ} (λ a b. a ∷ b) (ap length e) (counts-none g n e)
 
-  head-none : headOf (replicate (length nodes) []) (opened nodes) ≡ replicate 162 0
+  head-none : headOf (replicate (length nodes) []) (opened nodes) ≡ replicate headWords 0
   unfolding headOf opened
   head-none =
       rw (lengths-none (length nodes), counts-none (λ c. c .gained) (length nodes) refl, counts-none (λ c. c .lost) (length nodes) refl, padded-none (length nodes) (small .few))
@@ -131,11 +132,11 @@ module _ (nodes : List Node) (fit : AllFit nodes) (small : Small nodes) where
   pub cleared-holds : (a : Areas) → cleared layout a ≡ holding layout nodes (opened nodes) a
   unfolding cleared holding opened
   cleared-holds a =
-      let rows : areaOf layout (evaluate nodes (replicate (length nodes) [])) ≡ replicate 8192 0 = ap (areaOf layout) (fresh-none nodes fit) ∙ area-none in
-      let gained : areaOf layout (map (λ c. c .gained) (replicate (length nodes) noChange)) ≡ replicate 8192 0 = ap (areaOf layout) (map-none (λ c. c .gained) (length nodes) refl)
+      let rows : areaOf layout (evaluate nodes (replicate (length nodes) [])) ≡ replicate areaSize 0 = ap (areaOf layout) (fresh-none nodes fit) ∙ area-none in
+      let gained : areaOf layout (map (λ c. c .gained) (replicate (length nodes) noChange)) ≡ replicate areaSize 0 = ap (areaOf layout) (map-none (λ c. c .gained) (length nodes) refl)
       ∙ area-none in
-      let lost : areaOf layout (map (λ c. c .lost) (replicate (length nodes) noChange)) ≡ replicate 8192 0 = ap (areaOf layout) (map-none (λ c. c .lost) (length nodes) refl)
+      let lost : areaOf layout (map (λ c. c .lost) (replicate (length nodes) noChange)) ≡ replicate areaSize 0 = ap (areaOf layout) (map-none (λ c. c .lost) (length nodes) refl)
       ∙ area-none in
-      let head : headOf (evaluate nodes (replicate (length nodes) [])) (opened nodes) ≡ replicate 162 0 = ap (λ (r : List Relation). headOf r (opened nodes)) (fresh-none nodes fit)
+      let head : headOf (evaluate nodes (replicate (length nodes) [])) (opened nodes) ≡ replicate headWords 0 = ap (λ (r : List Relation). headOf r (opened nodes)) (fresh-none nodes fit)
       ∙ head-none in
       λ i. record { rows = over (sym rows i) (a .rows); gained = over (sym gained i) (a .gained); lost = over (sym lost i) (a .lost); head = over (sym head i) (a .head) }

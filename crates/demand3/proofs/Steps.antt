@@ -12,7 +12,7 @@ use Rattle.model.specs.Record.{Bytes, isAccepted, refused}
 use Rattle.model.specs.Delta.{netChanges}
 use Rattle.states.specs.Fitting.{Fitting}
 use Rattle.demand3.proofs.Holds.{Proper}
-use Rattle.model.specs.Row.{Relation}
+use Rattle.model.specs.Row.{Relation, maxNodes, maxWidth}
 use Rattle.model.specs.Station.{State, Step, advance, applyEvents, lastNumber, limit, refusedStep, step}
 use Rattle.states.proofs.Tables.{Tables, actAll-tables, fresh-asc, fresh-wide, none-over}
 use Rattle.rows.specs.Rows.{Wide}
@@ -54,7 +54,7 @@ module _ (nodes : List Node) (fit : AllFit nodes) where
       go-asc i h false e = rw (none i h e) tt
 
   -- fresh evaluation within the limit
-  pub fresh-fits : (tables : List Relation) → Tables nodes tables → length (widths nodes) ≤ 32 → ((i : ℕ) → getD (widths nodes) i 0 ≤ 4) → overfull 0 (evaluate nodes tables) ≡ [] →
+  pub fresh-fits : (tables : List Relation) → Tables nodes tables → length (widths nodes) ≤ maxNodes → ((i : ℕ) → getD (widths nodes) i 0 ≤ maxWidth) → overfull 0 (evaluate nodes tables) ≡ [] →
       Fitting (widths nodes) (evaluate nodes tables)
   fresh-fits tables t few narrow o =
       let size : length (evaluate nodes tables) ≡ length (widths nodes) = length-evaluate nodes tables ∙ sym (length-widths nodes) in

@@ -19,8 +19,8 @@ use Rattle.model.proofs.Sets.{and-both, and-first, and-second}
 use Rattle.joins.proofs.Rows.{columns-more}
 use Rattle.places.proofs.Puts.{wide-each}
 use Rattle.nodes.specs.Nodes.{operandOf, pairsOf}
-use Rattle.model.specs.Row.{Relation, Row, keep, member}
-use Rattle.model.specs.Areas.{placeOf}
+use Rattle.model.specs.Row.{Relation, Row, keep, member, maxWidth}
+use Rattle.model.specs.Areas.{placeOf, stride}
 use Rattle.rows.specs.Rows.{Wide}
 use Rattle.rows.proofs.Words.{wide-keep}
 use Rattle.rows.proofs.Place.{wide-append}
@@ -42,7 +42,7 @@ select-inside v w i c k o e =
     operand-inside (Constant x) f = tt
     operand-inside (Column x) f = ltb-true x v f
 
-pub operand-narrow : (v : ℕ) (o : Operand) → v ≤ 4 → OperandIn v o → OperandIn 4 o
+pub operand-narrow : (v : ℕ) (o : Operand) → v ≤ maxWidth → OperandIn v o → OperandIn stride o
 operand-narrow v (Constant x) h f = tt
 operand-narrow v (Column x) h f = omega arith
 
@@ -59,17 +59,17 @@ pub set-inside : (v w i j : ℕ) (o : model.SetOperation) → fitsOn v w (model.
 unfolding fitsOn
 set-inside v w i j o e = eqb-true v w e
 
-pairs-more : (v w : ℕ) (pairs : List Pair) → v ≤ 4 → w ≤ 4 → pairsBelow v w pairs ≡ true → pairsBelow 4 4 pairs ≡ true
+pairs-more : (v w : ℕ) (pairs : List Pair) → v ≤ maxWidth → w ≤ maxWidth → pairsBelow v w pairs ≡ true → pairsBelow stride stride pairs ≡ true
 pairs-more v w [] h g e = refl
 pairs-more v w (p ∷ pairs) h g e =
     let b : (ltb (p .left) v && ltb (p .right) w) ≡ true = and-first (ltb (p .left) v && ltb (p .right) w) (pairsBelow v w pairs) e in
-    and-both (ltb (p .left) 4 && ltb (p .right) 4) (pairsBelow 4 4 pairs)
-    (and-both (ltb (p .left) 4) (ltb (p .right) 4) (lt-ltb (p .left) 4 (omega (arith, ltb-true (p .left) v (and-first (ltb (p .left) v) (ltb (p .right) w) b))))
-    (lt-ltb (p .right) 4 (omega (arith, ltb-true (p .right) w (and-second (ltb (p .left) v) (ltb (p .right) w) b)))))
+    and-both (ltb (p .left) stride && ltb (p .right) stride) (pairsBelow stride stride pairs)
+    (and-both (ltb (p .left) stride) (ltb (p .right) stride) (lt-ltb (p .left) stride (omega (arith, ltb-true (p .left) v (and-first (ltb (p .left) v) (ltb (p .right) w) b))))
+    (lt-ltb (p .right) stride (omega (arith, ltb-true (p .right) w (and-second (ltb (p .left) v) (ltb (p .right) w) b)))))
     (pairs-more v w pairs h g (and-second (ltb (p .left) v && ltb (p .right) w) (pairsBelow v w pairs) e))
 
 -- a join that fits its inputs
-pub join-fits : (how : Joining) (w : ℕ) → how .split ≤ 4 → w ≤ 4 → how .p ≤ 2 → how .n ≤ 4 → length (how .pairs) ≡ 4 → length (how .columns) ≡ 4 → JoinsIn how w → JoinFits how
+pub join-fits : (how : Joining) (w : ℕ) → how .split ≤ maxWidth → w ≤ maxWidth → how .p ≤ 2 → how .n ≤ maxWidth → length (how .pairs) ≡ stride → length (how .columns) ≡ stride → JoinsIn how w → JoinFits how
 join-fits how w h g p n lp lc inside =
     record {
       split = h;
@@ -77,7 +77,7 @@ join-fits how w h g p n lp lc inside =
       pairs = pairs-more (how .split) w (pairsOf (how .p) (how .pairs)) h g (inside .pairs);
       few = n;
       columns-long = omega arith;
-      columns = columns-more (how .split + w) (how .split + 4) (take (how .n) (how .columns)) (omega arith) (inside .columns);
+      columns = columns-more (how .split + w) (how .split + stride) (take (how .n) (how .columns)) (omega arith) (inside .columns);
     }
 
 -- ---- a table's kind gives no row
@@ -98,7 +98,7 @@ wide-one pairs columns right l = wide-map (λ r. columnsOf columns (l ++ r)) (le
 
 wide-operation : (v : ℕ) (o : model.SetOperation) (l r : Relation) → Wide v l → Wide v r → Wide v (evaluateSet o l r)
 unfolding evaluateSet unionRows differenceRows intersectRows
-wide-operation v model.union l r h g = wide-setOf 4 v (l ++ r) (wide-append v l r h g)
+wide-operation v model.union l r h g = wide-setOf stride v (l ++ r) (wide-append v l r h g)
 wide-operation v model.difference l r h g = wide-keep v (λ x. not (member x r)) l h
 wide-operation v model.intersection l r h g = wide-keep v (λ x. member x r) l h
 
@@ -107,8 +107,8 @@ pub on-wide : (v w : ℕ) (n : model.Node) (l r : Relation) → isTable n ≡ fa
 unfolding evaluateOn selectRows projectRows joinRows
 on-wide v w (model.table x) l r e f h g = absurd (true≢false e)
 on-wide v w (model.select i c k o) l r e f h g = wide-keep v (passes c k o) l h
-on-wide v w (model.project i columns) l r e f h g = wide-setOf 4 (length columns) (map (columnsOf columns) l)
+on-wide v w (model.project i columns) l r e f h g = wide-setOf stride (length columns) (map (columnsOf columns) l)
     (wide-map (columnsOf columns) (length columns) l (λ s. length-map columns (λ c. getD s c 0)))
-on-wide v w (model.join i j pairs columns) l r e f h g = wide-setOf 4 (length columns) (flatMap (joinOne pairs columns r) l)
+on-wide v w (model.join i j pairs columns) l r e f h g = wide-setOf stride (length columns) (flatMap (joinOne pairs columns r) l)
     (wide-each (length columns) (joinOne pairs columns r) l v h (λ s k. wide-one pairs columns r s))
 on-wide v w (model.setOperation o i j) l r e f h g = let same : v ≡ w = set-inside v w i j o f in wide-operation v o l r h (rw same g)

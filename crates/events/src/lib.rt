@@ -5,22 +5,19 @@ ghost use Prim.Native.Nat.{_+_, _*_, _≤_, _<_};
 ghost use lib.ListN.{length};
 ghost use Rattle.model.specs.Record.{isBroken};
 ghost use Rattle.model.specs.Batch.{isEventKind, eventFitsBy, readBatch};
+ghost use Rattle.model.specs.Row.{maxNodes};
 ghost use Rattle.nodes.specs.Nodes.{Narrow};
 ghost use Rattle.network.specs.Reading.{verdictOf, nodesOf, Built};
 ghost use Rattle.events.specs.Reading.{isTableIn, ReadsEvent, numberOf};
 use network::Network;
 use network::Verdict;
-
-// The kinds of events, and how many a batch may have.
-const PUT: usize = 32;
-
-const REMOVE: usize = 33;
-
-const MAX_EVENTS: usize = 64;
+use records::MAX_EVENTS;
+use records::PUT;
+use records::REMOVE;
 
 // Whether a record of at least a header's length names a table and has its table's length: rule 13.
 fn event_fits(bytes: &[u8], at: usize, count: usize, widths: &[usize], levels: &[usize]) -> bool
-    requires { ⌜ (isBroken (now bytes) at ≡ false) × (count ≤ length (now widths)) × (count ≤ length (now levels)) × (count ≤ 32)
+    requires { ⌜ (isBroken (now bytes) at ≡ false) × (count ≤ length (now widths)) × (count ≤ length (now levels)) × (count ≤ maxNodes)
         × Narrow (now widths) ⌝ }
     ensures { λ r. ⌜ r ≡ eventFitsBy count (isTableIn (now (levels .entry))) (now (widths .entry)) (now (bytes .entry)) at ⌝ }
 {
@@ -66,7 +63,7 @@ fn read_event(
     widths: &[usize],
     levels: &[usize],
 ) -> EventRecord
-    requires { ⌜ (at < length (now bytes)) × (count ≤ length (now widths)) × (count ≤ length (now levels)) × (count ≤ 32) × Narrow (now widths) ⌝ }
+    requires { ⌜ (at < length (now bytes)) × (count ≤ length (now widths)) × (count ≤ length (now levels)) × (count ≤ maxNodes) × Narrow (now widths) ⌝ }
     ensures { λ r. ⌜ ReadsEvent count (now (widths .entry)) (now (levels .entry)) before (now (bytes .entry)) at r ⌝ }
 {
     if records::is_broken(bytes, at) {

@@ -8,9 +8,9 @@ use lib.Dec.{ltb, eqb}
 use lib.ListN.{length, take, getD, List·getD-append, length-map}
 use lib.Seq.{length-take-le, getD-append-add}
 use borrow.Author.Tests.{ltb-true, ltb-false}
-use Rattle.model.specs.Row.{Row, Relation, keep, keepIf}
+use Rattle.model.specs.Row.{Row, Relation, keep, keepIf, maxWidth}
 use Rattle.model.specs.Algebra.{columnsOf, Pair, agree, joinOne, joinRows}
-use Rattle.model.specs.Areas.{padded}
+use Rattle.model.specs.Areas.{padded, stride}
 use Rattle.model.proofs.Sets.{and-first, and-second}
 use Rattle.model.specs.Network.{pairsBelow}
 use Rattle.rows.specs.Rows.{rowsFrom, firstRows, Wide}
@@ -29,13 +29,13 @@ abbrev pub joinedIf : Joining → Row → Row → List Row
 joinedIf how l r = keepIf (agree (pairsOf (how .p) (how .pairs)) l r) (joinedRow (how .split) (take (how .n) (how .columns)) l r) []
 
 module _ (how : Joining) (fits : JoinFits how) where
-  pub few-given : length (take (how .n) (how .columns)) ≤ 4
+  pub few-given : length (take (how .n) (how .columns)) ≤ maxWidth
   few-given = rw (length-take-le (how .n) (how .columns) (fits .columns-long)) (fits .few)
 
-  pub wide-joined : (l r : Row) → length r ≡ 4 → Wide 4 (joinedIf how l r)
+  pub wide-joined : (l r : Row) → length r ≡ stride → Wide stride (joinedIf how l r)
   wide-joined l r e = go (agree (pairsOf (how .p) (how .pairs)) l r)
     where
-      go : (t : Bool) → Wide 4 (keepIf t (joinedRow (how .split) (take (how .n) (how .columns)) l r) [])
+      go : (t : Bool) → Wide stride (keepIf t (joinedRow (how .split) (take (how .n) (how .columns)) l r) [])
       go true = (joined-length (how .split) (take (how .n) (how .columns)) l r few-given, tt)
       go false = tt
 
@@ -51,52 +51,52 @@ module _ (how : Joining) (fits : JoinFits how) where
       go true ih = ap (λ (m : List Row). joinedRow (how .split) (take (how .n) (how .columns)) l r ∷ m) ih
       go false ih = ih
 
-  pub wide-with : (right : List Row) (l : Row) → length l ≡ 4 → Wide 4 right → Wide 4 (joinedWith how right l)
-  wide-with right l e h = rw (← each-joined l right) (wide-each 4 (joinedIf how l) right 4 h (wide-joined l))
+  pub wide-with : (right : List Row) (l : Row) → length l ≡ stride → Wide stride right → Wide stride (joinedWith how right l)
+  wide-with right l e h = rw (← each-joined l right) (wide-each stride (joinedIf how l) right stride h (wide-joined l))
 
   pub joined-from : (l : Row) (b : List Row) (right : List ℕ) (m : ℕ) → putFrom (joinedIf how l) b right m 0 ≡ insertAll (joinedWith how (firstRows right m) l) b
   joined-from l b right m =
       let k : m - 0 ≡ m = omega arith in
-      ap (λ (i : ℕ). insertAll (flatMap (joinedIf how l) (rowsFrom 4 right 0 i)) b) k ∙ ap (λ (x : List Row). insertAll x b) (each-joined l (firstRows right m))
+      ap (λ (i : ℕ). insertAll (flatMap (joinedIf how l) (rowsFrom stride right 0 i)) b) k ∙ ap (λ (x : List Row). insertAll x b) (each-joined l (firstRows right m))
 
-agree-padded : (pairs : List Pair) (v w : ℕ) (l r : Row) → pairsBelow v w pairs ≡ true → length l ≡ v → length r ≡ w → agree pairs (padded 4 l) (padded 4 r) ≡ agree pairs l r
+agree-padded : (pairs : List Pair) (v w : ℕ) (l r : Row) → pairsBelow v w pairs ≡ true → length l ≡ v → length r ≡ w → agree pairs (padded stride l) (padded stride r) ≡ agree pairs l r
 agree-padded [] v w l r e f g = refl
 agree-padded (p ∷ pairs) v w l r e f g =
     let b : (ltb (p .left) v && ltb (p .right) w) ≡ true = and-first (ltb (p .left) v && ltb (p .right) w) (pairsBelow v w pairs) e in
     let hl : p .left < v = ltb-true (p .left) v (and-first (ltb (p .left) v) (ltb (p .right) w) b) in
     let hr : p .right < w = ltb-true (p .right) w (and-second (ltb (p .left) v) (ltb (p .right) w) b) in
     ap₂ {A = Bool} {B = Bool} {C = Bool} (λ x y. x && y)
-    (ap₂ {A = ℕ} {B = ℕ} {C = Bool} eqb (field-padded 4 l (p .left) (rw f hl)) (field-padded 4 r (p .right) (rw g hr)))
+    (ap₂ {A = ℕ} {B = ℕ} {C = Bool} eqb (field-padded stride l (p .left) (rw f hl)) (field-padded stride r (p .right) (rw g hr)))
     (agree-padded pairs v w l r (and-second (ltb (p .left) v && ltb (p .right) w) (pairsBelow v w pairs) e) f g)
 
 -- a column of the right row after the left one
-joined-cell : (v w : ℕ) (l r : Row) (c : ℕ) → length l ≡ v → length r ≡ w → c < v + w → joinedField v (padded 4 l) (padded 4 r) c ≡ getD (l ++ r) c 0
+joined-cell : (v w : ℕ) (l r : Row) (c : ℕ) → length l ≡ v → length r ≡ w → c < v + w → joinedField v (padded stride l) (padded stride r) c ≡ getD (l ++ r) c 0
 joined-cell v w l r c f g h = go (ltb c v) refl
   where
-    go : (t : Bool) → ltb c v ≡ t → cond t (getD (padded 4 l) c 0) (getD (padded 4 r) (c - v) 0) ≡ getD (l ++ r) c 0
-    go true e = let b : c < v = ltb-true c v e in field-padded 4 l c (rw f b) ∙ sym (List·getD-append l r 0 c (rw f b))
+    go : (t : Bool) → ltb c v ≡ t → cond t (getD (padded stride l) c 0) (getD (padded stride r) (c - v) 0) ≡ getD (l ++ r) c 0
+    go true e = let b : c < v = ltb-true c v e in field-padded stride l c (rw f b) ∙ sym (List·getD-append l r 0 c (rw f b))
     go false e =
         let b : v ≤ c = ltb-false c v e in
         let k : length l + (c - v) ≡ c = omega (arith, f) in
-        field-padded 4 r (c - v) (omega (arith, g)) ∙ sym (ap (λ (i : ℕ). getD (l ++ r) i 0) (sym k) ∙ getD-append-add l r (c - v) 0)
+        field-padded stride r (c - v) (omega (arith, g)) ∙ sym (ap (λ (i : ℕ). getD (l ++ r) i 0) (sym k) ∙ getD-append-add l r (c - v) 0)
 
 module _ (how : Joining) (w : ℕ) (left : List ℕ) (n : ℕ) (right : List ℕ) (m : ℕ) (pl : Place (how .split) left n) (pr : Place w right m) (inside : JoinsIn how w) where
   joined-rows : (l : Row) → length l ≡ how .split → (rel : Relation) → Wide w rel →
-      map (joinedRow (how .split) (take (how .n) (how .columns)) (padded 4 l)) (map (padded 4) rel) ≡ map (padded 4) (map (λ r. columnsOf (take (how .n) (how .columns)) (l ++ r)) rel)
+      map (joinedRow (how .split) (take (how .n) (how .columns)) (padded stride l)) (map (padded stride) rel) ≡ map (padded stride) (map (λ r. columnsOf (take (how .n) (how .columns)) (l ++ r)) rel)
   joined-rows l f [] h = refl
   joined-rows l f (r ∷ rel) h =
       ap₂ {A = Row} {B = List Row} {C = List Row} (λ x y. x ∷ y)
-      (ap (padded 4) (columns-same (how .split + w) (take (how .n) (how .columns)) (joinedField (how .split) (padded 4 l) (padded 4 r)) (λ c. getD (l ++ r) c 0) (inside .columns)
+      (ap (padded stride) (columns-same (how .split + w) (take (how .n) (how .columns)) (joinedField (how .split) (padded stride l) (padded stride r)) (λ c. getD (l ++ r) c 0) (inside .columns)
       (λ c k. joined-cell (how .split) w l r c f (h .0) k)))
       (joined-rows l f rel (h .1))
 
-  one-padded : (l : Row) → length l ≡ how .split → joinedWith how (firstRows right m) (padded 4 l)
-      ≡ map (padded 4) (joinOne (pairsOf (how .p) (how .pairs)) (take (how .n) (how .columns)) (relationIn w right m) l)
+  one-padded : (l : Row) → length l ≡ how .split → joinedWith how (firstRows right m) (padded stride l)
+      ≡ map (padded stride) (joinOne (pairsOf (how .p) (how .pairs)) (take (how .n) (how .columns)) (relationIn w right m) l)
   unfolding joinOne
   one-padded l f =
       let pairs : List Pair = pairsOf (how .p) (how .pairs) in
-      ap (map (joinedRow (how .split) (take (how .n) (how .columns)) (padded 4 l)))
-      (ap (keep (agree pairs (padded 4 l))) (place-rows w right m pr) ∙ keep-padded 4 w (agree pairs (padded 4 l)) (agree pairs l) (relationIn w right m) (place-wide w right m pr)
+      ap (map (joinedRow (how .split) (take (how .n) (how .columns)) (padded stride l)))
+      (ap (keep (agree pairs (padded stride l))) (place-rows w right m pr) ∙ keep-padded stride w (agree pairs (padded stride l)) (agree pairs l) (relationIn w right m) (place-wide w right m pr)
       (λ r e. agree-padded pairs (how .split) w l r (inside .pairs) f e))
       ∙ joined-rows l f (keep (agree pairs l) (relationIn w right m)) (wide-keep w (agree pairs l) (relationIn w right m) (place-wide w right m pr))
 
@@ -110,7 +110,7 @@ module _ (how : Joining) (w : ℕ) (left : List ℕ) (n : ℕ) (right : List ℕ
   one-wide l f = map-wide l (keep (agree (pairsOf (how .p) (how .pairs)) l) (relationIn w right m))
 
   pub join-is : putFrom (joinedWith how (firstRows right m)) [] left n 0
-      ≡ map (padded 4) (joinRows (pairsOf (how .p) (how .pairs)) (take (how .n) (how .columns)) (relationIn (how .split) left n) (relationIn w right m))
+      ≡ map (padded stride) (joinRows (pairsOf (how .p) (how .pairs)) (take (how .n) (how .columns)) (relationIn (how .split) left n) (relationIn w right m))
   unfolding joinRows
   join-is =
       made-is (joinedWith how (firstRows right m)) (joinOne (pairsOf (how .p) (how .pairs)) (take (how .n) (how .columns)) (relationIn w right m)) (how .split)

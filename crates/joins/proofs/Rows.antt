@@ -12,9 +12,9 @@ use lib.Seq.{length-take-le, take-all, take-suc, drop-drop, getD-drop}
 use borrow.Author.Tests.{lt-ltb, ltb-true}
 use Rattle.model.proofs.Sets.{and-first, and-second, and-both}
 use Rattle.model.specs.Algebra.{agree}
-use Rattle.model.specs.Areas.{padded}
+use Rattle.model.specs.Areas.{padded, stride}
 use Rattle.model.specs.Network.{columnsBelow, pairsBelow}
-use Rattle.model.specs.Row.{Row}
+use Rattle.model.specs.Row.{Row, maxWidth}
 use Rattle.rows.proofs.Padding.{padded-more}
 use Rattle.rows.proofs.Place.{length-padded}
 use Rattle.rows.proofs.Words.{fields-part}
@@ -26,23 +26,23 @@ use Rattle.joins.specs.Joins.{joinedField, joinedRow}
 
 -- the first k columns' fields, then zeros
 abbrev pub filled : (ℕ → ℕ) → List ℕ → ℕ → List ℕ
-filled f columns k = padded 4 (map f (take k columns))
+filled f columns k = padded stride (map f (take k columns))
 
 map-snoc : (f : ℕ → ℕ) (l : List ℕ) (x : ℕ) → map f (l ++ (x ∷ [])) ≡ map f l ++ (f x ∷ [])
 map-snoc f [] x = refl
 map-snoc f (y ∷ l) x = ap (λ (m : List ℕ). f y ∷ m) (map-snoc f l x)
 
-pub row-started : (f : ℕ → ℕ) (columns : List ℕ) → replicate 4 0 ≡ filled f columns 0
+pub row-started : (f : ℕ → ℕ) (columns : List ℕ) → replicate stride 0 ≡ filled f columns 0
 row-started f columns = refl
 
-pub row-filled : (f : ℕ → ℕ) (columns : List ℕ) (k : ℕ) (row : List ℕ) (x : ℕ) → k < length columns → k < 4 → row ≡ filled f columns k → x ≡ f (getD columns k 0) →
+pub row-filled : (f : ℕ → ℕ) (columns : List ℕ) (k : ℕ) (row : List ℕ) (x : ℕ) → k < length columns → k < stride → row ≡ filled f columns k → x ≡ f (getD columns k 0) →
     set row k x ≡ filled f columns (k + 1)
 row-filled f columns k row x h g e v =
     let one : take (k + 1) columns ≡ take k columns ++ (getD columns k 0 ∷ []) = rw add-one (take-suc columns k 0 h) in
     let size : length (map f (take k columns)) ≡ k = length-map (take k columns) f ∙ length-take-le k columns (omega arith) in
     ap₂ (λ (l : List ℕ) (y : ℕ). set l k y) e v
-    ∙ padded-more 4 (map f (take k columns)) (f (getD columns k 0)) k size g
-    ∙ ap (padded 4) (sym (map-snoc f (take k columns) (getD columns k 0)) ∙ ap (map f) (sym one))
+    ∙ padded-more stride (map f (take k columns)) (f (getD columns k 0)) k size g
+    ∙ ap (padded stride) (sym (map-snoc f (take k columns) (getD columns k 0)) ∙ ap (map f) (sym one))
 
 -- a column of a list whose columns are below a width
 pub column-below : (w : ℕ) (columns : List ℕ) (n k : ℕ) → columnsBelow w (take n columns) ≡ true → k < n → k < length columns → getD columns k 0 < w
@@ -57,8 +57,8 @@ columns-more k m (c ∷ columns) h e =
     and-both (ltb c m) (columnsBelow m columns) (lt-ltb c m (le-trans (ltb-true c k (and-first (ltb c k) (columnsBelow k columns) e)) h))
     (columns-more k m columns h (and-second (ltb c k) (columnsBelow k columns) e))
 
-pub joined-length : (split : ℕ) (columns : List ℕ) (l r : Row) → length columns ≤ 4 → length (joinedRow split columns l r) ≡ 4
-joined-length split columns l r h = length-padded 4 (map (joinedField split l r) columns) (rw (length-map columns (joinedField split l r)) h)
+pub joined-length : (split : ℕ) (columns : List ℕ) (l r : Row) → length columns ≤ maxWidth → length (joinedRow split columns l r) ≡ stride
+joined-length split columns l r h = length-padded stride (map (joinedField split l r) columns) (rw (length-map columns (joinedField split l r)) h)
 
 pub columns-same : (k : ℕ) (columns : List ℕ) (f g : ℕ → ℕ) → columnsBelow k columns ≡ true → ((c : ℕ) → c < k → f c ≡ g c) → map f columns ≡ map g columns
 columns-same k [] f g e h = refl
@@ -69,12 +69,12 @@ columns-same k (c ∷ columns) f g e h =
 -- ---- a row of four words
 
 -- a row of four words is its own row
-row-itself : (r : Row) → length r ≡ 4 → rowAt 4 r 0 ≡ r
+row-itself : (r : Row) → length r ≡ stride → rowAt stride r 0 ≡ r
 unfolding rowAt
-row-itself r e = fields-part 4 r 0 (omega (arith, e)) ∙ take-all 4 r (omega (arith, e))
+row-itself r e = fields-part stride r 0 (omega (arith, e)) ∙ take-all stride r (omega (arith, e))
 
-pub row-made : (row r : Row) → row ≡ r → length r ≡ 4 → rowAt 4 row 0 ≡ r
-row-made row r e h = ap (λ (x : Row). rowAt 4 x 0) e ∙ row-itself r h
+pub row-made : (row r : Row) → row ≡ r → length r ≡ stride → rowAt stride row 0 ≡ r
+row-made row r e h = ap (λ (x : Row). rowAt stride x 0) e ∙ row-itself r h
 
 -- ---- agreement on pairs
 
@@ -83,17 +83,17 @@ abbrev pub agreesFrom : List ℕ → ℕ → Row → Row → ℕ → Bool
 agreesFrom pairs p l r k = agree (pairsOf (p - k) (drop (2 * k) pairs)) l r
 
 -- pair k, of pairs whose columns are below 4
-pub pair-below : (pairs : List ℕ) (p k : ℕ) → pairsBelow 4 4 (pairsOf p pairs) ≡ true → k < p → (getD pairs (2 * k) 0 < 4) × (getD pairs (2 * k + 1) 0 < 4)
+pub pair-below : (pairs : List ℕ) (p k : ℕ) → pairsBelow stride stride (pairsOf p pairs) ≡ true → k < p → (getD pairs (2 * k) 0 < stride) × (getD pairs (2 * k + 1) 0 < stride)
 pair-below pairs zero k e h = absurd (not-suc-le-zero h)
 pair-below pairs (suc p) zero e h =
-    let b : (ltb (getD pairs 0 0) 4 && ltb (getD pairs 1 0) 4) ≡ true = and-first (ltb (getD pairs 0 0) 4 && ltb (getD pairs 1 0) 4) (pairsBelow 4 4 (pairsOf p (drop 2 pairs))) e in (
-      ltb-true (getD pairs 0 0) 4 (and-first (ltb (getD pairs 0 0) 4) (ltb (getD pairs 1 0) 4) b),
-      ltb-true (getD pairs 1 0) 4 (and-second (ltb (getD pairs 0 0) 4) (ltb (getD pairs 1 0) 4) b),
+    let b : (ltb (getD pairs 0 0) stride && ltb (getD pairs 1 0) stride) ≡ true = and-first (ltb (getD pairs 0 0) stride && ltb (getD pairs 1 0) stride) (pairsBelow stride stride (pairsOf p (drop 2 pairs))) e in (
+      ltb-true (getD pairs 0 0) stride (and-first (ltb (getD pairs 0 0) stride) (ltb (getD pairs 1 0) stride) b),
+      ltb-true (getD pairs 1 0) stride (and-second (ltb (getD pairs 0 0) stride) (ltb (getD pairs 1 0) stride) b),
     )
 pair-below pairs (suc p) (suc k) e h =
-    let b : (ltb (getD pairs 0 0) 4 && ltb (getD pairs 1 0) 4) ≡ true = and-first (ltb (getD pairs 0 0) 4 && ltb (getD pairs 1 0) 4) (pairsBelow 4 4 (pairsOf p (drop 2 pairs))) e in
-    let ih : (getD (drop 2 pairs) (2 * k) 0 < 4) × (getD (drop 2 pairs) (2 * k + 1) 0 < 4) = pair-below (drop 2 pairs) p k
-    (and-second (ltb (getD pairs 0 0) 4 && ltb (getD pairs 1 0) 4) (pairsBelow 4 4 (pairsOf p (drop 2 pairs))) e) (le-of-suc-le-suc h) in
+    let b : (ltb (getD pairs 0 0) stride && ltb (getD pairs 1 0) stride) ≡ true = and-first (ltb (getD pairs 0 0) stride && ltb (getD pairs 1 0) stride) (pairsBelow stride stride (pairsOf p (drop 2 pairs))) e in
+    let ih : (getD (drop 2 pairs) (2 * k) 0 < stride) × (getD (drop 2 pairs) (2 * k + 1) 0 < stride) = pair-below (drop 2 pairs) p k
+    (and-second (ltb (getD pairs 0 0) stride && ltb (getD pairs 1 0) stride) (pairsBelow stride stride (pairsOf p (drop 2 pairs))) e) (le-of-suc-le-suc h) in
     let f : 2 * suc k ≡ 2 + 2 * k = omega arith in
     let g : 2 * suc k + 1 ≡ 2 + (2 * k + 1) = omega arith in
     (rw (f, ← getD-drop 2 pairs (2 * k) 0) (ih .0), rw (g, ← getD-drop 2 pairs (2 * k + 1) 0) (ih .1))

@@ -4,13 +4,15 @@ ghost use mathlib.Core.Bool.{true};
 ghost use Prim.Native.Nat.{ℕ, _+_, _*_, _≤_, _<_};
 ghost use lib.Dec.{eqb};
 ghost use lib.ListN.{length, getD, take};
-ghost use Rattle.model.specs.Row.{ascending};
+ghost use Rattle.model.specs.Row.{ascending, maxWidth};
 ghost use Rattle.model.specs.Algebra.{agree, projectRows, joinRows};
 ghost use Rattle.model.specs.Network.{columnsBelow, pairsBelow};
-ghost use Rattle.rows.specs.Rows.{stride, rowAt, firstRows};
+ghost use Rattle.model.specs.Areas.{placeSize, stride};
+ghost use Rattle.rows.specs.Rows.{rowAt, firstRows};
 ghost use Rattle.nodes.specs.Nodes.{pairsOf};
 ghost use Rattle.places.specs.Places.{Place, Blank, relationIn, Stands, Stored, Makes, insertAll};
 ghost use Rattle.joins.specs.Joins.{joinedField, joinedRow, joinedWith, JoinFits, JoinsIn};
+use nodes::MAX_PAIRS;
 use places::Made;
 use rows::STRIDE;
 
@@ -39,7 +41,7 @@ fn columns_row(
     n: usize,
 ) -> [u32; STRIDE]
     requires { ⌜ (i * stride + stride ≤ length (now left)) × (j * stride + stride ≤ length (now right))
-        × (split ≤ stride) × (n ≤ 4) × (n ≤ length (now columns))
+        × (split ≤ stride) × (n ≤ maxWidth) × (n ≤ length (now columns))
         × (columnsBelow (split + stride) (take n (now columns)) ≡ true) ⌝ }
     ensures { λ r. ⌜ r ≡ joinedRow split (take n (now (columns .entry))) (rowAt stride (now (left .entry)) i)
         (rowAt stride (now (right .entry)) j) ⌝ }
@@ -55,7 +57,7 @@ fn columns_row(
 
 // The named columns of a place's rows, in an empty place: how many rows, or that they are more than 64.
 pub fn project_rows(input: &[u32], n: usize, columns: &[usize], c: usize, out: &mut [u32]) -> Made
-    requires { ⌜ (n * stride ≤ length (now input)) × (c ≤ 4) × (c ≤ length (now columns))
+    requires { ⌜ (n * stride ≤ length (now input)) × (c ≤ maxWidth) × (c ≤ length (now columns))
         × (columnsBelow stride (take c (now columns)) ≡ true) × Blank (now out) ⌝ }
     ensures { λ r. ⌜ ((w : ℕ) → Place w (now (input .entry)) n → columnsBelow w (take c (now (columns .entry))) ≡ true →
         Makes (projectRows (take c (now (columns .entry))) (relationIn w (now (input .entry)) n))
@@ -106,7 +108,7 @@ fn rows_agree(left: &[u32], i: usize, right: &[u32], j: usize, pairs: &[usize], 
 pub struct Joining {
     pub split: usize,
     pub p: usize,
-    pub pairs: [usize; 4],
+    pub pairs: [usize; 2 * MAX_PAIRS],
     pub n: usize,
     pub columns: [usize; STRIDE],
 }
@@ -123,7 +125,7 @@ fn join_row(
 ) -> Made
     requires { ⌜ (i * stride + stride ≤ length (now left)) × (m * stride ≤ length (now right)) × JoinFits how
         × Stands (firstRows (now out) count) (now out) count × (ascending (firstRows (now out) count) ≡ true)
-        × (length (now out) ≡ 256) ⌝ }
+        × (length (now out) ≡ placeSize) ⌝ }
     ensures { λ r. ⌜ Stored
         (insertAll (joinedWith how (firstRows (now (right .entry)) m) (rowAt stride (now (left .entry)) i))
         (firstRows (now (out .entry)) count))

@@ -9,6 +9,7 @@ use Rattle.model.specs.Row.{Relation, maxRows, maxNodes, maxWidth, ascen
 use Rattle.model.specs.Network.{Node, isTable, widths}
 use Rattle.model.specs.Evaluation.{evaluate}
 use Rattle.model.specs.Delta.{Change}
+use Rattle.model.specs.Batch.{foldedRows}
 use Rattle.model.specs.Station.{State}
 
 -- "Four areas of 32-bit words"
@@ -29,13 +30,29 @@ pub record Layout : Type 0 where
 abbrev pub layout : Layout
 layout = record { stride = maxWidth; capacity = maxRows }
 
--- the words of a node's place: 256
+-- the words of a node's place
 abbrev pub placeWords : Layout → ℕ
 placeWords L = L .capacity * L .stride
 
--- the named words of rows, gained or lost: 8,192
+-- the named words of rows, gained or lost
 abbrev pub areaWords : Layout → ℕ
 areaWords L = maxNodes * placeWords L
+
+-- how many words a row takes: 4
+abbrev pub stride : ℕ
+stride = layout .stride
+
+-- the words of a node's place: 256
+abbrev pub placeSize : ℕ
+placeSize = placeWords layout
+
+-- the named words of rows, gained or lost: 8,192
+abbrev pub areaSize : ℕ
+areaSize = areaWords layout
+
+-- the words of the array in which a table's events are folded: 512
+abbrev pub foldedSize : ℕ
+foldedSize = foldedRows * stride
 
 -- n words from an index on; 0 past the end
 unfoldable pub fields : ℕ → List ℕ → ℕ → List ℕ

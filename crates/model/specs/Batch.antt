@@ -4,7 +4,7 @@ use mathlib.Core.List.{List, [], _∷_, _++_}
 use Prim.Native.Nat.{ℕ, zero, suc, _+_, _*_}
 use lib.Dec.{leb, ltb, eqb}
 use lib.ListN.{getD, length, set}
-use Rattle.model.specs.Row.{Row, Relation, member, insertRow, deleteRow}
+use Rattle.model.specs.Row.{maxRows, Row, Relation, member, insertRow, deleteRow}
 use Rattle.model.specs.Record.{Bytes, u32, lengthAt, kindAt, fieldAt, isBroken, offsets, Verdict, accepted, refused, rule, firstBroken}
 use Rattle.model.specs.Network.{Node, isTable, widths, nodeAt}
 use Rattle.model.specs.Delta.{Change, noChange, deltaUnion}
@@ -50,6 +50,10 @@ eventFits nodes bs at = eventFitsBy (length nodes) (λ t. isTable (nodeAt nodes 
 -- the most events of a batch
 abbrev pub maxEvents : ℕ
 maxEvents = 64
+
+-- "a table may hold up to 128 rows in the middle of a batch"
+abbrev pub foldedRows : ℕ
+foldedRows = maxRows + maxEvents
 
 -- the lowest number that the record at an offset breaks, 0 if none; so many events stand before it
 abbrev pub eventFaultBy : Bool → ℕ → Bytes → ℕ → ℕ

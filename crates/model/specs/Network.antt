@@ -203,11 +203,15 @@ projectShape bs at =
     && within 1 maxWidth (fieldAt bs at 1)
     && eqb (lengthAt bs at) (8 + 2 * fieldAt bs at 1)
 
+-- the most pairs of a join: "p 0..2"
+abbrev pub maxPairs : ℕ
+maxPairs = 2
+
 -- kind 5: p is inside the record and 0 to 2, c likewise and 1 to 4, and the length is 12 + 4p + 2c
 unfoldable pub joinShape : Bytes → ℕ → Bool
 joinShape bs at =
     leb 10 (lengthAt bs at)
-    && leb (fieldAt bs at 2) 2
+    && leb (fieldAt bs at 2) maxPairs
     && leb (12 + 4 * fieldAt bs at 2) (lengthAt bs at)
     && within 1 maxWidth (fieldAt bs at (3 + 2 * fieldAt bs at 2))
     && eqb (lengthAt bs at) (12 + 4 * fieldAt bs at 2 + 2 * fieldAt bs at (3 + 2 * fieldAt bs at 2))

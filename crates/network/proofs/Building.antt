@@ -23,6 +23,7 @@ use Rattle.network.specs.declared.Slot.{Slot}
 use Rattle.network.specs.declared.Network.{Network}
 use Rattle.nodes.proofs.Lists.{length-fieldsAt}
 use Rattle.model.specs.Network as model
+use Rattle.model.specs.Row.{maxNodes}
 
 -- ---- bounds of a list with one element changed
 
@@ -202,7 +203,7 @@ module _ (net : Network) (n : Node) (bs : Bytes) (at : ℕ) (b : Built net) (f :
       let e : (leftOf (nodeAt n bs at) < m) × (rightOf (nodeAt n bs at) < m) = inputs-below (nodeAt n bs at) (take (net .count) (net .widths)) m (f .fits) (rw counted h) in
       (fieldsAt bs at (listsOf n .from + 2 * listsOf n .pairs) (listsOf n .columns), pairsAt bs at 3 (listsOf n .pairs), e .0, e .1)
 
-  pub next-slot : (slot : Slot) (width level : ℕ) → net .count < 32 → slotNode slot ≡ nodeAt n bs at → Shaped slot → WidthIs n (net .widths) width → LevelIs n (net .levels) level →
+  pub next-slot : (slot : Slot) (width level : ℕ) → net .count < maxNodes → slotNode slot ≡ nodeAt n bs at → Shaped slot → WidthIs n (net .widths) width → LevelIs n (net .levels) level →
       NextSlot net slot width level
   next-slot slot width level room s shape w l =
       record {

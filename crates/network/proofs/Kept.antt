@@ -9,7 +9,7 @@ use lib.ListN.{length, length-append, getD, set, take, drop, replicate, take-app
 use lib.Seq.{take-suc, length-take-le, ext-getD, getD-drop}
 use Rattle.model.specs.Areas.{padded}
 use Rattle.model.specs.Algebra.{Pair}
-use Rattle.model.specs.Network.{kindOf, pairsAt}
+use Rattle.model.specs.Network.{kindOf, pairsAt, maxPairs}
 use Rattle.model.specs.Record.{Bytes, fieldsAt}
 use Rattle.model.specs.Calls.{ReadAnswer, readCall}
 use Rattle.rows.proofs.Padding.{padded-more, take-padded}
@@ -22,6 +22,7 @@ use Rattle.network.specs.declared.Reading.{Reading}
 use Rattle.network.specs.declared.Slot.{Slot}
 use Rattle.network.proofs.Building.{zero-at}
 use Rattle.model.specs.Network as model
+use Rattle.model.specs.Row.{maxNodes, maxWidth}
 
 pub ends-padded : (n count : ℕ) (l : List ℕ) → length l ≡ n → count ≤ n → Ends count l → l ≡ padded n (take count l)
 ends-padded n count l e h z =
@@ -31,32 +32,32 @@ ends-padded n count l e h z =
     let size : length (take count l) ≡ count = length-take-le count l (omega arith) in
     sym (take-append-drop count l) ∙ ap (λ (r : List ℕ). take count l ++ r) (rest ∙ ap (λ (k : ℕ). replicate (n - k) 0) (sym size))
 
--- fields of a record, padded to the four that a slot has
-module _ (bs : Bytes) (at k n : ℕ) (r : List ℕ) (few : n ≤ 4) (e : r ≡ padded 4 (fieldsAt bs at k n)) where
+-- fields of a record, padded to as many as a slot has
+module _ (most : ℕ) (bs : Bytes) (at k n : ℕ) (r : List ℕ) (few : n ≤ most) (e : r ≡ padded most (fieldsAt bs at k n)) where
   pub fields-first : take n r ≡ fieldsAt bs at k n
-  fields-first = ap (take n) e ∙ take-padded 4 n (fieldsAt bs at k n) (length-fieldsAt bs at k n)
+  fields-first = ap (take n) e ∙ take-padded most n (fieldsAt bs at k n) (length-fieldsAt bs at k n)
 
-  pub fields-length : length r ≡ 4
+  pub fields-length : length r ≡ most
   fields-length =
       ap length e
-      ∙ length-append (fieldsAt bs at k n) (replicate (4 - length (fieldsAt bs at k n)) 0)
+      ∙ length-append (fieldsAt bs at k n) (replicate (most - length (fieldsAt bs at k n)) 0)
       ∙ rw (length-replicate {A = ℕ}, length-fieldsAt) (omega arith)
 
 -- a node with the lists of its record
 pub slot-is : (n : Node) (bs : Bytes) (at : ℕ) (columns pairs : List ℕ) → ListsFit (listsOf n) bs at →
-    columns ≡ padded 4 (fieldsAt bs at (listsOf n .from + 2 * listsOf n .pairs) (listsOf n .columns)) → pairs ≡ padded 4 (fieldsAt bs at 3 (2 * listsOf n .pairs)) →
+    columns ≡ padded maxWidth (fieldsAt bs at (listsOf n .from + 2 * listsOf n .pairs) (listsOf n .columns)) → pairs ≡ padded (2 * maxPairs) (fieldsAt bs at 3 (2 * listsOf n .pairs)) →
     (nodeOf n columns pairs ≡ nodeAt n bs at) × Shaped (record { node = n; columns = columns; pairs = pairs })
 slot-is n bs at columns pairs fit ec ep =
     let p : ℕ = listsOf n .pairs in
     let k : ℕ = listsOf n .from + 2 * p in
-    let few : 2 * p ≤ 4 = omega (arith, fit .few-pairs) in
-    let size : length pairs ≡ 4 = fields-length bs at 3 (2 * p) pairs few ep in
-    let left : take (listsOf n .columns) columns ≡ fieldsAt bs at k (listsOf n .columns) = fields-first bs at k (listsOf n .columns) columns (fit .few-columns) ec in
+    let few : 2 * p ≤ 2 * maxPairs = omega (arith, fit .few-pairs) in
+    let size : length pairs ≡ 2 * maxPairs = fields-length (2 * maxPairs) bs at 3 (2 * p) pairs few ep in
+    let left : take (listsOf n .columns) columns ≡ fieldsAt bs at k (listsOf n .columns) = fields-first maxWidth bs at k (listsOf n .columns) columns (fit .few-columns) ec in
     let right : pairsOf p pairs ≡ pairsAt bs at 3 p =
-    pairs-take p pairs (omega (arith, size, few)) ∙ ap (pairsOf p) (fields-first bs at 3 (2 * p) pairs few ep) ∙ pairs-fields bs at 3 p in (
+    pairs-take p pairs (omega (arith, size, few)) ∙ ap (pairsOf p) (fields-first (2 * maxPairs) bs at 3 (2 * p) pairs few ep) ∙ pairs-fields bs at 3 p in (
       ap₂ {A = List ℕ} {B = List Pair} {C = model.Node} (λ x y. withLists n x y) left right,
       record {
-        columns-length = fields-length bs at k (listsOf n .columns) columns (fit .few-columns) ec;
+        columns-length = fields-length maxWidth bs at k (listsOf n .columns) columns (fit .few-columns) ec;
         pairs-length = size;
         counts = (fit .few-pairs, fit .few-columns);
       },
@@ -74,13 +75,13 @@ length-kinds : (l : List Slot) → length (map kindOf (map slotNode l)) ≡ leng
 length-kinds [] = refl
 length-kinds (x ∷ l) = ap suc (length-kinds l)
 
-pub kinds-more : (slots : List Slot) (i x : ℕ) (kinds : List ℕ) → i < length slots → i < 32 → kinds ≡ padded 32 (kindsTo slots i) → x ≡ kindOf (slotNode (getD slots i noSlot)) →
-    set kinds i x ≡ padded 32 (kindsTo slots (i + 1))
+pub kinds-more : (slots : List Slot) (i x : ℕ) (kinds : List ℕ) → i < length slots → i < maxNodes → kinds ≡ padded maxNodes (kindsTo slots i) → x ≡ kindOf (slotNode (getD slots i noSlot)) →
+    set kinds i x ≡ padded maxNodes (kindsTo slots (i + 1))
 kinds-more slots i x kinds h g e f =
     let one : take (i + 1) slots ≡ take i slots ++ (getD slots i noSlot ∷ []) = rw add-one (take-suc slots i noSlot h) in
     let more : kindsTo slots (i + 1) ≡ kindsTo slots i ++ (x ∷ []) =
     ap (λ (l : List Slot). map kindOf (map slotNode l)) one ∙ map-snoc (take i slots) (getD slots i noSlot) ∙ ap (λ (k : ℕ). kindsTo slots i ++ (k ∷ [])) (sym f) in
-    ap (λ (l : List ℕ). set l i x) e ∙ padded-more 32 (kindsTo slots i) x i (length-kinds (take i slots) ∙ length-take-le i slots (omega arith)) g ∙ ap (padded 32) (sym more)
+    ap (λ (l : List ℕ). set l i x) e ∙ padded-more maxNodes (kindsTo slots i) x i (length-kinds (take i slots) ∙ length-take-le i slots (omega arith)) g ∙ ap (padded maxNodes) (sym more)
 
 -- ---- the reader's answer
 
@@ -90,12 +91,12 @@ answer r =
     record {
       verdict = r .verdict;
       count = length (r .network .nodes);
-      kinds = padded 32 (map kindOf (r .network .nodes));
-      widths = padded 32 (model.widths (r .network .nodes));
-      levels = padded 32 (model.levels (r .network .nodes));
+      kinds = padded maxNodes (map kindOf (r .network .nodes));
+      widths = padded maxNodes (model.widths (r .network .nodes));
+      levels = padded maxNodes (model.levels (r .network .nodes));
     }
 
-pub answered : (bs : Bytes) (r : Reading) (kinds : List ℕ) → ReadsNetwork bs r → kinds ≡ padded 32 (map kindOf (nodesOf (r .network))) →
+pub answered : (bs : Bytes) (r : Reading) (kinds : List ℕ) → ReadsNetwork bs r → kinds ≡ padded maxNodes (map kindOf (nodesOf (r .network))) →
     answerOf (record { number = r .verdict .number; place = r .verdict .place; count = r .network .count; kinds = kinds; widths = r .network .widths; levels = r .network .levels })
     ≡ readCall bs
 unfolding readCall answer
@@ -105,10 +106,10 @@ answered bs r kinds h k =
     let count : net .count
     ≡ length (nodesOf net) = sym
     (length-map (take (net .count) (net .slots)) slotNode ∙ length-take-le (net .count) (net .slots) (omega (arith, h .built .sound .few, h .built .slots-length))) in
-    let ws : net .widths ≡ padded 32 (model.widths (nodesOf net)) = ends-padded 32 (net .count) (net .widths) (b .widths-length) (b .sound .few) (b .widths-end)
-    ∙ ap (padded 32) (b .sound .widths) in
-    let ls : net .levels ≡ padded 32 (model.levels (nodesOf net)) = ends-padded 32 (net .count) (net .levels) (b .levels-length) (b .sound .few) (b .levels-end)
-    ∙ ap (padded 32) (b .sound .levels) in
+    let ws : net .widths ≡ padded maxNodes (model.widths (nodesOf net)) = ends-padded maxNodes (net .count) (net .widths) (b .widths-length) (b .sound .few) (b .widths-end)
+    ∙ ap (padded maxNodes) (b .sound .widths) in
+    let ls : net .levels ≡ padded maxNodes (model.levels (nodesOf net)) = ends-padded maxNodes (net .count) (net .levels) (b .levels-length) (b .sound .few) (b .levels-end)
+    ∙ ap (padded maxNodes) (b .sound .levels) in
     let same : answerOf (record {
       number = r .verdict .number;
       place = r .verdict .place;

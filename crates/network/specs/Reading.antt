@@ -5,7 +5,7 @@ use Prim.Native.Nat.{ℕ, _≤_, _<_}
 use lib.ListN.{getD, take, length}
 use Rattle.model.specs.Record.{Bytes}
 use Rattle.model.specs.Algebra.{Pair}
-use Rattle.model.specs.Network.{Item, readNetwork}
+use Rattle.model.specs.Network.{Item, readNetwork, maxPairs}
 use Rattle.model.specs.Areas.{Areas}
 use Rattle.model.specs.Calls.{ReadAnswer, Result}
 use Rattle.nodes.specs.Nodes.{nodeOf, NodeFits, Narrow, listsOf, withLists}
@@ -19,6 +19,7 @@ use Rattle.network.specs.declared.Reading.{Reading}
 use Rattle.network.specs.declared.Answer.{Answer}
 use Rattle.model.specs.Record as modelRecord
 use Rattle.model.specs.Network as model
+use Rattle.model.specs.Row.{maxNodes, maxWidth}
 use Rattle.nodes.specs.declared.Item as declaredItem
 
 -- ---- networks
@@ -53,17 +54,17 @@ readingOf r = record { verdict = verdictOf (r .verdict); network = networkOf (r 
 
 -- a node's numbers of columns and of pairs are those that its slot has room for
 abbrev pub CountsFit : Node → Type 0
-CountsFit n = (listsOf n .pairs ≤ 2) × (listsOf n .columns ≤ 4)
+CountsFit n = (listsOf n .pairs ≤ maxPairs) × (listsOf n .columns ≤ maxWidth)
 
 -- a slot has room for its node's columns and pairs
 pub record Shaped (s : Slot) : Type 0 where
-  pub columns-length : length (s .columns) ≡ 4
-  pub pairs-length : length (s .pairs) ≡ 4
+  pub columns-length : length (s .columns) ≡ maxWidth
+  pub pairs-length : length (s .pairs) ≡ 2 * maxPairs
   pub counts : CountsFit (s .node)
 
 -- the arrays beside the nodes hold their widths and levels
 pub record Sound (net : Network) : Type 0 where
-  pub few : net .count ≤ 32
+  pub few : net .count ≤ maxNodes
   pub widths : take (net .count) (net .widths) ≡ model.widths (nodesOf net)
   pub levels : take (net .count) (net .levels) ≡ model.levels (nodesOf net)
 
@@ -73,10 +74,10 @@ Ends count l = (i : ℕ) → count ≤ i → getD l i 0 ≡ 0
 
 -- a network as the reader builds it
 pub record Built (net : Network) : Type 0 where
-  pub slots-length : length (net .slots) ≡ 32
-  pub widths-length : length (net .widths) ≡ 32
-  pub levels-length : length (net .levels) ≡ 32
-  pub signs-length : length (net .signs) ≡ 32
+  pub slots-length : length (net .slots) ≡ maxNodes
+  pub widths-length : length (net .widths) ≡ maxNodes
+  pub levels-length : length (net .levels) ≡ maxNodes
+  pub signs-length : length (net .signs) ≡ maxNodes
   pub sound : Sound net
   pub shaped : (i : ℕ) → i < net .count → Shaped (getD (net .slots) i noSlot)
   pub narrow : Narrow (net .widths)
@@ -87,7 +88,7 @@ pub record Built (net : Network) : Type 0 where
 
 -- an item that can come next
 abbrev pub Follows : declaredItem.Item → Network → Bytes → ℕ → Type 0
-Follows (NodeBrought n) net bs at = (net .count < 32) × NodeFits n (take (net .count) (net .widths)) bs at
+Follows (NodeBrought n) net bs at = (net .count < maxNodes) × NodeFits n (take (net .count) (net .widths)) bs at
 Follows (WatchBrought n s) net bs at = n < net .count
 
 -- a network with one item more
@@ -113,11 +114,11 @@ InputsBelow n m =
 -- a node that can come next, with its width and its level
 pub record NextSlot (net : Network) (slot : Slot) (width level : ℕ) : Type 0 where
   pub built : Built net
-  pub room : net .count < 32
+  pub room : net .count < maxNodes
   pub shaped : Shaped slot
   pub width-is : width ≡ model.widthOf (slotNode slot) (model.widths (nodesOf net))
   pub level-is : level ≡ model.levelOf (slotNode slot) (model.levels (nodesOf net))
-  pub narrow : width ≤ 4
+  pub narrow : width ≤ maxWidth
   pub low : level ≤ net .count
 
 -- a network is read: "the first record that fails decides"

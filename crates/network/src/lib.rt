@@ -3,10 +3,11 @@ ghost use mathlib.Core.Path.{_≡_};
 ghost use mathlib.Core.List.{map};
 ghost use Prim.Native.Nat.{ℕ, _+_, _*_, _≤_, _<_, max};
 ghost use lib.ListN.{length, getD};
-ghost use Rattle.model.specs.Network.{noNetwork, refusedReading, kindOf};
+ghost use Rattle.model.specs.Network.{noNetwork, refusedReading, kindOf, maxPairs};
 ghost use Rattle.model.specs.Record.{fieldsAt};
 ghost use Rattle.model.specs.Areas.{padded};
 ghost use Rattle.model.specs.Calls.{readCall};
+ghost use Rattle.model.specs.Row.{maxNodes, maxRows, maxWidth};
 ghost use Rattle.nodes.specs.Nodes.{nodeAt, listsOf, ListsFit};
 ghost use Rattle.network.specs.Reading.{ReadsNetwork, slotNode, Shaped, InputsBelow, WidthIs, LevelIs, Built, nodesOf, networkOf, readingOf};
 ghost use Rattle.network.specs.Reading.{answerOf};
@@ -49,8 +50,8 @@ pub struct Reading {
 
 // n columns of the record from field k on, then zeros.
 fn columns_of(bytes: &[u8], at: usize, k: usize, n: usize) -> [usize; MAX_WIDTH]
-    requires { ⌜ (1 ≤ n → at + 4 + 2 * k + 2 * n ≤ length (now bytes)) × (n ≤ 4) ⌝ }
-    ensures { λ r. ⌜ r ≡ padded 4 (fieldsAt (now (bytes .entry)) at k n) ⌝ }
+    requires { ⌜ (1 ≤ n → at + 4 + 2 * k + 2 * n ≤ length (now bytes)) × (n ≤ maxWidth) ⌝ }
+    ensures { λ r. ⌜ r ≡ padded maxWidth (fieldsAt (now (bytes .entry)) at k n) ⌝ }
 {
     let mut fields = [0usize; MAX_WIDTH];
     let mut i = 0;
@@ -63,8 +64,8 @@ fn columns_of(bytes: &[u8], at: usize, k: usize, n: usize) -> [usize; MAX_WIDTH]
 
 // The columns of n pairs of the record from field 3 on, then zeros.
 fn pairs_of(bytes: &[u8], at: usize, n: usize) -> [usize; 2 * MAX_PAIRS]
-    requires { ⌜ (1 ≤ n → at + 10 + 4 * n ≤ length (now bytes)) × (n ≤ 2) ⌝ }
-    ensures { λ r. ⌜ r ≡ padded 4 (fieldsAt (now (bytes .entry)) at 3 (2 * n)) ⌝ }
+    requires { ⌜ (1 ≤ n → at + 10 + 4 * n ≤ length (now bytes)) × (n ≤ maxPairs) ⌝ }
+    ensures { λ r. ⌜ r ≡ padded (2 * maxPairs) (fieldsAt (now (bytes .entry)) at 3 (2 * n)) ⌝ }
 {
     let mut fields = [0usize; 2 * MAX_PAIRS];
     let mut i = 0;
@@ -114,7 +115,7 @@ fn greater(a: usize, b: usize) -> usize
 
 // A node's level, from the levels of the nodes before it.
 fn level_of(node: Node, levels: &[usize]) -> usize
-    requires { ⌜ InputsBelow node (length (now levels)) × ((i : ℕ) → getD (now levels) i 0 ≤ i) × (length (now levels) ≤ 64) ⌝ }
+    requires { ⌜ InputsBelow node (length (now levels)) × ((i : ℕ) → getD (now levels) i 0 ≤ i) × (length (now levels) ≤ maxRows) ⌝ }
     ensures { λ r. ⌜ LevelIs node (now (levels .entry)) r ⌝ }
 {
     let parts = nodes::parts_of(node);
@@ -201,7 +202,7 @@ pub fn read_network(bytes: &[u8]) -> Reading
 // The numbers of the nodes' kinds, then zeros.
 fn kinds_of(net: Network) -> [usize; MAX_NODES]
     requires { ⌜ Built net ⌝ }
-    ensures { λ r. ⌜ r ≡ padded 32 (map kindOf (nodesOf net)) ⌝ }
+    ensures { λ r. ⌜ r ≡ padded maxNodes (map kindOf (nodesOf net)) ⌝ }
 {
     let mut kinds = [0usize; MAX_NODES];
     let count = net.count;

@@ -5,9 +5,9 @@ use mathlib.Core.List.{List}
 use Prim.Native.Nat.{ℕ, _≤_, _<_}
 use lib.Dec.{eqb}
 use lib.ListN.{getD, length}
-use Rattle.model.specs.Row.{Relation}
+use Rattle.model.specs.Row.{Relation, maxNodes}
 use Rattle.model.specs.Record.{Bytes, offsets}
-use Rattle.model.specs.Areas.{rowCount}
+use Rattle.model.specs.Areas.{rowCount, areaSize, headWords}
 use Rattle.nodes.specs.Nodes.{Narrow}
 use Rattle.network.specs.declared.Slot.{Slot}
 use Rattle.network.specs.Reading.{slotNode}
@@ -33,12 +33,12 @@ working widths rows work counts changed = record { widths = widths; rows = rows;
 
 -- each of these has its size
 pub record Sized (m : Working) : Type 0 where
-  pub widths : length (m .widths) ≡ 32
+  pub widths : length (m .widths) ≡ maxNodes
   pub narrow : Narrow (m .widths)
-  pub rows : 8192 ≤ length (m .rows)
-  pub work : length (m .work) ≡ 8192
-  pub counts : length (m .counts) ≡ 32
-  pub changed : length (m .changed) ≡ 32
+  pub rows : areaSize ≤ length (m .rows)
+  pub work : length (m .work) ≡ areaSize
+  pub counts : length (m .counts) ≡ maxNodes
+  pub changed : length (m .changed) ≡ maxNodes
 
 -- the place of node j's present rows: its own where they changed, else that of the rows area
 abbrev pub presentPlace : Working → ℕ → List ℕ
@@ -68,8 +68,8 @@ workedRows slot level bs head m i =
 -- a node that can be worked, number i of a level
 pub record Workable (slot : Slot) (level : ℕ) (bs : Bytes) (head : List ℕ) (m : Working) (i : ℕ) : Type 0 where
   pub sized : Sized m
-  pub inside : i < 32
-  pub head-long : 162 ≤ length head
+  pub inside : i < maxNodes
+  pub head-long : headWords ≤ length head
   pub old : Place (getD (m .widths) i 0) (placeAt (m .rows) i) (rowCount head i)
   pub old-is : relationIn (getD (m .widths) i 0) (placeAt (m .rows) i) (rowCount head i) ≡ oldRows head m i
   pub unchanged : getD (m .changed) i false ≡ false

@@ -8,22 +8,22 @@ ghost use Rattle.places.specs.Places.{Place, Blank, relationIn, Makes};
 ghost use Rattle.network.specs.Reading.{slotNode, Shaped};
 ghost use Rattle.areas.specs.Lent.{placeAt};
 ghost use Rattle.model.specs.Network.{leftOf, rightOf, evaluateOn, fitsOn};
+ghost use Rattle.model.specs.Areas.{areaSize};
+ghost use Rattle.model.specs.Row.{maxNodes};
 ghost use Rattle.tables.specs.Fold.{Foldable, foldRows};
 ghost use Rattle.new_rows.specs.Working.{working, Sized, Present, presentRows, workedRows, Workable};
-use areas::CAPACITY;
 use areas::PLACE;
 use areas::ROW_COUNTS;
 use evaluation::Held;
 use network::Slot;
 use places::Made;
+use rows::MAX_ROWS;
 use rows::STRIDE;
-
-// How many words the rows of a table take at most while a batch is folded: 128 rows.
-const FOLDED: usize = 512;
+use tables::FOLDED;
 
 // The place of node i's present rows: in the working rows where they changed, else in the rows area.
 fn place_of<'a>(changed: bool, work: &'a [u32], rows: &'a [u32], i: usize) -> &'a [u32]
-    requires { ⌜ (i < 32) × (8192 ≤ length (now work)) × (8192 ≤ length (now rows)) ⌝ }
+    requires { ⌜ (i < maxNodes) × (areaSize ≤ length (now work)) × (areaSize ≤ length (now rows)) ⌝ }
     ensures { λ r. ⌜ now r ≡ placeAt (cond changed (now (work .entry)) (now (rows .entry))) i ⌝ }
 {
     if changed {
@@ -41,7 +41,7 @@ fn work_table(
     n: usize,
     out: &mut [u32],
 ) -> Made
-    requires { ⌜ Foldable (now bytes) table width × (table < 32) × (8192 ≤ length (now rows)) × Place width (placeAt (now rows) table) n
+    requires { ⌜ Foldable (now bytes) table width × (table < maxNodes) × (areaSize ≤ length (now rows)) × Place width (placeAt (now rows) table) n
         × Blank (now out) ⌝ }
     ensures { λ r. ⌜ Makes
         (foldRows (now (bytes .entry)) table width (offsets (now (bytes .entry))) (relationIn width (placeAt (now (rows .entry)) table) n))
@@ -50,7 +50,7 @@ fn work_table(
     let mut words = [0u32; FOLDED];
     words::copy_run(rows, table * PLACE, &mut words, 0, n * STRIDE);
     let count = tables::fold(&mut words, n, bytes, table, width);
-    if CAPACITY < count {
+    if MAX_ROWS < count {
         return Made::Over;
     }
     words::copy_run(&words, 0, out, 0, PLACE);
@@ -68,8 +68,8 @@ fn work_derived<'a>(
     changed: &[bool],
     out: &mut [u32],
 ) -> Made
-    requires { ⌜ Sized (working (now widths) (now rows) (now work) (now counts) (now changed)) × Shaped slot × (leftOf (slotNode slot) < 32)
-        × (rightOf (slotNode slot) < 32) × Present (working (now widths) (now rows) (now work) (now counts) (now changed)) (leftOf (slotNode slot))
+    requires { ⌜ Sized (working (now widths) (now rows) (now work) (now counts) (now changed)) × Shaped slot × (leftOf (slotNode slot) < maxNodes)
+        × (rightOf (slotNode slot) < maxNodes) × Present (working (now widths) (now rows) (now work) (now counts) (now changed)) (leftOf (slotNode slot))
         × Present (working (now widths) (now rows) (now work) (now counts) (now changed)) (rightOf (slotNode slot))
         × (fitsOn (getD (now widths) (leftOf (slotNode slot)) 0) (getD (now widths) (rightOf (slotNode slot)) 0) (slotNode slot) ≡ true)
         × Blank (now out) ⌝ }

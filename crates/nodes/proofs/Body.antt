@@ -14,6 +14,7 @@ use Rattle.model.specs.Network.{watchItem}
 use Rattle.model.specs.Algebra.{Operand, constant, column}
 use Rattle.model.proofs.Sets.{and-first, and-second}
 use Rattle.model.proofs.ByKind.{item-narrow}
+use Rattle.model.specs.Row.{maxWidth}
 use Rattle.nodes.specs.Nodes.{NodeRecord, WatchRecord, ListsFit, listsOf, nodeAt, operationOf, setKind, bodyFault, selectFits, ReadsBody}
 use Rattle.nodes.specs.declared.Operand.the-variants.{Constant, Column}
 use Rattle.nodes.specs.declared.SetOperation.{SetOperation}
@@ -84,7 +85,7 @@ module _ (ws signs : List ℕ) (bs : Bytes) (at size : ℕ) (sized : size ≡ le
     unfolding itemFits itemAt nodeFits fitsOn
     table-high h = reads-7 ws signs bs at 1 shaped (rw (← is) (no-second (leb 1 w) (leb w 4) (lt-leb w 4 h)))
 
-    pub table-ok : 1 ≤ w → w ≤ 4 → ReadsBody ws signs 1 bs at (NodeRecord (Table w))
+    pub table-ok : 1 ≤ w → w ≤ maxWidth → ReadsBody ws signs 1 bs at (NodeRecord (Table w))
     unfolding itemFits itemAt nodeFits fitsOn
     table-ok h g = reads-node ws signs bs at 1 shaped (rw (← is, le-leb 1 w h, le-leb w 4 g)) (Table w) (rw is) (none-fit bs at)
 
@@ -186,14 +187,14 @@ module _ (bs : Bytes) (at size : ℕ) (sized : size ≡ lengthAt bs at) where
     unfolding projectShape
     project-many h g = rw (← sized, ← is, le-leb 8 size long, le-leb 1 c h, lt-leb c 4 g)
 
-    pub project-size : 1 ≤ c → c ≤ 4 → eqb size (8 + 2 * c) ≡ projectShape bs at
+    pub project-size : 1 ≤ c → c ≤ maxWidth → eqb size (8 + 2 * c) ≡ projectShape bs at
     unfolding projectShape
     project-size h g = sym (rw (← sized, ← is, le-leb 8 size long, le-leb 1 c h, le-leb c 4 g))
 
 -- the counts of a project's record, and its length
 pub record ProjectShape (bs : Bytes) (at : ℕ) : Type 0 where
   pub size : lengthAt bs at ≡ 8 + 2 * fieldAt bs at 1
-  pub few : fieldAt bs at 1 ≤ 4
+  pub few : fieldAt bs at 1 ≤ maxWidth
   pub some : 1 ≤ fieldAt bs at 1
 
 pub project-shaped : (bs : Bytes) (at : ℕ) → projectShape bs at ≡ true → ProjectShape bs at
@@ -264,14 +265,14 @@ module _ (bs : Bytes) (at size : ℕ) (sized : size ≡ lengthAt bs at) where
         unfolding joinShape
         join-many h g = rw (← sized, ← is, ← of, le-leb 10 size long, le-leb p 2 few, le-leb (12 + 4 * p) size room, le-leb 1 c h, lt-leb c 4 g)
 
-        pub join-size : 1 ≤ c → c ≤ 4 → eqb size (12 + 4 * p + 2 * c) ≡ joinShape bs at
+        pub join-size : 1 ≤ c → c ≤ maxWidth → eqb size (12 + 4 * p + 2 * c) ≡ joinShape bs at
         unfolding joinShape
         join-size h g = sym (rw (← sized, ← is, ← of, le-leb 10 size long, le-leb p 2 few, le-leb (12 + 4 * p) size room, le-leb 1 c h, le-leb c 4 g))
 
 -- the counts of a join's record, and its length
 pub record JoinShape (bs : Bytes) (at : ℕ) : Type 0 where
   pub pairs : fieldAt bs at 2 ≤ 2
-  pub few : fieldAt bs at (3 + 2 * fieldAt bs at 2) ≤ 4
+  pub few : fieldAt bs at (3 + 2 * fieldAt bs at 2) ≤ maxWidth
   pub some : 1 ≤ fieldAt bs at (3 + 2 * fieldAt bs at 2)
   pub size : lengthAt bs at ≡ 12 + 4 * fieldAt bs at 2 + 2 * fieldAt bs at (3 + 2 * fieldAt bs at 2)
 

@@ -7,7 +7,7 @@ use native.Mathlib.Omega.{arith}
 use lib.Dec.{lit≤, eqb}
 use lib.ListN.{length}
 use borrow.Author.Tests.{le-leb, lt-leb, ne-eqb}
-use Rattle.model.specs.Row.{allOf, countFrom}
+use Rattle.model.specs.Row.{allOf, countFrom, maxNodes}
 use Rattle.model.specs.Record.{Bytes, kindAt, fieldAt, isBroken}
 use Rattle.model.specs.Network.{kinds, isUnknown, isNode, recordFault, itemAt, nodeItem, watchItem}
 use Rattle.rows.proofs.Place.{all-below}
@@ -49,7 +49,7 @@ module _ (bs : Bytes) (at : ℕ) where
 
 -- ---- records
 
-room-of : (ws : List ℕ) (r : Record) → length ws < 32 → Room r ws
+room-of : (ws : List ℕ) (r : Record) → length ws < maxNodes → Room r ws
 room-of ws (Brought (NodeBrought n)) h = h
 room-of ws (Brought (WatchBrought n s)) h = tt
 room-of ws (Refused k) h = tt
@@ -76,21 +76,21 @@ module _ (ws signs : List ℕ) (bs : Bytes) (at : ℕ) where
 
     -- a node's kind
     module _ (low : 1 ≤ k) (high : k ≤ length kinds) (no-watch : k ≡ 9 → ⊥) where
-      pub record-5 : 32 ≤ length ws → ReadsRecord ws signs bs at (Refused 5)
+      pub record-5 : maxNodes ≤ length ws → ReadsRecord ws signs bs at (Refused 5)
       unfolding recordFault
       record-5 f =
           record {
-            number = rw (whole, ← is, known k low high, brings-node bs at k low high no-watch, le-leb 32 (length ws) f);
+            number = rw (whole, ← is, known k low high, brings-node bs at k low high no-watch, le-leb maxNodes (length ws) f);
             item = λ z. absurd (omega arith);
             fits = lit≤ tt;
             room = tt;
           }
 
-      pub record-node : (r : Record) → length ws < 32 → ReadsBody ws signs k bs at r → ReadsRecord ws signs bs at r
+      pub record-node : (r : Record) → length ws < maxNodes → ReadsBody ws signs k bs at r → ReadsRecord ws signs bs at r
       unfolding recordFault bodyFault
       record-node r f b =
           record {
-            number = b .number ∙ sym (rw (whole, ← is, known k low high, brings-node bs at k low high no-watch, lt-leb 32 (length ws) f));
+            number = b .number ∙ sym (rw (whole, ← is, known k low high, brings-node bs at k low high no-watch, lt-leb maxNodes (length ws) f));
             item = λ z. b .item z ∙ rw is;
             fits = b .fits;
             room = room-of ws r f;

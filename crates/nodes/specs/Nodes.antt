@@ -7,7 +7,7 @@ use lib.Dec.{ltb}
 use lib.ListN.{getD, take, drop, length}
 use Rattle.model.specs.Algebra.{Pair, constant, column}
 use Rattle.model.specs.Record.{Bytes, kindAt, fieldAt, fieldsAt, rule, firstBroken}
-use Rattle.model.specs.Network.{Item, nodeItem, watchItem, table, select, project, join, setOperation, union}
+use Rattle.model.specs.Network.{Item, nodeItem, watchItem, table, select, project, join, setOperation, union, maxPairs}
 use Rattle.model.specs.Network.{difference, intersection, kindOf, pairsAt, hasShape, itemAt, itemFits, recordFault}
 use Rattle.model.specs.Network.{leftOf, rightOf, isTable, widthOn, widthOf, nodeFits}
 use Rattle.nodes.specs.declared.Operand.{Operand}
@@ -23,6 +23,7 @@ use Rattle.nodes.specs.declared.Item.the-variants.{Node as NodeBrought, 
 use Rattle.nodes.specs.declared.Record.the-variants.{Item as Brought, Refused}
 use Rattle.model.specs.Network as model
 use Rattle.model.specs.Algebra as algebra
+use Rattle.model.specs.Row.{maxNodes, maxWidth}
 use Rattle.nodes.specs.declared.Item as declaredItem
 
 -- ---- nodes
@@ -118,7 +119,7 @@ selectFits ws bs at = ltb (fieldAt bs at 0) (length ws) && ltb (fieldAt bs at 1)
 
 -- no width is above 4
 abbrev pub Narrow : List ℕ → Type 0
-Narrow ws = (i : ℕ) → getD ws i 0 ≤ 4
+Narrow ws = (i : ℕ) → getD ws i 0 ≤ maxWidth
 
 -- rules 6 and 7 on a record of a kind
 unfoldable pub bodyFault : List ℕ → List ℕ → ℕ → Bytes → ℕ → ℕ
@@ -126,16 +127,16 @@ bodyFault ws signs kind bs at = firstBroken (rule 6 (not (hasShape kind bs at)) 
 
 -- a node's lists stand inside its record, and a slot has room for them
 pub record ListsFit (l : ListSizes) (bs : Bytes) (at : ℕ) : Type 0 where
-  pub few-pairs : l .pairs ≤ 2
-  pub few-columns : l .columns ≤ 4
-  pub near : l .from ≤ 4
+  pub few-pairs : l .pairs ≤ maxPairs
+  pub few-columns : l .columns ≤ maxWidth
+  pub near : l .from ≤ maxWidth
   pub pairs-inside : 1 ≤ l .pairs → at + 10 + 4 * l .pairs ≤ length bs
   pub columns-inside : 1 ≤ l .columns → at + 4 + 2 * (l .from + 2 * l .pairs) + 2 * l .columns ≤ length bs
 
 -- a node of the record at an offset can come after nodes of some widths
 pub record NodeFits (n : Node) (ws : List ℕ) (bs : Bytes) (at : ℕ) : Type 0 where
   pub fits : nodeFits ws (nodeAt n bs at) ≡ true
-  pub narrow : Narrow ws → widthOf (nodeAt n bs at) ws ≤ 4
+  pub narrow : Narrow ws → widthOf (nodeAt n bs at) ws ≤ maxWidth
   pub lists : ListsFit (listsOf n) bs at
 
 -- what a record brings fits what was read before it; a refusal has a number
@@ -152,7 +153,7 @@ pub record ReadsBody (ws signs : List ℕ) (kind : ℕ) (bs : Bytes) (at : ℕ) 
 
 -- a node comes after fewer than 32 others
 abbrev pub Room : Record → List ℕ → Type 0
-Room (Brought (NodeBrought n)) ws = length ws < 32
+Room (Brought (NodeBrought n)) ws = length ws < maxNodes
 Room (Brought (WatchBrought n s)) ws = Unit {0}
 Room (Refused k) ws = Unit {0}
 

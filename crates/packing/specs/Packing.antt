@@ -5,6 +5,7 @@ use mathlib.Core.List.{List, [], _∷_, _++_}
 use Prim.Native.Nat.{ℕ, _+_, _*_, _/_, _%_, _<_}
 use lib.ListN.{getD, length}
 use Rattle.model.specs.Record.{Verdict, SmallVerdict, isAccepted}
+use Rattle.model.specs.Row.{maxNodes}
 use Rattle.model.specs.Calls.{ReadAnswer}
 
 -- 32 bits
@@ -36,9 +37,9 @@ readWords a = (a .count ∷ []) ++ a .kinds ++ a .widths ++ a .levels
 
 -- a reader's answer fits 97 words
 pub record ReadFits (x : ReadAnswer) : Type 0 where
-  pub kinds-length : length (x .kinds) ≡ 32
-  pub widths-length : length (x .widths) ≡ 32
-  pub levels-length : length (x .levels) ≡ 32
+  pub kinds-length : length (x .kinds) ≡ maxNodes
+  pub widths-length : length (x .widths) ≡ maxNodes
+  pub levels-length : length (x .levels) ≡ maxNodes
   pub count-fits : x .count < half
   pub kinds-fit : FitWords (x .kinds)
   pub widths-fit : FitWords (x .widths)

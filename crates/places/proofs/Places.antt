@@ -9,8 +9,8 @@ use lib.Dec.{leb}
 use lib.ListN.{length, getD, take, drop, replicate, length-append, length-replicate, length-drop}
 use lib.Seq.{take-all, paste, length-paste}
 use borrow.Author.Tests.{leb-true}
-use Rattle.model.specs.Row.{Row, Relation, ascending, keep, keepIf}
-use Rattle.model.specs.Areas.{layout, fields, unusedZero, goodPlace, padded, placeOf}
+use Rattle.model.specs.Row.{Row, Relation, ascending, keep, keepIf, maxRows, maxWidth}
+use Rattle.model.specs.Areas.{layout, fields, unusedZero, goodPlace, padded, placeOf, placeSize, stride}
 use Rattle.model.proofs.Sets.{and-first, and-second}
 use Rattle.rows.specs.Rows.{rowAt, rowsFrom, firstRows, words, stored, Wide}
 use Rattle.rows.proofs.Words.{length-row, length-words, rows-snoc, wide-keep, wide-rows, stored-push, paste-sets, fields-part, drop-zeros}
@@ -23,15 +23,15 @@ use Rattle.places.specs.Places.{relationIn, Place, Blank, Fills, Kept}
 -- ---- a place of good form
 
 module _ (w : ℕ) (s : List ℕ) (n : ℕ) (p : Place w s n) where
-  few-ascending : (leb n 64 && ascending (relationIn w s n)) ≡ true
+  few-ascending : (leb n maxRows && ascending (relationIn w s n)) ≡ true
   unfolding goodPlace
-  few-ascending = and-first (leb n 64 && ascending (relationIn w s n)) (unusedZero layout w n s 0) (p .good)
+  few-ascending = and-first (leb n maxRows && ascending (relationIn w s n)) (unusedZero layout w n s 0) (p .good)
 
-  pub place-few : n ≤ 64
-  place-few = leb-true n 64 (and-first (leb n 64) (ascending (relationIn w s n)) few-ascending)
+  pub place-few : n ≤ maxRows
+  place-few = leb-true n maxRows (and-first (leb n maxRows) (ascending (relationIn w s n)) few-ascending)
 
   pub place-ascending : ascending (relationIn w s n) ≡ true
-  place-ascending = and-second (leb n 64) (ascending (relationIn w s n)) few-ascending
+  place-ascending = and-second (leb n maxRows) (ascending (relationIn w s n)) few-ascending
 
   pub place-wide : Wide w (relationIn w s n)
   place-wide = held-wide layout w n s 0
@@ -43,10 +43,10 @@ module _ (w : ℕ) (s : List ℕ) (n : ℕ) (p : Place w s n) where
   pub place-is : s ≡ placeOf layout (relationIn w s n)
   unfolding goodPlace
   place-is =
-      sym (take-all 256 s (omega (arith, p .long)))
-      ∙ place-words layout w s 0 n (p .narrow) place-few (omega (arith, p .long)) (and-second (leb n 64 && ascending (relationIn w s n)) (unusedZero layout w n s 0) (p .good))
+      sym (take-all placeSize s (omega (arith, p .long)))
+      ∙ place-words layout w s 0 n (p .narrow) place-few (omega (arith, p .long)) (and-second (leb n maxRows && ascending (relationIn w s n)) (unusedZero layout w n s 0) (p .good))
 
-pub place-rows : (w : ℕ) (s : List ℕ) (n : ℕ) → Place w s n → firstRows s n ≡ map (padded 4) (relationIn w s n)
+pub place-rows : (w : ℕ) (s : List ℕ) (n : ℕ) → Place w s n → firstRows s n ≡ map (padded stride) (relationIn w s n)
 place-rows w s n p =
     let rel : Relation = relationIn w s n in
     let count : length (relationIn w s n) ≡ n = place-count w s n p in
@@ -55,62 +55,62 @@ place-rows w s n p =
     ∙ placed-rows w rel (p .narrow) (place-wide w s n p) (rw count (place-few w s n p))
 
 pub rows-ascend : (w : ℕ) (s : List ℕ) (n : ℕ) → Place w s n → ascending (firstRows s n) ≡ true
-rows-ascend w s n p = ap ascending (place-rows w s n p) ∙ ascending-padded 4 w (relationIn w s n) (place-wide w s n p) ∙ place-ascending w s n p
+rows-ascend w s n p = ap ascending (place-rows w s n p) ∙ ascending-padded stride w (relationIn w s n) (place-wide w s n p) ∙ place-ascending w s n p
 
 -- ---- rows stored in an empty place
 
-pub stored-blank : (w : ℕ) (rel : Relation) → w ≤ 4 → Wide w rel → length rel ≤ 64 → stored (map (padded 4) rel) (replicate 256 0) ≡ placeOf layout rel
+pub stored-blank : (w : ℕ) (rel : Relation) → w ≤ maxWidth → Wide w rel → length rel ≤ maxRows → stored (map (padded stride) rel) (replicate placeSize 0) ≡ placeOf layout rel
 unfolding stored placeOf
 stored-blank w rel h a f =
-    ap₂ {A = List ℕ} {B = List ℕ} {C = List ℕ} (λ x y. x ++ y) (words-map (padded 4) rel)
-    (drop-zeros (length (words (map (padded 4) rel))) 256 ∙ ap (λ (l : List ℕ). replicate (256 - length l) 0) (words-map (padded 4) rel))
+    ap₂ {A = List ℕ} {B = List ℕ} {C = List ℕ} (λ x y. x ++ y) (words-map (padded stride) rel)
+    (drop-zeros (length (words (map (padded stride) rel))) placeSize ∙ ap (λ (l : List ℕ). replicate (placeSize - length l) 0) (words-map (padded stride) rel))
 
 -- the rows that pass a test, copied one after the other into an empty place
 module _ (p : Row → Bool) (s : List ℕ) where
-  kept-none : Kept p s 0 (replicate 256 0) 0
+  kept-none : Kept p s 0 (replicate placeSize 0) 0
   unfolding rowsFrom stored
-  kept-none = record { count = refl; is = refl; few = le-refl 0; size = length-replicate {A = ℕ} 256 0 }
+  kept-none = record { count = refl; is = refl; few = le-refl 0; size = length-replicate {A = ℕ} placeSize 0 }
 
   pub kept-start : (out : List ℕ) → Blank out → Kept p s 0 out 0
   kept-start out e = rw e kept-none
 
-  kept-snoc : (i : ℕ) (t : Bool) → p (rowAt 4 s i) ≡ t → keep p (rowsFrom 4 s 0 (i + 1)) ≡ keep p (rowsFrom 4 s 0 i) ++ keepIf t (rowAt 4 s i) []
-  kept-snoc i t e = ap (keep p) (rows-snoc 4 s 0 i) ∙ keep-append p (rowsFrom 4 s 0 i) (rowAt 4 s (0 + i) ∷ []) ∙ rw (zero-add, e)
+  kept-snoc : (i : ℕ) (t : Bool) → p (rowAt stride s i) ≡ t → keep p (rowsFrom stride s 0 (i + 1)) ≡ keep p (rowsFrom stride s 0 i) ++ keepIf t (rowAt stride s i) []
+  kept-snoc i t e = ap (keep p) (rows-snoc stride s 0 i) ∙ keep-append p (rowsFrom stride s 0 i) (rowAt stride s (0 + i) ∷ []) ∙ rw (zero-add, e)
 
-  pub kept-no : (i : ℕ) (out : List ℕ) (m : ℕ) → p (rowAt 4 s i) ≡ false → Kept p s i out m → Kept p s (i + 1) out m
+  pub kept-no : (i : ℕ) (out : List ℕ) (m : ℕ) → p (rowAt stride s i) ≡ false → Kept p s i out m → Kept p s (i + 1) out m
   kept-no i out m e k =
-      let same : keep p (rowsFrom 4 s 0 (i + 1)) ≡ keep p (rowsFrom 4 s 0 i) = kept-snoc i false e ∙ append-nil (keep p (rowsFrom 4 s 0 i)) in
+      let same : keep p (rowsFrom stride s 0 (i + 1)) ≡ keep p (rowsFrom stride s 0 i) = kept-snoc i false e ∙ append-nil (keep p (rowsFrom stride s 0 i)) in
       record { count = rw same (k .count); is = rw same (k .is); few = omega (arith, k .few); size = k .size }
 
-  kept-yes : (i : ℕ) (out : List ℕ) (m : ℕ) → p (rowAt 4 s i) ≡ true → i < 64 → i * 4 + 4 ≤ length s → Kept p s i out m → Kept p s (i + 1) (paste out (m * 4) (drop (i * 4) s) 4) (m + 1)
+  kept-yes : (i : ℕ) (out : List ℕ) (m : ℕ) → p (rowAt stride s i) ≡ true → i < maxRows → i * stride + stride ≤ length s → Kept p s i out m → Kept p s (i + 1) (paste out (m * stride) (drop (i * stride) s) stride) (m + 1)
   unfolding rowAt stored
   kept-yes i out m e h f k =
-      let old : List Row = keep p (rowsFrom 4 s 0 i) in
-      let r : Row = rowAt 4 s i in
-      let new : keep p (rowsFrom 4 s 0 (i + 1)) ≡ old ++ (r ∷ []) = kept-snoc i true e in
-      let wide : Wide 4 old = wide-keep 4 p (rowsFrom 4 s 0 i) (wide-rows 4 s 0 i) in
-      let room : m * 4 + 4 ≤ 256 = omega (arith, k .few) in
-      let size : length (stored old (replicate 256 0)) ≡ 256 = stored-size old wide (omega (arith, k .few, k .count)) in
+      let old : List Row = keep p (rowsFrom stride s 0 i) in
+      let r : Row = rowAt stride s i in
+      let new : keep p (rowsFrom stride s 0 (i + 1)) ≡ old ++ (r ∷ []) = kept-snoc i true e in
+      let wide : Wide stride old = wide-keep stride p (rowsFrom stride s 0 i) (wide-rows stride s 0 i) in
+      let room : m * stride + stride ≤ placeSize = omega (arith, k .few) in
+      let size : length (stored old (replicate placeSize 0)) ≡ placeSize = stored-size old wide (omega (arith, k .few, k .count)) in
       record {
         count = rw (new, length-append) (omega (arith, k .count));
         is =
-            ap (λ (l : List ℕ). paste l (m * 4) (drop (i * 4) s) 4) (k .is)
-            ∙ paste-sets (stored old (replicate 256 0)) (drop (i * 4) s) (m * 4) 4 r (row-part i f) (length-row 4 s i) (rw size room)
-            ∙ stored-push 4 old r (replicate 256 0) m wide (length-row 4 s i) (k .count) (rw length-replicate room)
-            ∙ ap (λ (l : List Row). stored l (replicate 256 0)) (sym new);
+            ap (λ (l : List ℕ). paste l (m * stride) (drop (i * stride) s) stride) (k .is)
+            ∙ paste-sets (stored old (replicate placeSize 0)) (drop (i * stride) s) (m * stride) stride r (row-part i f) (length-row stride s i) (rw size room)
+            ∙ stored-push stride old r (replicate placeSize 0) m wide (length-row stride s i) (k .count) (rw length-replicate room)
+            ∙ ap (λ (l : List Row). stored l (replicate placeSize 0)) (sym new);
         few = omega (arith, k .few);
-        size = length-paste out (m * 4) (drop (i * 4) s) 4 (rw (k .size) room) (rw length-drop (omega arith)) ∙ k .size;
+        size = length-paste out (m * stride) (drop (i * stride) s) stride (rw (k .size) room) (rw length-drop (omega arith)) ∙ k .size;
       }
     where
-      row-part : (i : ℕ) → i * 4 + 4 ≤ length s → rowAt 4 s i ≡ take 4 (drop (i * 4) s)
-      row-part i f = fields-part 4 s (i * 4) f
+      row-part : (i : ℕ) → i * stride + stride ≤ length s → rowAt stride s i ≡ take stride (drop (i * stride) s)
+      row-part i f = fields-part stride s (i * stride) f
 
-      stored-size : (l : List Row) → Wide 4 l → length l ≤ 64 → length (stored l (replicate 256 0)) ≡ 256
-      stored-size l wl h = length-append (words l) (drop (length (words l)) (replicate 256 0)) ∙ rw (length-drop, length-replicate, length-words 4 l wl) (omega arith)
+      stored-size : (l : List Row) → Wide stride l → length l ≤ maxRows → length (stored l (replicate placeSize 0)) ≡ placeSize
+      stored-size l wl h = length-append (words l) (drop (length (words l)) (replicate placeSize 0)) ∙ rw (length-drop, length-replicate, length-words stride l wl) (omega arith)
 
 -- the same, with the words that the copy left
-pub kept-copied : (p : Row → Bool) (s : List ℕ) (i : ℕ) (out after : List ℕ) (m : ℕ) → p (rowAt 4 s i) ≡ true → i < 64 → i * 4 + 4 ≤ length s → Kept p s i out m →
-    after ≡ paste out (m * 4) (drop (i * 4) s) 4 → Kept p s (i + 1) after (m + 1)
+pub kept-copied : (p : Row → Bool) (s : List ℕ) (i : ℕ) (out after : List ℕ) (m : ℕ) → p (rowAt stride s i) ≡ true → i < maxRows → i * stride + stride ≤ length s → Kept p s i out m →
+    after ≡ paste out (m * stride) (drop (i * stride) s) stride → Kept p s (i + 1) after (m + 1)
 kept-copied p s i out after m e h f k a = rw a (kept-yes p s i out m e h f k)
 
 -- ---- fields of a row in words
@@ -122,23 +122,23 @@ row-field (suc n) s at zero h = let e : at + 0 ≡ at = omega arith in rw e
 row-field (suc n) s at (suc k) h = let e : at + suc k ≡ suc at + k = omega arith in rw e (row-field n s (suc at) k (le-of-suc-le-suc h))
 
 -- field k of row i
-pub row-cell : (s : List ℕ) (i k : ℕ) → k < 4 → getD (rowAt 4 s i) k 0 ≡ getD s (i * 4 + k) 0
+pub row-cell : (s : List ℕ) (i k : ℕ) → k < stride → getD (rowAt stride s i) k 0 ≡ getD s (i * stride + k) 0
 unfolding rowAt
-row-cell s i k h = row-field 4 s (i * 4) k h
+row-cell s i k h = row-field stride s (i * stride) k h
 
 -- ---- the model's rows
 
 -- rows kept from a place are the model's rows kept, in their place
-pub kept-fills : (w : ℕ) (s : List ℕ) (n : ℕ) (p q : Row → Bool) (out : List ℕ) (m : ℕ) → Place w s n → ((r : Row) → length r ≡ w → p (padded 4 r) ≡ q r) → Kept p s n out m →
+pub kept-fills : (w : ℕ) (s : List ℕ) (n : ℕ) (p q : Row → Bool) (out : List ℕ) (m : ℕ) → Place w s n → ((r : Row) → length r ≡ w → p (padded stride r) ≡ q r) → Kept p s n out m →
     Fills (keep q (relationIn w s n)) out m
 kept-fills w s n p q out m pl e k =
     let rel : Relation = relationIn w s n in
-    let same : keep p (firstRows s n) ≡ map (padded 4) (keep q rel) = ap (keep p) (place-rows w s n pl) ∙ keep-padded 4 w p q rel (place-wide w s n pl) e in
+    let same : keep p (firstRows s n) ≡ map (padded stride) (keep q rel) = ap (keep p) (place-rows w s n pl) ∙ keep-padded stride w p q rel (place-wide w s n pl) e in
     let wide : Wide w (keep q rel) = wide-keep w q rel (place-wide w s n pl) in
-    let count : m ≡ length (keep q rel) = k .count ∙ ap length same ∙ length-map-padded 4 (keep q rel) in
-    let few : m ≤ 64 = omega (arith, k .few, place-few w s n pl) in
+    let count : m ≡ length (keep q rel) = k .count ∙ ap length same ∙ length-map-padded stride (keep q rel) in
+    let few : m ≤ maxRows = omega (arith, k .few, place-few w s n pl) in
     record {
       count = count;
       few = few;
-      is = k .is ∙ ap (λ (l : List Row). stored l (replicate 256 0)) same ∙ stored-blank w (keep q rel) (pl .narrow) wide (rw (← count) few);
+      is = k .is ∙ ap (λ (l : List Row). stored l (replicate placeSize 0)) same ∙ stored-blank w (keep q rel) (pl .narrow) wide (rw (← count) few);
     }

@@ -8,11 +8,11 @@ use lib.Dec.{leb, ltb}
 use lib.ListN.{drop, length, take}
 use lib.Seq.{sets, take-at}
 use borrow.Author.Tests.{ltb-false, ltb-true}
-use Rattle.model.specs.Row.{numbersBelow}
+use Rattle.model.specs.Row.{numbersBelow, maxNodes}
 use Rattle.model.specs.Record.{Bytes, isAccepted}
 use Rattle.model.specs.Network.{readNetwork}
 use Rattle.model.specs.Station.{State, Step}
-use Rattle.model.specs.Areas.{Areas, layout, longEnough}
+use Rattle.model.specs.Areas.{Areas, layout, longEnough, stride}
 use Rattle.model.specs.Text.{Piece, batch, broken, unfinished, bytesBetween, maxFile, batchWord, noInputWords, unfinishedWord, line, nodeLines}
 use Rattle.model.specs.Text.{programOutput, runFiles, runPieces, stepLines}
 use Rattle.model.proofs.Parts.{sets-first}
@@ -116,15 +116,15 @@ module _ (f : Files) where
         ∙ h
         ∙ ap (λ (l : List Piece). pieceText (f .net) a l ++ outputFrom (pieceStage (f .net) a start l) (pieceAreas (f .net) a l)) (sym e)
 
-    next-is : (end : ℕ) → start ≤ end → end + 4 ≤ length (f .batches) → end + 4 ≡ start + length (bytesBetween (f .batches) start end) + 4
+    next-is : (end : ℕ) → start ≤ end → end + stride ≤ length (f .batches) → end + stride ≡ start + length (bytesBetween (f .batches) start end) + stride
     next-is end h g = omega (arith, h, g, between-length (f .batches) start end h (omega (arith, g)))
 
     piece-step : (p : declared.Piece) → Next (f .batches) start p → outputFrom (Cut start) a ≡ textAt f (Cut start) a ++ outputFrom (stageAfter f (Cut start) a) (areasAt f (Cut start) a)
     unfolding runPieces
     piece-step (Batch end) n =
         let b : Bytes = bytesBetween (f .batches) start end in
-        pieces-output (batch b ∷ piecesOn (f .batches) (end + 4)) (n .2)
-        (batch-output b (end + 4) (isAccepted (stepOf (f .net) a b .verdict)) refl
+        pieces-output (batch b ∷ piecesOn (f .batches) (end + stride)) (n .2)
+        (batch-output b (end + stride) (isAccepted (stepOf (f .net) a b .verdict)) refl
         ∙ ap (λ (x : ℕ). batchLine (stepOf (f .net) a b) ++ outputFrom (stageOf (stepOf (f .net) a b) x) (areasAfter (f .net) a b)) (next-is end (n .0) (n .1)))
     piece-step (Broken at) n = pieces-output (broken at ∷ []) n (sym (append-nil (refusal (refusalOf (Broken at)))))
     piece-step Unfinished n = pieces-output (unfinished ∷ []) n (sym (append-nil (line unfinishedWord [])))
@@ -149,7 +149,7 @@ module _ (f : Files) where
     piece-ready (Batch end) n =
         let b : Bytes = bytesBetween (f .batches) start end in
         let t : Bool = isAccepted (stepOf (f .net) a b .verdict) in
-        let next : ℕ = start + length (bytesBetween (f .batches) start end) + 4 in
+        let next : ℕ = start + length (bytesBetween (f .batches) start end) + stride in
         subst After (sym (n .2))
         (batch-ready b next t refl, batch-falls b next t refl (omega arith) (omega (arith, n .1, next-is end (n .0) (n .1))))
     piece-ready (Broken at) n = subst After (sym n) (tt, omega arith)
@@ -158,8 +158,8 @@ module _ (f : Files) where
 
   -- ---- a node
 
-  module _ (node next : ℕ) (a : Areas) (k : Opened (f .net) a) (h : node < 32) where
-    node-step : (t : Bool) → ltb (node + 1) 32 ≡ t → outputFrom (Tell node next) a ≡ textAt f (Tell node next) a ++ outputFrom (stageAfter f (Tell node next) a) a
+  module _ (node next : ℕ) (a : Areas) (k : Opened (f .net) a) (h : node < maxNodes) where
+    node-step : (t : Bool) → ltb (node + 1) maxNodes ≡ t → outputFrom (Tell node next) a ≡ textAt f (Tell node next) a ++ outputFrom (stageAfter f (Tell node next) a) a
     node-step t e =
         let rest : Bytes = runPieces (readNetwork (f .net) .network) (stateOf (f .net) a) (piecesOn (f .batches) next) in
         let here : Bytes = nodeLines (readNetwork (f .net) .network) (stateOf (f .net) a .changes) node in
@@ -167,13 +167,13 @@ module _ (f : Files) where
         ∙ append-assoc here (nodesFrom (f .net) a (node + 1)) rest
         ∙ ap (λ (l : Bytes). here ++ l) (go t e)
       where
-        go : (t : Bool) → ltb (node + 1) 32 ≡ t → nodesFrom (f .net) a (node + 1) ++ runPieces (readNetwork (f .net) .network) (stateOf (f .net) a) (piecesOn (f .batches) next)
+        go : (t : Bool) → ltb (node + 1) maxNodes ≡ t → nodesFrom (f .net) a (node + 1) ++ runPieces (readNetwork (f .net) .network) (stateOf (f .net) a) (piecesOn (f .batches) next)
             ≡ outputFrom (stageAfter f (Tell node next) a) a
         go true e = rw e refl
-        go false e = rw (e, nodes-over (f .net) a (node + 1) (ltb-false (node + 1) 32 e)) refl
+        go false e = rw (e, nodes-over (f .net) a (node + 1) (ltb-false (node + 1) maxNodes e)) refl
 
-    node-ready : (t : Bool) → ltb (node + 1) 32 ≡ t → Ready f (stageAfter f (Tell node next) a) a × (left f (stageAfter f (Tell node next) a) < left f (Tell node next))
-    node-ready true e = rw e ((k, ltb-true (node + 1) 32 e), omega (arith, h))
+    node-ready : (t : Bool) → ltb (node + 1) maxNodes ≡ t → Ready f (stageAfter f (Tell node next) a) a × (left f (stageAfter f (Tell node next) a) < left f (Tell node next))
+    node-ready true e = rw e ((k, ltb-true (node + 1) maxNodes e), omega (arith, h))
     node-ready false e = rw e (k, omega (arith, h))
 
   -- ---- any step
@@ -182,14 +182,14 @@ module _ (f : Files) where
   pub output-step : (s : Stage) (a : Areas) → Ready f s a → outputFrom s a ≡ textAt f s a ++ outputFrom (stageAfter f s a) (areasAt f s a)
   output-step Begin a k = begin-step a k (hasInput f) refl (isAccepted (readNetwork (f .net) .verdict)) refl
   output-step (Cut start) a k = piece-step start a k (found (f .batches) start .piece) (found (f .batches) start .next)
-  output-step (Tell node next) a k = node-step node next a (k .0) (k .1) (ltb (node + 1) 32) refl
+  output-step (Tell node next) a k = node-step node next a (k .0) (k .1) (ltb (node + 1) maxNodes) refl
   output-step End a k = refl
 
   -- it leaves what the next one needs
   pub ready-step : (s : Stage) (a : Areas) → Ready f s a → Ready f (stageAfter f s a) (areasAt f s a)
   ready-step Begin a k = begin-ready a k (hasInput f) refl (isAccepted (readNetwork (f .net) .verdict)) refl
   ready-step (Cut start) a k = piece-ready start a k (found (f .batches) start .piece) (found (f .batches) start .next) .0
-  ready-step (Tell node next) a k = node-ready node next a (k .0) (k .1) (ltb (node + 1) 32) refl .0
+  ready-step (Tell node next) a k = node-ready node next a (k .0) (k .1) (ltb (node + 1) maxNodes) refl .0
   ready-step End a k = tt
 
   begin-falls : (t : Bool) → left f (cond t (Cut 0) End) < left f Begin
@@ -200,7 +200,7 @@ module _ (f : Files) where
   pub falls : (s : Stage) (a : Areas) → Ready f s a → isOver s ≡ false → left f (stageAfter f s a) < left f s
   falls Begin a k n = begin-falls (hasInput f && isAccepted (readNetwork (f .net) .verdict))
   falls (Cut start) a k n = piece-ready start a k (found (f .batches) start .piece) (found (f .batches) start .next) .1
-  falls (Tell node next) a k n = node-ready node next a (k .0) (k .1) (ltb (node + 1) 32) refl .1
+  falls (Tell node next) a k n = node-ready node next a (k .0) (k .1) (ltb (node + 1) maxNodes) refl .1
   falls End a k n = absurd (true≢false n)
 
   -- ---- runs

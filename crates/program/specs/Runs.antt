@@ -4,6 +4,7 @@ use mathlib.Core.Bool.{true, false}
 use mathlib.Core.List.{List, [], _∷_, flatMap}
 use Prim.Native.Nat.{ℕ, suc, _+_, _-_, _*_}
 use lib.ListN.{length, take}
+use Rattle.model.specs.Row.{maxNodes}
 use Rattle.model.specs.Record.{Bytes}
 use Rattle.model.specs.Areas.{Areas, layout, longEnough}
 use Rattle.model.specs.Text.{programOutput}
@@ -38,7 +39,7 @@ Prints = (f : Files) (a : Areas) (turns : List Turn) → longEnough layout a ≡
 
 -- at most so many steps are left: all nodes' turns for each byte that is left of the file
 abbrev pub left : Files → Stage → ℕ
-left f Begin = 64 * suc (suc (length (f .batches)))
-left f (Cut start) = 64 * suc (length (f .batches) - start)
-left f (Tell node next) = 64 * suc (length (f .batches) - next) + (33 - node)
+left f Begin = 2 * maxNodes * suc (suc (length (f .batches)))
+left f (Cut start) = 2 * maxNodes * suc (length (f .batches) - start)
+left f (Tell node next) = 2 * maxNodes * suc (length (f .batches) - next) + (suc maxNodes - node)
 left f End = 0

@@ -17,7 +17,7 @@ use Rattle.working.specs.Worked.{Worked, WorkedTo, nextRows, WorksNode}
 use Rattle.worklist.specs.Listed.{inputChanged}
 use Rattle.propagation.specs.declared.Propagated.the-variants.{All, Over}
 use Rattle.network.specs.Reading.{nodesOf, Built, noSlot, slotNode}
-use Rattle.model.specs.Row.{Relation, ascending, sameRows, place}
+use Rattle.model.specs.Row.{Relation, ascending, sameRows, place, maxNodes, maxRows}
 use Rattle.coherence.specs.Held.{rowsHeld, Places, heldAt, Derived}
 use Rattle.coherence.proofs.Coherent.{nodes-count, rows-held, width-is, rows-length, slot-node, level-derived, level-table, narrow-widths}
 use Rattle.model.proofs.Fits.{length-widths}
@@ -26,7 +26,7 @@ use Rattle.model.specs.Evaluation.{rowsAt, overfull}
 use Rattle.states.specs.Fitting.{Fitting}
 use Rattle.states.proofs.Written.{sized}
 use Rattle.rows.proofs.Place.{held-wide}
-use Rattle.model.specs.Areas.{layout, rowCount, tablesOf}
+use Rattle.model.specs.Areas.{layout, rowCount, tablesOf, areaSize}
 use Rattle.coherence.proofs.Placed.{rows-few, held-at, place-at}
 use Rattle.places.proofs.Places.{place-ascending}
 use Rattle.areas.specs.Lent.{placeAt}
@@ -258,7 +258,7 @@ module _ (net : Network) (rows head : List ℕ) (bs : Bytes) (ready : Ready net 
       }
 
   -- no node worked yet
-  pub worked-none : (work : List ℕ) → length work ≡ 8192 → WorkedTo head (newRows net rows head bs) (working (net .widths) rows work (replicate 32 0) (replicate 32 false)) 0
+  pub worked-none : (work : List ℕ) → length work ≡ areaSize → WorkedTo head (newRows net rows head bs) (working (net .widths) rows work (replicate maxNodes 0) (replicate maxNodes false)) 0
   worked-none work e =
       record {
         sized = record {
@@ -266,18 +266,18 @@ module _ (net : Network) (rows head : List ℕ) (bs : Bytes) (ready : Ready net 
           narrow = b .narrow;
           rows = places .rows-long;
           work = e;
-          counts = length-replicate {A = ℕ} 32 0;
-          changed = length-replicate {A = Bool} 32 false;
+          counts = length-replicate {A = ℕ} maxNodes 0;
+          changed = length-replicate {A = Bool} maxNodes false;
         };
         worked = λ j h. absurd (not-suc-le-zero h);
-        unchanged = λ j h. same-at false 32 j;
-        uncounted = λ j h. same-at 0 32 j;
+        unchanged = λ j h. same-at false maxNodes j;
+        uncounted = λ j h. same-at 0 maxNodes j;
       }
 
 -- ---- the verdict
 
 module _ (head : List ℕ) (new : List Relation) (n : ℕ) (m : Working) (many : length new ≡ n) where
-  pub propagates-over : (i : ℕ) → i < n → 64 < length (rowsAt new i) → ((j : ℕ) → j < i → length (rowsAt new j) ≤ 64) → Propagates head new n m (Over i)
+  pub propagates-over : (i : ℕ) → i < n → maxRows < length (rowsAt new i) → ((j : ℕ) → j < i → length (rowsAt new j) ≤ maxRows) → Propagates head new n m (Over i)
   propagates-over i h o u =
       let first : (rest : List ℕ) × (overfull 0 new ≡ (0 + i) ∷ rest) = first-over 0 new i (rw many h) o u in
       record {

@@ -6,6 +6,8 @@ ghost use Rattle.network.specs.Reading.{verdictOf};
 ghost use Rattle.new_rows.specs.Working.{working};
 ghost use Rattle.propagation.specs.Propagated.{newRows, Ready, verdictBy, Propagates};
 ghost use Prim.Native.Nat.{_+_, _<_};
+ghost use Rattle.model.specs.Areas.{areaSize};
+ghost use Rattle.model.specs.Row.{maxNodes};
 use network::Network;
 use network::Verdict;
 
@@ -41,8 +43,8 @@ pub fn propagate(
     counts: &mut [u32],
     changed: &mut [bool],
 ) -> Propagated
-    requires { ⌜ Ready net (now rows) (now head) (now bytes) × (length (now work) ≡ 8192) × (now counts ≡ replicate 32 0)
-        × (now changed ≡ replicate 32 false) ⌝ }
+    requires { ⌜ Ready net (now rows) (now head) (now bytes) × (length (now work) ≡ areaSize) × (now counts ≡ replicate maxNodes 0)
+        × (now changed ≡ replicate maxNodes false) ⌝ }
     ensures { λ r. ⌜ Propagates (now (head .entry)) (newRows net (now (rows .entry)) (now (head .entry)) (now (bytes .entry))) (net .count)
         (working (net .widths) (now (rows .entry)) (now (work .exit)) (now (counts .exit)) (now (changed .exit))) r ⌝ }
 {

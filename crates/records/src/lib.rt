@@ -5,6 +5,13 @@ ghost use lib.ListN.{length};
 ghost use Rattle.model.specs.Record.{u32, isBroken};
 ghost use Rattle.records.specs.Numbers.{Is16};
 
+// The kinds of events, and how many a batch may have.
+pub const PUT: usize = 32;
+
+pub const REMOVE: usize = 33;
+
+pub const MAX_EVENTS: usize = 64;
+
 // The 2-byte number at an offset.
 pub fn u16_at(bytes: &[u8], at: usize) -> usize
     requires { ⌜ at + 2 ≤ length (now bytes) ⌝ }

@@ -23,6 +23,7 @@ use Rattle.admission.specs.Admission.{Admits, changeIn}
 use Rattle.admission.proofs.Admitted.{after-admitted, after-refused}
 use Rattle.admission.proofs.Changes.{change-at}
 use Rattle.model.specs.Network as model
+use Rattle.model.specs.Row.{maxNodes}
 
 both-false : (a : Bool) → (a && false) ≡ false
 both-false true = refl
@@ -40,7 +41,7 @@ module _ (net : Network) (b : Built net) (node sign : ℕ) (e : sign ≡ getD (t
       go true f = ltb-true node (net .count) f
       go false f = absurd (n (e ∙ List·getD-eq-default (take (net .count) (net .signs)) 0 (rw size (ltb-false node (net .count) f))))
 
-  pub sign-few : node < 32
+  pub sign-few : node < maxNodes
   sign-few = omega (arith, sign-inside, b .sound .few)
 
 module _ (net : Network) (b : Built net) (node : ℕ) (gained lost head : List ℕ) where

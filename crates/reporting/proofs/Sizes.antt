@@ -15,6 +15,7 @@ use Rattle.model.specs.Network.{Node, readNetwork, signOf, widths}
 use Rattle.model.specs.Record.{Bytes, isAccepted}
 use Rattle.model.proofs.Fits.{length-widths, read-small}
 use Rattle.model.proofs.Sets.{and-first}
+use Rattle.model.specs.Row.{maxNodes, maxRows}
 use Rattle.reports.proofs.Bytes.{allowed-bound, report-length}
 use Rattle.states.proofs.Fitted.{few-at, form-parts}
 use Rattle.admission.proofs.Verdicts.{form-holds, or-holds, unless-holds}
@@ -30,10 +31,10 @@ module _ (net : Bytes) (a : Areas) where
       let sign : ℕ = signOf (readNetwork net .network) node in
       let w : ℕ = getD (widths nodes) node 0 in
       let inside : node < length (widths nodes) = rw (length-widths nodes) h in
-      let few : length (widths nodes) ≤ 32 = rw (length-widths nodes) (read-small net .few) in
+      let few : length (widths nodes) ≤ maxNodes = rw (length-widths nodes) (read-small net .few) in
       let fewest = few-at (widths nodes) few (read-small net .narrow) in
-      let gained-few : gainedCount (a .head) node ≤ 64 = fewest (gainedCount (a .head)) (a .gained) (form-parts nodes a good .1) node inside in
-      let lost-few : lostCount (a .head) node ≤ 64 = fewest (lostCount (a .head)) (a .lost) (form-parts nodes a good .2) node inside in
+      let gained-few : gainedCount (a .head) node ≤ maxRows = fewest (gainedCount (a .head)) (a .gained) (form-parts nodes a good .1) node inside in
+      let lost-few : lostCount (a .head) node ≤ maxRows = fewest (lostCount (a .head)) (a .lost) (form-parts nodes a good .2) node inside in
       omega (
         arith,
         ap (λ (c : Change). length (reportBytes sign node c)) (change-held nodes a node inside),

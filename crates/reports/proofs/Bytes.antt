@@ -6,7 +6,7 @@ use Prim.Native.Nat.{_*_, _+_, _<_, suc, zero, zero-le, ℕ, _≤_}
 use native.Mathlib.Nat.{add-comm, add-zero, mul-le-mul-right, suc-mul, zero-mul}
 use native.Mathlib.Omega.{arith}
 use lib.ListN.{getD, length, length-append}
-use Rattle.model.specs.Row.{Relation, Row, countFrom, numbersBelow}
+use Rattle.model.specs.Row.{Relation, Row, countFrom, numbersBelow, maxRows, maxWidth}
 use Rattle.rows.specs.Rows.{Wide}
 use Rattle.rows.proofs.Words.{length-fields}
 use Rattle.reports.specs.Written.{allowedOf, recordsOf, reportSize}
@@ -15,7 +15,7 @@ use Rattle.model.specs.Calls.{changeRecord, recordOf, reportBytes}
 use Rattle.model.specs.Watched.{allows, wasGained, wasLost}
 use Rattle.model.proofs.Watched.{flat-changes}
 use Rattle.model.specs.Delta.{Change}
-use Rattle.model.specs.Areas.{fields, heldIn, layout}
+use Rattle.model.specs.Areas.{fields, heldIn, layout, placeSize}
 use Rattle.rows.proofs.Place.{fields-split, held-wide, length-held}
 use Rattle.model.proofs.Parts.{flat-append, flat-one}
 
@@ -67,11 +67,11 @@ map-counted f from (suc n) =
     rw g (ap (λ (l : List Row). f from ∷ l) (map-counted f (suc from) n ∙ rw e))
 
 -- one row more of a node's place
-pub held-more : (w j : ℕ) (area : List ℕ) (node : ℕ) → heldIn layout w (j + 1) area node ≡ heldIn layout w j area node ++ (fields w area (node * 256 + j * 4) ∷ [])
+pub held-more : (w j : ℕ) (area : List ℕ) (node : ℕ) → heldIn layout w (j + 1) area node ≡ heldIn layout w j area node ++ (fields w area (node * placeSize + j * 4) ∷ [])
 unfolding heldIn
 held-more w j area node =
-    let e : 256 * node + 4 * (0 + j) ≡ node * 256 + j * 4 = omega arith in
-    map-counted (λ k. fields w area (256 * node + 4 * k)) 0 j ∙ ap (λ (k : ℕ). map (λ i. fields w area (256 * node + 4 * i)) (numbersBelow j) ++ (fields w area k ∷ [])) e
+    let e : placeSize * node + 4 * (0 + j) ≡ node * placeSize + j * 4 = omega arith in
+    map-counted (λ k. fields w area (placeSize * node + 4 * k)) 0 j ∙ ap (λ (k : ℕ). map (λ i. fields w area (placeSize * node + 4 * i)) (numbersBelow j) ++ (fields w area k ∷ [])) e
 
 pub held-none : (kind node w : ℕ) (area : List ℕ) → recordsOf kind node (heldIn layout w 0 area node) ≡ []
 unfolding heldIn flatMap
@@ -81,11 +81,11 @@ pub held-size : (kind node w j : ℕ) (area : List ℕ) → length (recordsOf ki
 held-size kind node w j area = records-size kind node w (heldIn layout w j area node) (held-wide layout w j area node) ∙ ap (λ (n : ℕ). n * (6 + 4 * w)) (length-held layout w j area node)
 
 pub records-more : (kind node w j : ℕ) (area : List ℕ) → recordsOf kind node (heldIn layout w (j + 1) area node) ≡ recordsOf kind node (heldIn layout w j area node) ++ changeRecord kind node
-    (fields w area (node * 256 + j * 4))
+    (fields w area (node * placeSize + j * 4))
 records-more kind node w j area =
     ap (recordsOf kind node) (held-more w j area node)
-    ∙ flat-append (changeRecord kind node) (heldIn layout w j area node) (fields w area (node * 256 + j * 4) ∷ [])
-    ∙ ap (λ (l : List ℕ). recordsOf kind node (heldIn layout w j area node) ++ l) (flat-one (changeRecord kind node) (fields w area (node * 256 + j * 4)))
+    ∙ flat-append (changeRecord kind node) (heldIn layout w j area node) (fields w area (node * placeSize + j * 4) ∷ [])
+    ∙ ap (λ (l : List ℕ). recordsOf kind node (heldIn layout w j area node) ++ l) (flat-one (changeRecord kind node) (fields w area (node * placeSize + j * 4)))
 
 pub allowed-size-is : (t : Bool) (kind node w n : ℕ) (area : List ℕ) → length (allowedOf t kind node (heldIn layout w n area node)) ≡ cond t (n * (6 + 4 * w)) 0
 allowed-size-is true kind node w n area = held-size kind node w n area
@@ -93,12 +93,12 @@ allowed-size-is false kind node w n area = refl
 
 -- ---- sizes
 
-pub size-bound : (n w : ℕ) → n ≤ 64 → w ≤ 4 → n * (6 + 4 * w) ≤ 1408
+pub size-bound : (n w : ℕ) → n ≤ maxRows → w ≤ maxWidth → n * (6 + 4 * w) ≤ 1408
 size-bound n w h g =
     let a : n * (6 + 4 * w) ≤ 64 * (6 + 4 * w) = mul-le-mul-right (6 + 4 * w) h in
     omega arith
 
-pub allowed-bound : (t : Bool) (n w : ℕ) → n ≤ 64 → w ≤ 4 → cond t (n * (6 + 4 * w)) 0 ≤ 1408
+pub allowed-bound : (t : Bool) (n w : ℕ) → n ≤ maxRows → w ≤ maxWidth → cond t (n * (6 + 4 * w)) 0 ≤ 1408
 allowed-bound true n w h g = size-bound n w h g
 allowed-bound false n w h g = zero-le
 
@@ -113,7 +113,7 @@ step-inside n j s at len h f =
 
 -- gained rows, then lost ones
 pub report-parts : (sign node : ℕ) (change : Change) → reportBytes sign node change
-    ≡ allowedOf (allows sign wasGained) 64 node (change .gained) ++ allowedOf (allows sign wasLost) 65 node (change .lost)
+    ≡ allowedOf (allows sign wasGained) maxRows node (change .gained) ++ allowedOf (allows sign wasLost) 65 node (change .lost)
 unfolding reportBytes
 report-parts sign node change = flat-changes recordOf sign node change
 
@@ -122,5 +122,5 @@ pub report-length : (sign node w g l : ℕ) (gained lost : List ℕ) → length 
     ≡ reportSize sign w g l
 report-length sign node w g l gained lost =
     ap length (report-parts sign node (record { gained = heldIn layout w g gained node; lost = heldIn layout w l lost node }))
-    ∙ length-append (allowedOf (allows sign wasGained) 64 node (heldIn layout w g gained node)) (allowedOf (allows sign wasLost) 65 node (heldIn layout w l lost node))
-    ∙ ap₂ {A = ℕ} {B = ℕ} {C = ℕ} (λ x y. x + y) (allowed-size-is (allows sign wasGained) 64 node w g gained) (allowed-size-is (allows sign wasLost) 65 node w l lost)
+    ∙ length-append (allowedOf (allows sign wasGained) maxRows node (heldIn layout w g gained node)) (allowedOf (allows sign wasLost) 65 node (heldIn layout w l lost node))
+    ∙ ap₂ {A = ℕ} {B = ℕ} {C = ℕ} (λ x y. x + y) (allowed-size-is (allows sign wasGained) maxRows node w g gained) (allowed-size-is (allows sign wasLost) 65 node w l lost)

@@ -6,9 +6,10 @@ ghost use Prim.Native.Nat.{_+_, _*_, _≤_, _<_};
 ghost use lib.ListN.{length};
 ghost use lib.Seq.{sets};
 ghost use Rattle.model.specs.Record.{bytes16, bytes32};
-ghost use Rattle.model.specs.Areas.{layout, fields, heldIn};
+ghost use Rattle.model.specs.Areas.{layout, fields, heldIn, areaSize};
 ghost use Rattle.model.specs.Watched.{allows};
 ghost use Rattle.model.specs.Calls.{changeRecord, reportBytes, writtenTo};
+ghost use Rattle.model.specs.Row.{maxNodes, maxRows, maxWidth};
 ghost use Rattle.reports.specs.Written.{recordsOf, allowedOf, directionOf, reportSize};
 use areas::PLACE;
 use rows::STRIDE;
@@ -44,7 +45,7 @@ fn put32(out: &mut [u8], at: usize, x: usize)
 
 // The fields of a row, each in 4 bytes.
 fn put_fields(out: &mut [u8], at: usize, words: &[u32], from: usize, w: usize)
-    requires { ⌜ (w ≤ 4) × (at + 4 * w ≤ length (now out)) × (from + w ≤ length (now words)) ⌝ }
+    requires { ⌜ (w ≤ maxWidth) × (at + 4 * w ≤ length (now out)) × (from + w ≤ length (now words)) ⌝ }
     ensures { λ _. ⌜ now (out .exit) ≡ sets (now (out .entry)) at (flatMap bytes32 (fields w (now (words .entry)) from)) ⌝ }
 {
     let mut k = 0;
@@ -64,7 +65,7 @@ fn put_record(
     from: usize,
     w: usize,
 )
-    requires { ⌜ (w ≤ 4) × (at + (6 + 4 * w) ≤ length (now out)) × (from + w ≤ length (now words)) ⌝ }
+    requires { ⌜ (w ≤ maxWidth) × (at + (6 + 4 * w) ≤ length (now out)) × (from + w ≤ length (now words)) ⌝ }
     ensures { λ _. ⌜ now (out .exit) ≡ sets (now (out .entry)) at (changeRecord kind node (fields w (now (words .entry)) from)) ⌝ }
 {
     put16(out, at, 6 + 4 * w);
@@ -83,7 +84,7 @@ fn put_records(
     n: usize,
     w: usize,
 )
-    requires { ⌜ (w ≤ 4) × (n ≤ 64) × (node < 32) × (8192 ≤ length (now area)) × (at + n * (6 + 4 * w) ≤ length (now out)) ⌝ }
+    requires { ⌜ (w ≤ maxWidth) × (n ≤ maxRows) × (node < maxNodes) × (areaSize ≤ length (now area)) × (at + n * (6 + 4 * w) ≤ length (now out)) ⌝ }
     ensures { λ _. ⌜ now (out .exit) ≡ sets (now (out .entry)) at (recordsOf kind node (heldIn layout w n (now (area .entry)) node)) ⌝ }
 {
     let size = 6 + 4 * w;
@@ -117,7 +118,7 @@ pub fn allows(sign: usize, direction: Direction) -> bool
 
 // How many bytes the records of so many rows take, where they are allowed.
 fn allowed_size(allowed: bool, n: usize, w: usize) -> usize
-    requires { ⌜ (w ≤ 4) × (n ≤ 64) ⌝ }
+    requires { ⌜ (w ≤ maxWidth) × (n ≤ maxRows) ⌝ }
     ensures { λ r. ⌜ r ≡ cond allowed (n * (6 + 4 * w)) 0 ⌝ }
 {
     if allowed {
@@ -137,7 +138,7 @@ fn put_allowed(
     n: usize,
     w: usize,
 )
-    requires { ⌜ (w ≤ 4) × (n ≤ 64) × (node < 32) × (8192 ≤ length (now area)) × (at + cond allowed (n * (6 + 4 * w)) 0 ≤ length (now out)) ⌝ }
+    requires { ⌜ (w ≤ maxWidth) × (n ≤ maxRows) × (node < maxNodes) × (areaSize ≤ length (now area)) × (at + cond allowed (n * (6 + 4 * w)) 0 ≤ length (now out)) ⌝ }
     ensures { λ _. ⌜ now (out .exit) ≡ sets (now (out .entry)) at (allowedOf allowed kind node (heldIn layout w n (now (area .entry)) node)) ⌝ }
 {
     if allowed {
@@ -147,7 +148,7 @@ fn put_allowed(
 
 // How many bytes the report of a node takes, given its watch's sign, its width and how many rows it gained and lost.
 pub fn report_size(sign: usize, w: usize, gained: usize, lost: usize) -> usize
-    requires { ⌜ (w ≤ 4) × (gained ≤ 64) × (lost ≤ 64) ⌝ }
+    requires { ⌜ (w ≤ maxWidth) × (gained ≤ maxRows) × (lost ≤ maxRows) ⌝ }
     ensures { λ r. ⌜ r ≡ reportSize sign w gained lost ⌝ }
 {
     allowed_size(allows(sign, Direction::Gained), gained, w)
@@ -165,7 +166,7 @@ pub fn put_report(
     lost: &[u32],
     l: usize,
 )
-    requires { ⌜ (w ≤ 4) × (g ≤ 64) × (l ≤ 64) × (node < 32) × (8192 ≤ length (now gained)) × (8192 ≤ length (now lost))
+    requires { ⌜ (w ≤ maxWidth) × (g ≤ maxRows) × (l ≤ maxRows) × (node < maxNodes) × (areaSize ≤ length (now gained)) × (areaSize ≤ length (now lost))
         × (reportSize sign w g l ≤ length (now out)) ⌝ }
     ensures { λ _. ⌜ now (out .exit)
         ≡ writtenTo (now (out .entry))

@@ -6,7 +6,8 @@ use Prim.Native.Nat.{ℕ, suc, _≤_, _<_}
 use lib.ListN.{length, take, drop, replicate}
 use borrow.Author.Tests.{le-leb, lt-leb}
 use Rattle.model.specs.Row.{Row}
-use Rattle.rows.specs.Rows.{stride, stored, insertAnswer, Inserts, Removes}
+use Rattle.model.specs.Areas.{stride}
+use Rattle.rows.specs.Rows.{stored, insertAnswer, Inserts, Removes}
 use Rattle.rows.specs.declared.Found.the-variants.{At, Missing}
 use Rattle.rows.specs.declared.Inserted.the-variants.{New, Present, Full}
 use Rattle.rows.proofs.Search.{Spot}

@@ -13,6 +13,7 @@ use Rattle.model.proofs.Sets.{Ascending, insert-more, insert-new, insert-presen
 use Rattle.rows.specs.declared.Inserted.the-variants.{Full, New, Present}
 use Rattle.rows.specs.Rows.{Inserts, Standing, insertAnswer, stored, words, Removes, Wide}
 use Rattle.model.specs.Row.{Row, insertRow, member, deleteRow, sameRow}
+use Rattle.model.specs.Areas.{stride}
 use Rattle.rows.proofs.Words.{length-words, stored-stored, wide-insert, drop-zeros, wide-keep, words-append}
 
 new-says : (t u : Bool) → New ≡ cond t Present (cond u Full New) → (t ≡ false) × (u ≡ false)
@@ -31,14 +32,14 @@ full-says false true e = (refl, refl)
 full-says false false e = let z : _≡_ {A = ℕ} 0 1 = cc in absurd (omega arith)
 
 module _ (most size : ℕ) (r : Row) (l : List Row) (before after : List ℕ) (n : ℕ) (s : Standing most size l before n) where
-  pub put-new : length r ≡ 4 → Wide 4 l → Inserts most r l before after New → Standing most size (insertRow r l) after (n + 1)
+  pub put-new : length r ≡ stride → Wide stride l → Inserts most r l before after New → Standing most size (insertRow r l) after (n + 1)
   unfolding insertAnswer
   put-new lr wide i =
       let says : (member r l ≡ false) × (leb most (length l) ≡ false) = new-says (member r l) (leb most (length l)) (i .says) in
       let one : length (insertRow r l) ≡ suc (length l) = insert-new r l (says .0) in
       let few : length l < most = leb-false most (length l) (says .1) in
       let more : length (words l) ≤ length (words (insertRow r l)) =
-      rw (length-words 4 l wide, length-words 4 (insertRow r l) (wide-insert 4 r l lr wide)) (mul-le-mul-right 4 (insert-more r l)) in
+      rw (length-words stride l wide, length-words stride (insertRow r l) (wide-insert stride r l lr wide)) (mul-le-mul-right stride (insert-more r l)) in
       record {
         count = omega (arith, s .count, one);
         few = omega (arith, s .count, few);
@@ -60,35 +61,35 @@ module _ (most size : ℕ) (r : Row) (l : List Row) (before after : List ℕ) (n
 -- ---- one row taken out
 
 -- rows with a row of zeros behind them, over rows that were one more
-taken-words : (size : ℕ) (d l : List Row) → Wide 4 d → Wide 4 l → suc (length d) ≡ length l → length l * 4 ≤ size → stored (d ++ (replicate 4 0 ∷ [])) (stored l (replicate size 0))
+taken-words : (size : ℕ) (d l : List Row) → Wide stride d → Wide stride l → suc (length d) ≡ length l → length l * stride ≤ size → stored (d ++ (replicate stride 0 ∷ [])) (stored l (replicate size 0))
     ≡ stored d (replicate size 0)
 unfolding stored
 taken-words size d l wd wl e h =
-    let z : Row = replicate 4 0 in
-    let ld : length (words d) ≡ length d * 4 = length-words 4 d wd in
-    let ll : length (words l) ≡ length l * 4 = length-words 4 l wl in
-    let both : words (d ++ (replicate 4 0 ∷ [])) ≡ words d ++ replicate 4 0 = words-append d (replicate 4 0 ∷ []) ∙ ap (λ (x : List ℕ). words d ++ x) (append-nil (replicate 4 0)) in
-    let size-is : length (words (d ++ (replicate 4 0 ∷ []))) ≡ length (words l) = ap length both ∙ length-append (words d) (replicate 4 0) ∙ rw (ld, ll) (omega (arith, e)) in
-    let rest : drop (length (words (d ++ (replicate 4 0 ∷ [])))) (words l ++ drop (length (words l)) (replicate size 0)) ≡ replicate (size - length (words l)) 0 =
+    let z : Row = replicate stride 0 in
+    let ld : length (words d) ≡ length d * stride = length-words stride d wd in
+    let ll : length (words l) ≡ length l * stride = length-words stride l wl in
+    let both : words (d ++ (replicate stride 0 ∷ [])) ≡ words d ++ replicate stride 0 = words-append d (replicate stride 0 ∷ []) ∙ ap (λ (x : List ℕ). words d ++ x) (append-nil (replicate stride 0)) in
+    let size-is : length (words (d ++ (replicate stride 0 ∷ []))) ≡ length (words l) = ap length both ∙ length-append (words d) (replicate stride 0) ∙ rw (ld, ll) (omega (arith, e)) in
+    let rest : drop (length (words (d ++ (replicate stride 0 ∷ [])))) (words l ++ drop (length (words l)) (replicate size 0)) ≡ replicate (size - length (words l)) 0 =
     ap (λ (k : ℕ). drop k (words l ++ drop (length (words l)) (replicate size 0))) size-is ∙ drop-at (words l) (drop (length (words l)) (replicate size 0)) (length (words l)) refl
     ∙ drop-zeros (length (words l)) size in
-    let more : 4 + (size - length (words l)) ≡ size - length (words d) = omega (arith, ld, ll, e) in
+    let more : stride + (size - length (words l)) ≡ size - length (words d) = omega (arith, ld, ll, e) in
     ap₂ {A = List ℕ} {B = List ℕ} {C = List ℕ} (λ x y. x ++ y) both rest
-    ∙ append-assoc (words d) (replicate 4 0) (replicate (size - length (words l)) 0)
+    ∙ append-assoc (words d) (replicate stride 0) (replicate (size - length (words l)) 0)
     ∙ ap (λ (x : List ℕ). words d ++ x)
-    (replicate-append-replicate {A = ℕ} 4 (size - length (words l)) 0 ∙ ap (λ (k : ℕ). replicate {A = ℕ} k 0) more ∙ sym (drop-zeros (length (words d)) size))
+    (replicate-append-replicate {A = ℕ} stride (size - length (words l)) 0 ∙ ap (λ (k : ℕ). replicate {A = ℕ} k 0) more ∙ sym (drop-zeros (length (words d)) size))
 
-module _ (most size : ℕ) (room : most * 4 ≤ size) (r : Row) (l : List Row) (before after : List ℕ) (n : ℕ) (s : Standing most size l before n) where
-  pub take-out : Wide 4 l → Ascending l → Removes r l before after true → Standing most size (deleteRow r l) after (n - 1)
+module _ (most size : ℕ) (room : most * stride ≤ size) (r : Row) (l : List Row) (before after : List ℕ) (n : ℕ) (s : Standing most size l before n) where
+  pub take-out : Wide stride l → Ascending l → Removes r l before after true → Standing most size (deleteRow r l) after (n - 1)
   unfolding deleteRow
   take-out wide asc x =
       let there : member r l ≡ true = sym (x .says) in
       let one : suc (length (deleteRow r l)) ≡ length l = delete-present r l asc there in
-      let fits : length l * 4 ≤ size = le-trans (mul-le-mul-right 4 (rw (← s .count) (s .few))) room in
+      let fits : length l * stride ≤ size = le-trans (mul-le-mul-right stride (rw (← s .count) (s .few))) room in
       record {
         count = omega (arith, s .count, one);
         few = omega (arith, s .few);
-        is = x .leaves ∙ ap (stored (deleteRow r l ++ (replicate 4 0 ∷ []))) (s .is) ∙ taken-words size (deleteRow r l) l (wide-keep 4 (λ t. not (sameRow t r)) l wide) wide one fits;
+        is = x .leaves ∙ ap (stored (deleteRow r l ++ (replicate stride 0 ∷ []))) (s .is) ∙ taken-words size (deleteRow r l) l (wide-keep stride (λ t. not (sameRow t r)) l wide) wide one fits;
       }
 
   pub leave-in : Removes r l before after false → Standing most size (deleteRow r l) after n

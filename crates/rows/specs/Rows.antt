@@ -6,17 +6,13 @@ use Prim.Native.Nat.{ℕ, zero, suc, _*_, _≤_, Ordering, Ordering·lt, Orderin
 use lib.Dec.{leb}
 use lib.ListN.{length, take, drop, replicate}
 use Rattle.model.specs.Row.{Row, order, member, belowFirst, ascending, allOf, insertRow, deleteRow}
-use Rattle.model.specs.Areas.{layout, fields, allZero}
+use Rattle.model.specs.Areas.{stride, fields, allZero}
 use Rattle.rows.specs.declared.Order.{Order}
 use Rattle.rows.specs.declared.Order.the-variants.{Less, Equal, Greater}
 use Rattle.rows.specs.declared.Found.{Found}
 use Rattle.rows.specs.declared.Found.the-variants.{At, Missing}
 use Rattle.rows.specs.declared.Inserted.{Inserted}
 use Rattle.rows.specs.declared.Inserted.the-variants.{New, Present, Full}
-
--- how many words a row takes
-abbrev pub stride : ℕ
-stride = layout .stride
 
 -- row j of some words, where a row takes w words
 unfoldable pub rowAt : ℕ → List ℕ → ℕ → Row

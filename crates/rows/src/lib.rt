@@ -6,11 +6,14 @@ ghost use Prim.Native.Nat.{_+_, _*_, _-_, _<_, _≤_};
 ghost use lib.ListN.{length, take, drop};
 ghost use lib.Seq.{slice};
 ghost use Rattle.model.specs.Row.{order, ascending};
-ghost use Rattle.model.specs.Areas.{fields};
-ghost use Rattle.rows.specs.Rows.{stride, rowAt, firstRows, orderOf, rowsFrom, locate, Inserts, Removes, goodRow, goodRows};
+ghost use Rattle.model.specs.Areas.{fields, stride};
+ghost use Rattle.rows.specs.Rows.{rowAt, firstRows, orderOf, rowsFrom, locate, Inserts, Removes, goodRow, goodRows};
 
 // How many words a row takes.
 pub const STRIDE: usize = 4;
+
+// The most rows of a relation.
+pub const MAX_ROWS: usize = 64;
 
 pub enum Order {
     Less,

@@ -3,7 +3,9 @@ ghost use mathlib.Core.Path.{_≡_};
 ghost use Prim.Native.Nat.{ℕ, _+_, _*_, _≤_, _<_};
 ghost use lib.ListN.{length};
 ghost use Rattle.model.specs.Algebra.{operandIn, passes, selectRows};
-ghost use Rattle.rows.specs.Rows.{stride, rowAt};
+ghost use Rattle.model.specs.Row.{maxRows};
+ghost use Rattle.model.specs.Areas.{stride};
+ghost use Rattle.rows.specs.Rows.{rowAt};
 ghost use Rattle.nodes.specs.Nodes.{operandOf};
 ghost use Rattle.places.specs.Places.{Place, Blank, relationIn, Fills};
 ghost use Rattle.selections.specs.Selections.{OperandIn, Selects};
@@ -41,7 +43,7 @@ pub fn select_rows(
     operand: Operand,
     out: &mut [u32],
 ) -> usize
-    requires { ⌜ (n ≤ 64) × (n * stride ≤ length (now input)) × (column < stride) × (code < 6)
+    requires { ⌜ (n ≤ maxRows) × (n * stride ≤ length (now input)) × (column < stride) × (code < 6)
         × OperandIn stride operand × Blank (now out) ⌝ }
     ensures { λ r. ⌜ ((w : ℕ) → Place w (now (input .entry)) n → Selects w column operand →
         Fills (selectRows column code (operandOf operand) (relationIn w (now (input .entry)) n))

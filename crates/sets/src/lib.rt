@@ -3,9 +3,10 @@ ghost use mathlib.Core.Path.{_≡_};
 ghost use mathlib.Core.Bool.{true, false, Bool·beq};
 ghost use Prim.Native.Nat.{ℕ, _+_, _*_, _≤_};
 ghost use lib.ListN.{length};
-ghost use Rattle.model.specs.Row.{member, ascending};
+ghost use Rattle.model.specs.Row.{member, ascending, maxRows};
 ghost use Rattle.model.specs.Algebra.{unionRows, differenceRows, intersectRows};
-ghost use Rattle.rows.specs.Rows.{stride, rowAt, firstRows};
+ghost use Rattle.model.specs.Areas.{stride};
+ghost use Rattle.rows.specs.Rows.{rowAt, firstRows};
 ghost use Rattle.places.specs.Places.{Place, Blank, relationIn, Fills, Kept, Makes};
 use places::Made;
 use rows::STRIDE;
@@ -31,7 +32,7 @@ fn keep_rows(
     wanted: bool,
     out: &mut [u32],
 ) -> usize
-    requires { ⌜ (n ≤ 64) × (n * stride ≤ length (now left)) × (m * stride ≤ length (now right))
+    requires { ⌜ (n ≤ maxRows) × (n * stride ≤ length (now left)) × (m * stride ≤ length (now right))
         × (ascending (firstRows (now right) m) ≡ true) × Blank (now out) ⌝ }
     ensures { λ r. ⌜ Kept (λ row. Bool·beq (member row (firstRows (now (right .entry)) m)) wanted)
         (now (left .entry)) n (now (out .exit)) r ⌝ }
@@ -51,7 +52,7 @@ fn keep_rows(
 
 // The left place's rows that are not in the right one, in an empty place: how many.
 pub fn difference_rows(left: &[u32], n: usize, right: &[u32], m: usize, out: &mut [u32]) -> usize
-    requires { ⌜ (n ≤ 64) × (n * stride ≤ length (now left)) × (m * stride ≤ length (now right))
+    requires { ⌜ (n ≤ maxRows) × (n * stride ≤ length (now left)) × (m * stride ≤ length (now right))
         × (ascending (firstRows (now right) m) ≡ true) × Blank (now out) ⌝ }
     ensures { λ r. ⌜ ((w : ℕ) → Place w (now (left .entry)) n → Place w (now (right .entry)) m →
         Fills (differenceRows (relationIn w (now (left .entry)) n) (relationIn w (now (right .entry)) m))
@@ -62,7 +63,7 @@ pub fn difference_rows(left: &[u32], n: usize, right: &[u32], m: usize, out: &mu
 
 // The left place's rows that are in the right one too, in an empty place: how many.
 pub fn intersect_rows(left: &[u32], n: usize, right: &[u32], m: usize, out: &mut [u32]) -> usize
-    requires { ⌜ (n ≤ 64) × (n * stride ≤ length (now left)) × (m * stride ≤ length (now right))
+    requires { ⌜ (n ≤ maxRows) × (n * stride ≤ length (now left)) × (m * stride ≤ length (now right))
         × (ascending (firstRows (now right) m) ≡ true) × Blank (now out) ⌝ }
     ensures { λ r. ⌜ ((w : ℕ) → Place w (now (left .entry)) n → Place w (now (right .entry)) m →
         Fills (intersectRows (relationIn w (now (left .entry)) n) (relationIn w (now (right .entry)) m))
@@ -73,7 +74,7 @@ pub fn intersect_rows(left: &[u32], n: usize, right: &[u32], m: usize, out: &mut
 
 // The rows of both places, in an empty place: how many, or that they are more than 64.
 pub fn union_rows(left: &[u32], n: usize, right: &[u32], m: usize, out: &mut [u32]) -> Made
-    requires { ⌜ (n * stride ≤ length (now left)) × (m ≤ 64) × (m * stride ≤ length (now right))
+    requires { ⌜ (n * stride ≤ length (now left)) × (m ≤ maxRows) × (m * stride ≤ length (now right))
         × (ascending (firstRows (now right) m) ≡ true) × Blank (now out) ⌝ }
     ensures { λ r. ⌜ ((w : ℕ) → Place w (now (left .entry)) n → Place w (now (right .entry)) m →
         Makes (unionRows (relationIn w (now (left .entry)) n) (relationIn w (now (right .entry)) m))

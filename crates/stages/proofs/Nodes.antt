@@ -9,7 +9,7 @@ use native.Mathlib.Omega.{arith}
 use lib.Dec.{eqb, ltb}
 use lib.ListN.{List·getD-eq-default, getD, length}
 use borrow.Author.Tests.{eqb-true, ltb-false, ltb-true}
-use Rattle.model.specs.Row.{Relation, countFrom, numbersBelow}
+use Rattle.model.specs.Row.{Relation, countFrom, numbersBelow, maxNodes}
 use Rattle.model.specs.Record.{Bytes}
 use Rattle.model.specs.Network.{Network, readNetwork, signOf, widths}
 use Rattle.model.specs.Delta.{Change, changeAt, noChange}
@@ -68,33 +68,33 @@ module _ (net : Bytes) (a : Areas) (i : ℕ) where
 module _ (net : Bytes) (a : Areas) where
   -- the lines of the nodes from one on
   abbrev pub nodesFrom : ℕ → Bytes
-  nodesFrom i = flatMap (nodeLines (readNetwork net .network) (stateOf net a .changes)) (countFrom i (32 - i))
+  nodesFrom i = flatMap (nodeLines (readNetwork net .network) (stateOf net a .changes)) (countFrom i (maxNodes - i))
 
   none-past : (i n : ℕ) → length (readNetwork net .network .nodes) ≤ i → flatMap (nodeLines (readNetwork net .network) (stateOf net a .changes)) (countFrom i n) ≡ []
   unfolding flatMap
   none-past i zero h = refl
   none-past i (suc n) h = ap₂ {A = List ℕ} {B = List ℕ} {C = List ℕ} (λ x y. x ++ y) (silent-past net a i h) (none-past (suc i) n (omega (arith, h)))
 
-  pub node-first : (i : ℕ) → i < 32 → nodesFrom i ≡ nodeLines (readNetwork net .network) (stateOf net a .changes) i ++ nodesFrom (i + 1)
+  pub node-first : (i : ℕ) → i < maxNodes → nodesFrom i ≡ nodeLines (readNetwork net .network) (stateOf net a .changes) i ++ nodesFrom (i + 1)
   unfolding flatMap
   node-first i h =
-      let n : 32 - i ≡ suc (32 - (i + 1)) = omega arith in
+      let n : maxNodes - i ≡ suc (maxNodes - (i + 1)) = omega arith in
       rw (n, add-one i)
 
-  pub nodes-over : (i : ℕ) → 32 ≤ i → nodesFrom i ≡ []
+  pub nodes-over : (i : ℕ) → maxNodes ≤ i → nodesFrom i ≡ []
   unfolding flatMap
-  nodes-over i h = let z : 32 - i ≡ 0 = omega arith in rw z
+  nodes-over i h = let z : maxNodes - i ≡ 0 = omega arith in rw z
 
   pub nodes-all : flatMap (nodeLines (readNetwork net .network) (stateOf net a .changes)) (numbersBelow (length (readNetwork net .network .nodes))) ≡ nodesFrom 0
   nodes-all =
       let n : ℕ = length (readNetwork net .network .nodes) in
       let f : ℕ → Bytes = nodeLines (readNetwork net .network) (stateOf net a .changes) in
-      let split : countFrom 0 32 ≡ countFrom 0 (length (readNetwork net .network .nodes)) ++ countFrom (length (readNetwork net .network .nodes))
-      (32 - length (readNetwork net .network .nodes)) =
-      count-split 0 n 32 (read-small net .few) ∙ ap (λ (k : ℕ). countFrom 0 n ++ countFrom k (32 - n)) (zero-add n) in
+      let split : countFrom 0 maxNodes ≡ countFrom 0 (length (readNetwork net .network .nodes)) ++ countFrom (length (readNetwork net .network .nodes))
+      (maxNodes - length (readNetwork net .network .nodes)) =
+      count-split 0 n maxNodes (read-small net .few) ∙ ap (λ (k : ℕ). countFrom 0 n ++ countFrom k (maxNodes - n)) (zero-add n) in
       sym (append-nil (flatMap f (countFrom 0 n)))
-      ∙ ap (λ (l : List ℕ). flatMap f (countFrom 0 n) ++ l) (sym (none-past n (32 - n) (omega arith)))
-      ∙ sym (flat-append f (countFrom 0 n) (countFrom n (32 - n)))
+      ∙ ap (λ (l : List ℕ). flatMap f (countFrom 0 n) ++ l) (sym (none-past n (maxNodes - n) (omega arith)))
+      ∙ sym (flat-append f (countFrom 0 n) (countFrom n (maxNodes - n)))
       ∙ ap (flatMap f) (sym split)
     where
       count-split : (from n m : ℕ) → n ≤ m → countFrom from m ≡ countFrom from n ++ countFrom (from + n) (m - n)

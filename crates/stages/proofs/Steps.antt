@@ -11,7 +11,7 @@ use borrow.Author.Tests.{eq-eqb, le-leb, ne-eqb}
 use Rattle.model.specs.Record.{Bytes, isAccepted}
 use Rattle.model.specs.Network.{readNetwork}
 use Rattle.model.specs.Station.{State}
-use Rattle.model.specs.Areas.{Areas, coherent, goodForm, layout, longEnough, rowsIn, sameRelations, stateIn, tablesOf}
+use Rattle.model.specs.Areas.{Areas, coherent, goodForm, layout, longEnough, rowsIn, sameRelations, stateIn, tablesOf, areaSize}
 use Rattle.model.specs.Evaluation.{evaluate}
 use Rattle.model.specs.Calls.{Applied, Result, openCall, resultOf}
 use Rattle.model.specs.Text.{Piece, batch, batchWord, broken, bytesBetween, line, noInputWords, nodeLines, refusedLine, unfinished, unfinishedWord}
@@ -32,6 +32,8 @@ use Rattle.stages.specs.Stages.{Applies, Files, Opened, Says, Wrote, are
 use Rattle.stages.proofs.Batches.{open-verdict, opened-again, result-is, state-is}
 use Rattle.model.specs.Network as model
 use Rattle.model.specs.Areas as areas
+use Rattle.model.specs.Areas.{headWords, stride}
+use Rattle.model.specs.Row.{maxNodes}
 
 pub wrote-put : (text all : Bytes) (most : ℕ) (before out : Bytes) (size : ℕ) → Put text most 0 before out size → text ≡ all → most ≤ length before → Wrote all before out size
 wrote-put text all most before out size p e h =
@@ -42,16 +44,16 @@ pub put-nothing : (text before : Bytes) → text ≡ [] → Put text 13696 0 bef
 put-nothing text before e = record { bytes = ap (sets before 0) (sym e); next = omega (arith, ap length e); short = omega arith }
 
 -- areas of the named words are long enough
-pub long-is : (rows gained lost head : List ℕ) → 8192 ≤ length rows → 8192 ≤ length gained → 8192 ≤ length lost → 162 ≤ length head → longEnough layout (lent rows gained lost head) ≡ true
+pub long-is : (rows gained lost head : List ℕ) → areaSize ≤ length rows → areaSize ≤ length gained → areaSize ≤ length lost → headWords ≤ length head → longEnough layout (lent rows gained lost head) ≡ true
 unfolding longEnough
-long-is rows gained lost head r g l h = rw (le-leb 8192 (length rows) r, le-leb 8192 (length gained) g, le-leb 8192 (length lost) l, le-leb 162 (length head) h) refl
+long-is rows gained lost head r g l h = rw (le-leb areaSize (length rows) r, le-leb areaSize (length gained) g, le-leb areaSize (length lost) l, le-leb headWords (length head) h) refl
 
-pub head-long : (a : Areas) → longEnough layout a ≡ true → 162 ≤ length (a .head)
+pub head-long : (a : Areas) → longEnough layout a ≡ true → headWords ≤ length (a .head)
 head-long a h = long-parts (a .rows) (a .gained) (a .lost) (a .head) h .3
 
 -- ---- a batch
 
-pub applied-head : (net : Bytes) (a : Areas) (k : Opened net a) (b : Bytes) (r : Result) → Applied net b a r → 162 ≤ length (r .areas .head)
+pub applied-head : (net : Bytes) (a : Areas) (k : Opened net a) (b : Bytes) (r : Result) → Applied net b a r → headWords ≤ length (r .areas .head)
 applied-head net a k b r m = rw (result-is net a k b r m) (head-long (areasAfter net a b) (opened-again net a k b .long))
 
 module _ (net : Bytes) (a : Areas) (k : Opened net a) (b : Bytes) (next : ℕ) (before out : Bytes) (size : ℕ) (room : 13696 ≤ length before) (r : Result) (m : Applied net b a r) where
@@ -126,12 +128,12 @@ pub between-length : (file : Bytes) (start end : ℕ) → start ≤ end → end 
 between-length file start end h g = length-take-le (end - start) (drop start file) (rw length-drop (omega arith))
 
 module _ (f : Files) (start : ℕ) (a : Areas) (before out : Bytes) (size : ℕ) (room : 13696 ≤ length before) where
-  pub says-batch : (end : ℕ) (after : Areas) (r : Said) → (start ≤ end) × (end + 4 ≤ length (f .batches)) × (piecesOn (f .batches) start
-      ≡ batch (bytesBetween (f .batches) start end) ∷ piecesOn (f .batches) (end + 4)) →
-      Applies (f .net) (bytesBetween (f .batches) start end) (end + 4) a after before out r → Says f (Cut start) a after before out r
+  pub says-batch : (end : ℕ) (after : Areas) (r : Said) → (start ≤ end) × (end + stride ≤ length (f .batches)) × (piecesOn (f .batches) start
+      ≡ batch (bytesBetween (f .batches) start end) ∷ piecesOn (f .batches) (end + stride)) →
+      Applies (f .net) (bytesBetween (f .batches) start end) (end + stride) a after before out r → Says f (Cut start) a after before out r
   says-batch end after r n s =
       let b : Bytes = bytesBetween (f .batches) start end in
-      let next : end + 4 ≡ start + length (bytesBetween (f .batches) start end) + 4 = omega (arith, n .0, n .1, between-length (f .batches) start end (n .0) (omega (arith, n .1))) in
+      let next : end + stride ≡ start + length (bytesBetween (f .batches) start end) + stride = omega (arith, n .0, n .1, between-length (f .batches) start end (n .0) (omega (arith, n .1))) in
       record {
         wrote = subst (λ (l : List Piece). Wrote (pieceText (f .net) a l) before out (r .size)) (sym (n .2)) (s .wrote);
         areas = s .areas ∙ ap (pieceAreas (f .net) a) (sym (n .2));
@@ -178,7 +180,7 @@ module _ (net : Bytes) (rd : Reading) (q : ReadsNetwork net rd) (rows gained los
 
   pub changes-are : Changes (rd .network) gained lost head
   changes-are =
-      let long : (8192 ≤ length rows) × (8192 ≤ length gained) × (8192 ≤ length lost) × (162 ≤ length head) = long-parts rows gained lost head (k .long) in
+      let long : (areaSize ≤ length rows) × (areaSize ≤ length gained) × (areaSize ≤ length lost) × (headWords ≤ length head) = long-parts rows gained lost head (k .long) in
       changes-good (rd .network) (q .built) rows gained lost head good (long .1) (long .2) (long .3)
 
   -- the rows' area is not looked at
@@ -191,7 +193,7 @@ module _ (net : Bytes) (rd : Reading) (q : ReadsNetwork net rd) (rows gained los
 
 pub says-node : (f : Files) (node next : ℕ) (a : Areas) (before out : Bytes) (size : ℕ) →
     Put (nodeLines (readNetwork (f .net) .network) (stateOf (f .net) a .changes) node) 13696 0 before out size → 13696 ≤ length before →
-    (s : Stage) → s ≡ cond (ltb (node + 1) 32) (Tell (node + 1) next) (Cut next) → Says f (Tell node next) a a before out (record { size = size; stage = s })
+    (s : Stage) → s ≡ cond (ltb (node + 1) maxNodes) (Tell (node + 1) next) (Cut next) → Says f (Tell node next) a a before out (record { size = size; stage = s })
 says-node f node next a before out size p room s e = record { wrote = wrote-put _ _ 13696 before out size p refl room; areas = refl; stage = e }
 
 -- ---- the end

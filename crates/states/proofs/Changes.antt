@@ -9,7 +9,7 @@ use lib.ListN.{getD, length, length-map}
 use Rattle.model.proofs.Sets.{Ascending, ascending-holds, ascending-true, member-keep, ext, sameRows-refl, sameRows-eq}
 use Rattle.model.specs.Delta.{Change, changeAt, isChanged, netChange, netChanges, noChange}
 use Rattle.states.specs.Fitting.{Fitting}
-use Rattle.model.specs.Row.{Relation, Row, keep, keepIf, member, sameRow, isEmpty, sameRows}
+use Rattle.model.specs.Row.{Relation, Row, keep, keepIf, member, sameRow, isEmpty, sameRows, maxRows}
 use Rattle.model.specs.Station.{stampOf}
 use Rattle.rows.specs.Rows.{Wide}
 use Rattle.rows.proofs.Words.{wide-keep}
@@ -64,7 +64,7 @@ module _ (ws : List ℕ) (old new : List Relation) (fo : Fitting ws old) (fn : F
 
   -- a part of each change that fits
   part-fits : (g : Change → Relation) →
-      ((i : ℕ) → i < length ws → Wide (getD ws i 0) (g (netChange (getD old i []) (getD new i []))) × (length (g (netChange (getD old i []) (getD new i []))) ≤ 64)
+      ((i : ℕ) → i < length ws → Wide (getD ws i 0) (g (netChange (getD old i []) (getD new i []))) × (length (g (netChange (getD old i []) (getD new i []))) ≤ maxRows)
       × Ascending (g (netChange (getD old i []) (getD new i [])))) → Fitting ws (map g (netChanges old new))
   part-fits g f =
       let at : (i : ℕ) → i < length ws → getD (map g (netChanges old new)) i [] ≡ g (netChange (getD old i []) (getD new i [])) = λ i h. map-at g (netChanges old new) i (rw changes-size h)

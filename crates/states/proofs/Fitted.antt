@@ -13,11 +13,12 @@ use Rattle.rows.proofs.Place.{all-below, held-wide, length-held, place-words}
 use Rattle.model.specs.Areas.{emptyPlace, goodArea, goodPlace, heldIn, layout, relationsIn, tablesOf, unusedZero, Areas, goodForm, rowCount, gainedCount, lostCount, goodStamps, goodWorked}
 use Rattle.states.specs.Fitting.{Fitting}
 use Rattle.states.proofs.Written.{place-none}
-use Rattle.model.specs.Row.{Relation, ascending}
+use Rattle.model.specs.Row.{Relation, ascending, maxNodes, maxRows, maxWidth}
 use Rattle.model.proofs.Sets.{and-first, and-second, Ascending, ascending-holds}
 use Rattle.model.specs.Delta.{Change}
 use Rattle.states.proofs.Tables.{Tables}
 use Rattle.model.proofs.Fits.{length-widths}
+use Rattle.model.specs.Areas.{areaSize, placeSize}
 use Rattle.evaluation.proofs.Fresh.{tables-at}
 use Rattle.rows.specs.Rows.{Wide}
 use Rattle.places.specs.Places.{Place, relationIn}
@@ -41,27 +42,27 @@ map-lost (x ∷ a) [] e = absurd (omega arith)
 map-lost (x ∷ a) (y ∷ b) e = ap (λ (l : List Relation). y ∷ l) (map-lost a b (omega arith))
 
 -- an area of good form holds relations that fit
-module _ (ws : List ℕ) (few : length ws ≤ 32) (narrow : (i : ℕ) → getD ws i 0 ≤ 4) (count : ℕ → ℕ) (area : List ℕ) (g : goodArea layout ws count area ≡ true) where
+module _ (ws : List ℕ) (few : length ws ≤ maxNodes) (narrow : (i : ℕ) → getD ws i 0 ≤ maxWidth) (count : ℕ → ℕ) (area : List ℕ) (g : goodArea layout ws count area ≡ true) where
   pub place-good : (i : ℕ) → i < length ws → goodPlace layout (getD ws i 0) (count i) area i ≡ true
   unfolding goodArea
   place-good i h =
       let here : cond (ltb i (length ws)) (goodPlace layout (getD ws i 0) (count i) area i) (emptyPlace layout (count i) area i)
       ≡ true = ap (λ (j : ℕ). cond (ltb j (length ws)) (goodPlace layout (getD ws j 0) (count j) area j) (emptyPlace layout (count j) area j)) (sym (zero-add i))
-      ∙ all-below (λ j. cond (ltb j (length ws)) (goodPlace layout (getD ws j 0) (count j) area j) (emptyPlace layout (count j) area j)) 0 32 g i (omega arith) in
+      ∙ all-below (λ j. cond (ltb j (length ws)) (goodPlace layout (getD ws j 0) (count j) area j) (emptyPlace layout (count j) area j)) 0 maxNodes g i (omega arith) in
       rw (lt-ltb i (length ws) h) at here
 
-  first-two : (i : ℕ) → i < length ws → (leb (count i) 64 && ascending (heldIn layout (getD ws i 0) (count i) area i)) ≡ true
+  first-two : (i : ℕ) → i < length ws → (leb (count i) maxRows && ascending (heldIn layout (getD ws i 0) (count i) area i)) ≡ true
   unfolding goodPlace
-  first-two i h = and-first (leb (count i) 64 && ascending (heldIn layout (getD ws i 0) (count i) area i)) (unusedZero layout (getD ws i 0) (count i) area i) (place-good i h)
+  first-two i h = and-first (leb (count i) maxRows && ascending (heldIn layout (getD ws i 0) (count i) area i)) (unusedZero layout (getD ws i 0) (count i) area i) (place-good i h)
 
-  pub few-at : (i : ℕ) → i < length ws → count i ≤ 64
-  few-at i h = leb-true (count i) 64 (and-first (leb (count i) 64) (ascending (heldIn layout (getD ws i 0) (count i) area i)) (first-two i h))
+  pub few-at : (i : ℕ) → i < length ws → count i ≤ maxRows
+  few-at i h = leb-true (count i) maxRows (and-first (leb (count i) maxRows) (ascending (heldIn layout (getD ws i 0) (count i) area i)) (first-two i h))
 
   -- a node's place, lent as a part of the area
-  pub area-place : 8192 ≤ length area → (i : ℕ) → i < length ws → Place (getD ws i 0) (placeAt area i) (count i)
+  pub area-place : areaSize ≤ length area → (i : ℕ) → i < length ws → Place (getD ws i 0) (placeAt area i) (count i)
       × (relationIn (getD ws i 0) (placeAt area i) (count i) ≡ getD (relationsIn layout ws count area) i [])
   area-place long i h =
-      let inside : 256 * i + 256 ≤ length area = omega arith in (
+      let inside : placeSize * i + placeSize ≤ length area = omega arith in (
         record {
           long = place-long area i (omega arith) long;
           narrow = narrow i;
@@ -72,12 +73,12 @@ module _ (ws : List ℕ) (few : length ws ≤ 32) (narrow : (i : ℕ) → getD w
       )
 
   -- past the last node there is nothing
-  pub area-empty : 8192 ≤ length area → (i : ℕ) → length ws ≤ i → i < 32 → placeAt area i ≡ replicate 256 0
+  pub area-empty : areaSize ≤ length area → (i : ℕ) → length ws ≤ i → i < maxNodes → placeAt area i ≡ replicate placeSize 0
   unfolding goodArea emptyPlace heldIn
   area-empty long i h k =
       let here : cond (ltb i (length ws)) (goodPlace layout (getD ws i 0) (count i) area i) (emptyPlace layout (count i) area i)
       ≡ true = ap (λ (j : ℕ). cond (ltb j (length ws)) (goodPlace layout (getD ws j 0) (count j) area j) (emptyPlace layout (count j) area j)) (sym (zero-add i))
-      ∙ all-below (λ j. cond (ltb j (length ws)) (goodPlace layout (getD ws j 0) (count j) area j) (emptyPlace layout (count j) area j)) 0 32 g i k in
+      ∙ all-below (λ j. cond (ltb j (length ws)) (goodPlace layout (getD ws j 0) (count j) area j) (emptyPlace layout (count j) area j)) 0 maxNodes g i k in
       let empty : emptyPlace layout (count i) area i ≡ true = rw (le-ltb i (length ws) h) at here in
       part-is area i ∙ place-words layout 0 area i 0 zero-le zero-le (omega arith) (and-second (eqb (count i) 0) (unusedZero layout 0 0 area i) empty) ∙ sym place-none
 
@@ -89,8 +90,8 @@ module _ (ws : List ℕ) (few : length ws ≤ 32) (narrow : (i : ℕ) → getD w
         narrow = narrow;
         wide = λ i h. rw (relation-at ws count area i h) (held-wide layout (getD ws i 0) (count i) area i);
         small = λ i h. rw (relation-at ws count area i h, length-held layout (getD ws i 0) (count i) area i)
-            (leb-true (count i) 64 (and-first (leb (count i) 64) (ascending (heldIn layout (getD ws i 0) (count i) area i)) (first-two i h)));
-        asc = λ i h. rw (relation-at ws count area i h) (and-second (leb (count i) 64) (ascending (heldIn layout (getD ws i 0) (count i) area i)) (first-two i h));
+            (leb-true (count i) maxRows (and-first (leb (count i) maxRows) (ascending (heldIn layout (getD ws i 0) (count i) area i)) (first-two i h)));
+        asc = λ i h. rw (relation-at ws count area i h) (and-second (leb (count i) maxRows) (ascending (heldIn layout (getD ws i 0) (count i) area i)) (first-two i h));
       }
 
 pub only-twice : (nodes : List Node) (rels : List Relation) → tablesOf nodes (tablesOf nodes rels) ≡ tablesOf nodes rels

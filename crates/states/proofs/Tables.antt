@@ -62,23 +62,23 @@ module _ (nodes : List Node) (fit : AllFit nodes) (tables : List Relation) (t : 
   fresh-asc i h = fine-to (length nodes) (le-refl (length nodes)) i h .1
 
 -- no relation above 64 rows
-pub none-over : (from : ℕ) (rels : List Relation) → overfull from rels ≡ [] → (i : ℕ) → i < length rels → length (getD rels i []) ≤ 64
+pub none-over : (from : ℕ) (rels : List Relation) → overfull from rels ≡ [] → (i : ℕ) → i < length rels → length (getD rels i []) ≤ maxRows
 none-over from [] e i h = absurd (not-suc-le-zero h)
 none-over from (r ∷ rels) e i h = go (ltb maxRows (length r)) refl e (none-over (suc from) rels) i h
   where
     go : (t : Bool) → ltb maxRows (length r) ≡ t → cond t (from ∷ overfull (suc from) rels) (overfull (suc from) rels) ≡ [] →
-        (overfull (suc from) rels ≡ [] → (i : ℕ) → i < length rels → length (getD rels i []) ≤ 64) → (j : ℕ) → j < suc (length rels) → length (getD (r ∷ rels) j []) ≤ 64
+        (overfull (suc from) rels ≡ [] → (i : ℕ) → i < length rels → length (getD rels i []) ≤ maxRows) → (j : ℕ) → j < suc (length rels) → length (getD (r ∷ rels) j []) ≤ maxRows
     go true b f ih j k = absurd (omega (arith, ap length f))
     go false b f ih zero k = ltb-false maxRows (length r) b
     go false b f ih (suc j) k = ih f j (le-of-suc-le-suc k)
 
 -- relations within the limit
-pub all-under : (from : ℕ) (rels : List Relation) → ((i : ℕ) → i < length rels → length (getD rels i []) ≤ 64) → overfull from rels ≡ []
+pub all-under : (from : ℕ) (rels : List Relation) → ((i : ℕ) → i < length rels → length (getD rels i []) ≤ maxRows) → overfull from rels ≡ []
 all-under from [] h = refl
 all-under from (r ∷ rels) h = rw (le-ltb maxRows (length r) (h 0 (suc-le-suc zero-le))) (all-under (suc from) rels (λ i k. h (suc i) (suc-le-suc k)))
 
 -- the first relation above the limit
-pub first-over : (from : ℕ) (rels : List Relation) (i : ℕ) → i < length rels → 64 < length (getD rels i []) → ((j : ℕ) → j < i → length (getD rels j []) ≤ 64) →
+pub first-over : (from : ℕ) (rels : List Relation) (i : ℕ) → i < length rels → maxRows < length (getD rels i []) → ((j : ℕ) → j < i → length (getD rels j []) ≤ maxRows) →
     (rest : List ℕ) × (overfull from rels ≡ (from + i) ∷ rest)
 first-over from [] i h o u = absurd (not-suc-le-zero h)
 first-over from (r ∷ rels) zero h o u = (overfull (suc from) rels, rw (lt-ltb maxRows (length r) o, add-zero from) refl)

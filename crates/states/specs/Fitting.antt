@@ -4,14 +4,14 @@ use mathlib.Core.Bool.{true}
 use mathlib.Core.List.{List, []}
 use Prim.Native.Nat.{ℕ, _≤_, _<_}
 use lib.ListN.{getD, length}
-use Rattle.model.specs.Row.{Relation, ascending}
+use Rattle.model.specs.Row.{Relation, ascending, maxNodes, maxRows, maxWidth}
 use Rattle.rows.specs.Rows.{Wide}
 
 -- relations that fit into an area: one for each width
 pub record Fitting (ws : List ℕ) (rels : List Relation) : Type 0 where
   pub size : length rels ≡ length ws
-  pub few : length ws ≤ 32
-  pub narrow : (i : ℕ) → getD ws i 0 ≤ 4
+  pub few : length ws ≤ maxNodes
+  pub narrow : (i : ℕ) → getD ws i 0 ≤ maxWidth
   pub wide : (i : ℕ) → i < length ws → Wide (getD ws i 0) (getD rels i [])
-  pub small : (i : ℕ) → i < length ws → length (getD rels i []) ≤ 64
+  pub small : (i : ℕ) → i < length ws → length (getD rels i []) ≤ maxRows
   pub asc : (i : ℕ) → i < length ws → ascending (getD rels i []) ≡ true

@@ -1,4 +1,6 @@
 -- Lines of changed rows, and of a node. Assumes nothing.
+use Rattle.station_lines.specs.Lines.{nodeRoom}
+use Rattle.station_lines.specs.Lines.{changeRoom}
 use Prim.Native.Nat.{ℕ, _<_, _+_, _≤_, _*_}
 use mathlib.Core.Bool.{Bool, cond}
 use mathlib.Core.List.{List, _∷_, _++_, flatMap, []}
@@ -7,11 +9,12 @@ use native.Mathlib.Omega.{arith}
 use lib.ListN.{getD, set, take, length, length-append}
 use lib.Seq.{sets, getD-take}
 use Rattle.model.specs.Delta.{Change}
-use Rattle.model.specs.Areas.{padded, fields, heldIn, layout}
+use Rattle.model.specs.Areas.{padded, fields, heldIn, layout, placeSize}
 use Rattle.model.specs.Watched.{allows, changesOf, wasGained, wasLost}
 use Rattle.model.specs.Text.{changeLine, line, nodeLines}
 use Rattle.model.proofs.Watched.{flat-changes}
 use Rattle.model.proofs.Parts.{flat-append, flat-one, sets-more}
+use Rattle.model.specs.Row.{maxRows, maxWidth}
 use Rattle.rows.proofs.Padding.{padded-more, take-padded}
 use Rattle.rows.proofs.Words.{length-fields}
 use Rattle.rows.proofs.Place.{fields-split}
@@ -23,34 +26,34 @@ use Rattle.admission.proofs.Changes.{change-at}
 use Rattle.station_lines.specs.Lines.{Put, linesIn, changeLines}
 
 -- one field more of a row
-pub numbers-more : (node k : ℕ) (words : List ℕ) (from : ℕ) (numbers : List ℕ) (x : ℕ) → k < 4 → numbers ≡ padded 5 (node ∷ fields k words from) → x ≡ getD words (from + k) 0 →
-    set numbers (k + 1) x ≡ padded 5 (node ∷ fields (k + 1) words from)
+pub numbers-more : (node k : ℕ) (words : List ℕ) (from : ℕ) (numbers : List ℕ) (x : ℕ) → k < 4 → numbers ≡ padded (1 + maxWidth) (node ∷ fields k words from) → x ≡ getD words (from + k) 0 →
+    set numbers (k + 1) x ≡ padded (1 + maxWidth) (node ∷ fields (k + 1) words from)
 unfolding fields
 numbers-more node k words from numbers x h e f =
     ap₂ {A = List ℕ} {B = ℕ} {C = List ℕ} (λ n y. set n (k + 1) y) e f
     ∙ padded-more 5 (node ∷ fields k words from) (getD words (from + k) 0) (k + 1) (omega (arith, length-fields k words from)) (omega arith)
-    ∙ ap (λ (l : List ℕ). padded 5 (node ∷ l)) (sym (fields-split k 1 words from))
+    ∙ ap (λ (l : List ℕ). padded (1 + maxWidth) (node ∷ l)) (sym (fields-split k 1 words from))
 
 -- the numbers of a line, without the zeros
-pub numbers-taken : (node w : ℕ) (words : List ℕ) (from : ℕ) (numbers : List ℕ) → w ≤ 4 → numbers ≡ padded 5 (node ∷ fields w words from) → take (w + 1) numbers ≡ node ∷ fields w words from
-numbers-taken node w words from numbers h e = ap (take (w + 1)) e ∙ take-padded 5 (w + 1) (node ∷ fields w words from) (omega (arith, length-fields w words from))
+pub numbers-taken : (node w : ℕ) (words : List ℕ) (from : ℕ) (numbers : List ℕ) → w ≤ maxWidth → numbers ≡ padded (1 + maxWidth) (node ∷ fields w words from) → take (w + 1) numbers ≡ node ∷ fields w words from
+numbers-taken node w words from numbers h e = ap (take (w + 1)) e ∙ take-padded (1 + maxWidth) (w + 1) (node ∷ fields w words from) (omega (arith, length-fields w words from))
 
 -- one row more
 pub lines-more : (sign node w j : ℕ) (area out before after : List ℕ) (at to r : ℕ) → before ≡ sets out at (changeLines sign node (heldIn layout w j area node)) →
     to ≡ at + length (changeLines sign node (heldIn layout w j area node)) →
-    after ≡ sets before to (line (sign ∷ []) (node ∷ fields w area (node * 256 + j * 4))) → r ≡ to + length (line (sign ∷ []) (node ∷ fields w area (node * 256 + j * 4))) →
+    after ≡ sets before to (line (sign ∷ []) (node ∷ fields w area (node * placeSize + j * 4))) → r ≡ to + length (line (sign ∷ []) (node ∷ fields w area (node * placeSize + j * 4))) →
     (after ≡ sets out at (changeLines sign node (heldIn layout w (j + 1) area node))) × (r ≡ at + length (changeLines sign node (heldIn layout w (j + 1) area node)))
 unfolding changeLines
 lines-more sign node w j area out before after at to r e f g h =
-    let one : List ℕ = line (sign ∷ []) (node ∷ fields w area (node * 256 + j * 4)) in
+    let one : List ℕ = line (sign ∷ []) (node ∷ fields w area (node * placeSize + j * 4)) in
     let all : changeLines sign node (heldIn layout w (j + 1) area node) ≡ changeLines sign node (heldIn layout w j area node) ++ line (sign ∷ [])
-    (node ∷ fields w area (node * 256 + j * 4)) =
+    (node ∷ fields w area (node * placeSize + j * 4)) =
     ap (changeLines sign node) (held-more w j area node)
-    ∙ flat-append (λ x. line (sign ∷ []) (node ∷ x)) (heldIn layout w j area node) (fields w area (node * 256 + j * 4) ∷ [])
-    ∙ ap (λ (l : List ℕ). changeLines sign node (heldIn layout w j area node) ++ l) (flat-one (λ x. line (sign ∷ []) (node ∷ x)) (fields w area (node * 256 + j * 4))) in (
-      sets-more out before after at to (changeLines sign node (heldIn layout w j area node)) (line (sign ∷ []) (node ∷ fields w area (node * 256 + j * 4))) e f g
+    ∙ flat-append (λ x. line (sign ∷ []) (node ∷ x)) (heldIn layout w j area node) (fields w area (node * placeSize + j * 4) ∷ [])
+    ∙ ap (λ (l : List ℕ). changeLines sign node (heldIn layout w j area node) ++ l) (flat-one (λ x. line (sign ∷ []) (node ∷ x)) (fields w area (node * placeSize + j * 4))) in (
+      sets-more out before after at to (changeLines sign node (heldIn layout w j area node)) (line (sign ∷ []) (node ∷ fields w area (node * placeSize + j * 4))) e f g
           ∙ ap (sets out at) (sym all),
-      omega (arith, f, h, ap length all, length-append (changeLines sign node (heldIn layout w j area node)) (line (sign ∷ []) (node ∷ fields w area (node * 256 + j * 4)))),
+      omega (arith, f, h, ap length all, length-append (changeLines sign node (heldIn layout w j area node)) (line (sign ∷ []) (node ∷ fields w area (node * placeSize + j * 4)))),
     )
 
 pub lines-none : (sign node w : ℕ) (area out : List ℕ) (at : ℕ) → (out ≡ sets out at (changeLines sign node (heldIn layout w 0 area node)))
@@ -60,9 +63,9 @@ lines-none sign node w area out at = (refl, omega arith)
 
 -- gained lines, then lost ones
 pub node-lines : (sign node : ℕ) (change : Change) (more less : Bool) (out first second : List ℕ) (at to r g l : ℕ) → more ≡ allows sign wasGained → less ≡ allows sign wasLost →
-    first ≡ sets out at (cond more (changeLines 43 node (change .gained)) []) → to ≡ at + length (cond more (changeLines 43 node (change .gained)) []) → to ≤ at + 107 * g →
-    second ≡ sets first to (cond less (changeLines 45 node (change .lost)) []) → r ≡ to + length (cond less (changeLines 45 node (change .lost)) []) → r ≤ to + 107 * l → g ≤ 64 → l ≤ 64 →
-    Put (flatMap changeLine (changesOf sign node change)) 13696 at out second r
+    first ≡ sets out at (cond more (changeLines 43 node (change .gained)) []) → to ≡ at + length (cond more (changeLines 43 node (change .gained)) []) → to ≤ at + changeRoom * g →
+    second ≡ sets first to (cond less (changeLines 45 node (change .lost)) []) → r ≡ to + length (cond less (changeLines 45 node (change .lost)) []) → r ≤ to + changeRoom * l → g ≤ maxRows → l ≤ maxRows →
+    Put (flatMap changeLine (changesOf sign node change)) nodeRoom at out second r
 unfolding changeLines changeLine
 node-lines sign node change more less out first second at to r g l em el e1 e2 e3 f1 f2 f3 fg fl =
     let all : cond more (changeLines 43 node (change .gained)) [] ++ cond less (changeLines 45 node (change .lost)) [] ≡ flatMap changeLine (changesOf sign node change) =

@@ -1,10 +1,10 @@
 -- The lines of a batch, written into lent bytes.
 use mathlib.Core.Path.{_≡_}
 use mathlib.Core.List.{List, [], _∷_, flatMap}
-use Prim.Native.Nat.{ℕ, _+_, _≤_, _<_}
+use Prim.Native.Nat.{ℕ, _+_, _*_, _≤_, _<_}
 use lib.ListN.{length}
 use lib.Seq.{sets}
-use Rattle.model.specs.Row.{Relation}
+use Rattle.model.specs.Row.{Relation, maxWidth, maxRows}
 use Rattle.model.specs.Record.{Bytes}
 use Rattle.model.specs.Areas.{layout, changesIn}
 use Rattle.model.specs.Text.{line, nodeLines}
@@ -22,9 +22,13 @@ refusedRoom = 50
 abbrev pub batchRoom : ℕ
 batchRoom = 27
 
+-- a watched change: a sign, then the node and the row's fields, each a space and at most 20 digits, and the line's end
+abbrev pub changeRoom : ℕ
+changeRoom = 1 + (1 + maxWidth) * 21 + 1
+
 -- a node's lines: 64 gained rows and 64 lost ones, each a sign and five numbers
 abbrev pub nodeRoom : ℕ
-nodeRoom = 13696
+nodeRoom = 2 * maxRows * changeRoom
 
 -- ---- written texts
 

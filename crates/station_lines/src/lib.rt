@@ -5,18 +5,21 @@ ghost use mathlib.Core.List.{_∷_, [], flatMap};
 ghost use Prim.Native.Nat.{_+_, _*_, _≤_, _<_};
 ghost use lib.ListN.{length};
 ghost use lib.Seq.{sets};
-ghost use Rattle.model.specs.Areas.{layout, fields, heldIn, padded};
+ghost use Rattle.model.specs.Areas.{layout, fields, heldIn, padded, areaSize};
 ghost use Rattle.model.specs.Watched.{changesOf};
 ghost use Rattle.model.specs.Text.{line, batchWord, changeLine, refusedLine};
+ghost use Rattle.model.specs.Row.{maxNodes, maxRows, maxWidth};
 ghost use Rattle.network.specs.Reading.{Built};
 ghost use Rattle.admission.specs.Admission.{Changes};
 ghost use Rattle.station_lines.specs.Lines.{Put, PutIfRoom, batchRoom, linesIn, nodeRoom, refusedRoom};
-ghost use Rattle.station_lines.specs.Lines.{changeLines};
+ghost use Rattle.station_lines.specs.Lines.{changeLines, changeRoom};
 use areas::GAINED_COUNTS;
 use areas::LOST_COUNTS;
 use areas::PLACE;
 use network::Network;
+use nodes::MAX_WIDTH;
 use reports::Direction;
+use rows::MAX_ROWS;
 use rows::STRIDE;
 
 // The signs of gained and of lost rows.
@@ -27,15 +30,21 @@ const MINUS: u8 = 45;
 // The most bytes of a refusal's line.
 const LINE: usize = 50;
 
-// The most bytes of a node's lines: 128 lines of at most 107 bytes.
-pub const NODE_ROOM: usize = 13696;
+// How many numbers a changed row's line has at most: the node and the row's fields.
+const NUMBERS: usize = 1 + MAX_WIDTH;
+
+// The most bytes of a changed row's line: a sign, the numbers, each a space and at most 20 digits, and the line's end.
+const CHANGE_ROOM: usize = 1 + NUMBERS * 21 + 1;
+
+// The most bytes of a node's lines: those of the rows that it gained and lost.
+pub const NODE_ROOM: usize = 2 * MAX_ROWS * CHANGE_ROOM;
 
 // The numbers of a changed row's line: the node, then the row's fields, then zeros.
-fn change_numbers(node: usize, words: &[u32], from: usize, w: usize) -> [usize; 5]
-    requires { ⌜ (w ≤ 4) × (from + w ≤ length (now words)) ⌝ }
-    ensures { λ r. ⌜ r ≡ padded 5 (node ∷ fields w (now (words .entry)) from) ⌝ }
+fn change_numbers(node: usize, words: &[u32], from: usize, w: usize) -> [usize; NUMBERS]
+    requires { ⌜ (w ≤ maxWidth) × (from + w ≤ length (now words)) ⌝ }
+    ensures { λ r. ⌜ r ≡ padded (1 + maxWidth) (node ∷ fields w (now (words .entry)) from) ⌝ }
 {
-    let mut numbers = [0usize; 5];
+    let mut numbers = [0usize; NUMBERS];
     numbers[0] = node;
     let mut k = 0;
     while k < w {
@@ -55,9 +64,9 @@ fn put_change(
     from: usize,
     w: usize,
 ) -> usize
-    requires { ⌜ (w ≤ 4) × (from + w ≤ length (now words)) × (at + 107 ≤ length (now out)) ⌝ }
+    requires { ⌜ (w ≤ maxWidth) × (from + w ≤ length (now words)) × (at + changeRoom ≤ length (now out)) ⌝ }
     ensures { λ r. ⌜ (now (out .exit) ≡ sets (now (out .entry)) at (line (sign ∷ []) (node ∷ fields w (now (words .entry)) from)))
-        × (r ≡ at + length (line (sign ∷ []) (node ∷ fields w (now (words .entry)) from))) × (r ≤ at + 107) ⌝ }
+        × (r ≡ at + length (line (sign ∷ []) (node ∷ fields w (now (words .entry)) from))) × (r ≤ at + changeRoom) ⌝ }
 {
     let numbers = change_numbers(node, words, from, w);
     lines::put_line_at(out, at, &[sign], &numbers[..w + 1])
@@ -73,9 +82,9 @@ fn put_changes(
     n: usize,
     w: usize,
 ) -> usize
-    requires { ⌜ (w ≤ 4) × (n ≤ 64) × (node < 32) × (8192 ≤ length (now area)) × (at + 107 * n ≤ length (now out)) ⌝ }
+    requires { ⌜ (w ≤ maxWidth) × (n ≤ maxRows) × (node < maxNodes) × (areaSize ≤ length (now area)) × (at + changeRoom * n ≤ length (now out)) ⌝ }
     ensures { λ r. ⌜ (now (out .exit) ≡ sets (now (out .entry)) at (changeLines sign node (heldIn layout w n (now (area .entry)) node)))
-        × (r ≡ at + length (changeLines sign node (heldIn layout w n (now (area .entry)) node))) × (r ≤ at + 107 * n) ⌝ }
+        × (r ≡ at + length (changeLines sign node (heldIn layout w n (now (area .entry)) node))) × (r ≤ at + changeRoom * n) ⌝ }
 {
     let mut to = at;
     let mut j = 0;
@@ -97,10 +106,10 @@ fn put_allowed(
     n: usize,
     w: usize,
 ) -> usize
-    requires { ⌜ (w ≤ 4) × (n ≤ 64) × (node < 32) × (8192 ≤ length (now area)) × (at + 107 * n ≤ length (now out)) ⌝ }
+    requires { ⌜ (w ≤ maxWidth) × (n ≤ maxRows) × (node < maxNodes) × (areaSize ≤ length (now area)) × (at + changeRoom * n ≤ length (now out)) ⌝ }
     ensures { λ r. ⌜ (now (out .exit) ≡ sets (now (out .entry)) at (cond allowed (changeLines sign node
         (heldIn layout w n (now (area .entry)) node)) [])) × (r ≡ at + length (cond allowed (changeLines sign node
-        (heldIn layout w n (now (area .entry)) node)) [])) × (r ≤ at + 107 * n) ⌝ }
+        (heldIn layout w n (now (area .entry)) node)) [])) × (r ≤ at + changeRoom * n) ⌝ }
 {
     if allowed {
         return put_changes(out, at, sign, node, area, n, w);
@@ -120,7 +129,7 @@ fn put_node(
     lost: &[u32],
     l: usize,
 ) -> usize
-    requires { ⌜ (w ≤ 4) × (g ≤ 64) × (l ≤ 64) × (node < 32) × (8192 ≤ length (now gained)) × (8192 ≤ length (now lost))
+    requires { ⌜ (w ≤ maxWidth) × (g ≤ maxRows) × (l ≤ maxRows) × (node < maxNodes) × (areaSize ≤ length (now gained)) × (areaSize ≤ length (now lost))
         × (at + nodeRoom ≤ length (now out)) ⌝ }
     ensures { λ r. ⌜ Put (flatMap changeLine (changesOf sign node
         (record { gained = heldIn layout w g (now (gained .entry)) node; lost = heldIn layout w l (now (lost .entry)) node }))) nodeRoom at

@@ -9,12 +9,12 @@ use lib.ListN.{getD, length, length-append, set, length-set}
 use borrow.Author.Tests.{leb-false, leb-true, eqb-true, eqb-false}
 use lib.Seq.{getD-set-same, getD-set-other}
 use Rattle.model.specs.Record.{Bytes, fieldAt, kindAt, firstBroken, rule, isBroken, lengthAt, isAccepted, refused, offsets}
-use Rattle.model.specs.Row.{Relation, insertRow, deleteRow, sameRow}
+use Rattle.model.specs.Row.{Relation, insertRow, deleteRow, sameRow, maxRows, maxWidth}
 use Rattle.rows.specs.Rows.{Wide}
 use Rattle.rows.proofs.Words.{wide-insert, wide-keep}
 use Rattle.model.specs.Batch.{rowIn, eventFault, eventFits, readEvents, eventAt, act, eventOf, put, remove, actAll, readBatch, Event}
 use Rattle.model.proofs.Events.{length-row-in}
-use Rattle.model.specs.Areas.{padded}
+use Rattle.model.specs.Areas.{padded, stride}
 use Rattle.tables.specs.Fold.{foldAt, foldRows, actOn, actIn, Events, Foldable}
 use Rattle.model.specs.Network.{Node, widths, isTable, nodeAt}
 use Rattle.model.proofs.Sets.{and-first, and-second, Ascending, asc-insert, asc-delete}
@@ -30,18 +30,18 @@ wide-one bs at w rel true h = wide-insert w (rowIn bs (at + 6) w) rel (length-ro
 wide-one bs at w rel false h = wide-keep w (λ s. not (sameRow s (rowIn bs (at + 6) w))) rel h
 
 padded-one : (bs : Bytes) (at w : ℕ) (rel : Relation) (k : Bool) → Wide w rel →
-    cond k (insertRow (padded 4 (rowIn bs (at + 6) w)) (map (padded 4) rel)) (deleteRow (padded 4 (rowIn bs (at + 6) w)) (map (padded 4) rel))
-    ≡ map (padded 4) (cond k (insertRow (rowIn bs (at + 6) w) rel) (deleteRow (rowIn bs (at + 6) w) rel))
-padded-one bs at w rel true h = insert-padded 4 w (rowIn bs (at + 6) w) rel (length-row-in bs (at + 6) w) h
-padded-one bs at w rel false h = delete-padded 4 w (rowIn bs (at + 6) w) rel (length-row-in bs (at + 6) w) h
+    cond k (insertRow (padded stride (rowIn bs (at + 6) w)) (map (padded stride) rel)) (deleteRow (padded stride (rowIn bs (at + 6) w)) (map (padded stride) rel))
+    ≡ map (padded stride) (cond k (insertRow (rowIn bs (at + 6) w) rel) (deleteRow (rowIn bs (at + 6) w) rel))
+padded-one bs at w rel true h = insert-padded stride w (rowIn bs (at + 6) w) rel (length-row-in bs (at + 6) w) h
+padded-one bs at w rel false h = delete-padded stride w (rowIn bs (at + 6) w) rel (length-row-in bs (at + 6) w) h
 
 -- the fold of rows in words is that of the relation
-pub fold-padded : (bs : Bytes) (t w : ℕ) (ats : List ℕ) (rel : Relation) → Wide w rel → foldAt bs t w ats (map (padded 4) rel) ≡ map (padded 4) (foldRows bs t w ats rel)
+pub fold-padded : (bs : Bytes) (t w : ℕ) (ats : List ℕ) (rel : Relation) → Wide w rel → foldAt bs t w ats (map (padded stride) rel) ≡ map (padded stride) (foldRows bs t w ats rel)
 fold-padded bs t w [] rel h = refl
 fold-padded bs t w (at ∷ ats) rel h = go (eqb (fieldAt bs at 0) t) (fold-padded bs t w ats)
   where
-    go : (b : Bool) → ((rel : Relation) → Wide w rel → foldAt bs t w ats (map (padded 4) rel) ≡ map (padded 4) (foldRows bs t w ats rel)) →
-        foldAt bs t w ats (cond b (actOn bs at w (map (padded 4) rel)) (map (padded 4) rel)) ≡ map (padded 4) (foldRows bs t w ats (cond b (actIn (λ r. r) bs at w rel) rel))
+    go : (b : Bool) → ((rel : Relation) → Wide w rel → foldAt bs t w ats (map (padded stride) rel) ≡ map (padded stride) (foldRows bs t w ats rel)) →
+        foldAt bs t w ats (cond b (actOn bs at w (map (padded stride) rel)) (map (padded stride) rel)) ≡ map (padded stride) (foldRows bs t w ats (cond b (actIn (λ r. r) bs at w rel) rel))
     go true ih = ap (foldAt bs t w ats) (padded-one bs at w rel (eqb (kindAt bs at) 32) h)
         ∙ ih (cond (eqb (kindAt bs at) 32) (insertRow (rowIn bs (at + 6) w) rel) (deleteRow (rowIn bs (at + 6) w) rel)) (wide-one bs at w rel (eqb (kindAt bs at) 32) h)
     go false ih = ih rel h
@@ -78,27 +78,27 @@ module _ (nodes : List Node) (bs : Bytes) where
   -- what reading says of each record that it accepts
   pub record Fits (before at : ℕ) : Type 0 where
     pub whole? : isBroken bs at ≡ false
-    pub early : before < 64
+    pub early : before < maxRows
     pub least : 6 ≤ lengthAt bs at
-    pub size : lengthAt bs at ≡ 6 + 4 * getD (widths nodes) (fieldAt bs at 0) 0
+    pub size : lengthAt bs at ≡ 6 + stride * getD (widths nodes) (fieldAt bs at 0) 0
 
   fault-fits : (before at : ℕ) → eventFault nodes before bs at ≡ 0 → Fits before at
   unfolding eventFault eventFits
   fault-fits before at z =
-      let f : (isBroken bs at ≡ false) × (leb 64 before ≡ false) × (eventFits nodes bs at ≡ true) = fault-none (isBroken bs at) (not (eqb (kindAt bs at) 32 || eqb (kindAt bs at) 33))
-      (leb 64 before) (eventFits nodes bs at) z in
+      let f : (isBroken bs at ≡ false) × (leb maxRows before ≡ false) × (eventFits nodes bs at ≡ true) = fault-none (isBroken bs at) (not (eqb (kindAt bs at) 32 || eqb (kindAt bs at) 33))
+      (leb maxRows before) (eventFits nodes bs at) z in
       let three : (leb 6 (lengthAt bs at) && ltb (fieldAt bs at 0) (length nodes) && isTable (nodeAt nodes (fieldAt bs at 0)))
       ≡ true = and-first (leb 6 (lengthAt bs at) && ltb (fieldAt bs at 0) (length nodes) && isTable (nodeAt nodes (fieldAt bs at 0)))
-      (eqb (lengthAt bs at) (6 + 4 * getD (widths nodes) (fieldAt bs at 0) 0)) (f .2) in
+      (eqb (lengthAt bs at) (6 + stride * getD (widths nodes) (fieldAt bs at 0) 0)) (f .2) in
       let two : (leb 6 (lengthAt bs at) && ltb (fieldAt bs at 0) (length nodes)) ≡ true = and-first (leb 6 (lengthAt bs at) && ltb (fieldAt bs at 0) (length nodes))
       (isTable (nodeAt nodes (fieldAt bs at 0))) three in
       record {
         whole? = f .0;
-        early = leb-false 64 before (f .1);
+        early = leb-false maxRows before (f .1);
         least = leb-true 6 (lengthAt bs at) (and-first (leb 6 (lengthAt bs at)) (ltb (fieldAt bs at 0) (length nodes)) two);
-        size = eqb-true (lengthAt bs at) (6 + 4 * getD (widths nodes) (fieldAt bs at 0) 0)
+        size = eqb-true (lengthAt bs at) (6 + stride * getD (widths nodes) (fieldAt bs at 0) 0)
             (and-second (leb 6 (lengthAt bs at) && ltb (fieldAt bs at 0) (length nodes) && isTable (nodeAt nodes (fieldAt bs at 0)))
-            (eqb (lengthAt bs at) (6 + 4 * getD (widths nodes) (fieldAt bs at 0) 0)) (f .2));
+            (eqb (lengthAt bs at) (6 + stride * getD (widths nodes) (fieldAt bs at 0) 0)) (f .2));
       }
 
   module _ (t : ℕ) where
@@ -109,13 +109,13 @@ module _ (nodes : List Node) (bs : Bytes) where
     pub record Reads (done : List Event) (ats : List ℕ) : Type 0 where
       pub events : readEvents nodes bs done ats .events ≡ done ++ map (eventAt (widths nodes) bs) ats
       pub foldable : Events bs t (getD (widths nodes) t 0) ats
-      pub few : length done ≤ 64 → length done + length ats ≤ 64
+      pub few : length done ≤ maxRows → length done + length ats ≤ maxRows
 
-    event-inside : (before at : ℕ) → Fits before at → (at + 6 ≤ length bs) × (fieldAt bs at 0 ≡ t → at + 6 + 4 * getD (widths nodes) t 0 ≤ length bs)
+    event-inside : (before at : ℕ) → Fits before at → (at + 6 ≤ length bs) × (fieldAt bs at 0 ≡ t → at + 6 + stride * getD (widths nodes) t 0 ≤ length bs)
     event-inside before at f =
         let h : Whole bs at = whole bs at (f .whole?) in (
           omega (arith, h .inside, f .least),
-          λ e. let size : lengthAt bs at ≡ 6 + 4 * getD (widths nodes) t 0 = f .size ∙ ap (λ (x : ℕ). 6 + 4 * getD (widths nodes) x 0) e in omega
+          λ e. let size : lengthAt bs at ≡ 6 + stride * getD (widths nodes) t 0 = f .size ∙ ap (λ (x : ℕ). 6 + stride * getD (widths nodes) x 0) e in omega
               (arith, h .inside, size),
         )
 
@@ -133,7 +133,7 @@ module _ (nodes : List Node) (bs : Bytes) where
         go true e c ih =
             let later : Reads (done ++ (eventAt (widths nodes) bs at ∷ [])) rest = ih c in
             let fits : Fits (length done) at = fault-fits (length done) at (eqb-true (eventFault nodes (length done) bs at) 0 e) in
-            let inside : (at + 6 ≤ length bs) × (fieldAt bs at 0 ≡ t → at + 6 + 4 * getD (widths nodes) t 0 ≤ length bs) = event-inside (length done) at fits in
+            let inside : (at + 6 ≤ length bs) × (fieldAt bs at 0 ≡ t → at + 6 + stride * getD (widths nodes) t 0 ≤ length bs) = event-inside (length done) at fits in
             record {
               events = rw e (later .events ∙ append-assoc done (eventAt (widths nodes) bs at ∷ []) (map (eventAt (widths nodes) bs) rest));
               foldable = (fits .whole?, inside .0, inside .1, later .foldable);
@@ -181,5 +181,5 @@ module _ (nodes : List Node) (bs : Bytes) where
       acts-fold tables h = ap (λ (es : List Event). rowsAt (actAll es tables) t) (here .events) ∙ acts (offsets bs) tables h
 
       -- it can be folded
-      pub accepted-folds : getD (widths nodes) t 0 ≤ 4 → Foldable bs t (getD (widths nodes) t 0)
+      pub accepted-folds : getD (widths nodes) t 0 ≤ maxWidth → Foldable bs t (getD (widths nodes) t 0)
       accepted-folds narrow = record { narrow = narrow; few = omega (arith, here .few zero-le); events = here .foldable }

@@ -12,40 +12,40 @@ use Rattle.model.specs.Record.{Bytes, u32, kindAt, fieldAt, isBroken, lengthAt,
 use Rattle.rows.proofs.Words.{fields-part, length-words, rows-stored, wide-insert, wide-keep, wide-rows}
 use Rattle.rows.specs.Rows.{Wide, words, rowAt, firstRows, stored}
 use Rattle.rows.proofs.Place.{length-padded}
-use Rattle.model.specs.Areas.{padded}
+use Rattle.model.specs.Areas.{padded, foldedSize, stride}
 use Rattle.rows.proofs.Padding.{padded-more}
-use Rattle.model.specs.Batch.{rowIn}
-use Rattle.model.specs.Row.{Row, deleteRow, insertRow, member, ascending, keep, sameRow}
+use Rattle.model.specs.Batch.{rowIn, foldedRows}
+use Rattle.model.specs.Row.{Row, deleteRow, insertRow, member, ascending, keep, sameRow, maxNodes, maxRows, maxWidth}
 use Rattle.tables.specs.Fold.{Stands, actOn, Events, Foldable, Table, foldAt}
 use Rattle.model.proofs.Sets.{Ascending, asc-delete, asc-insert, ascending-holds, ascending-true}
 use Rattle.records.proofs.Header.{Whole, whole}
 use Rattle.records.proofs.Offsets.{remaining, remaining-all, remaining-broken, remaining-none, remaining-whole}
 use Rattle.model.proofs.Events.{length-row-in}
 
-row-more : (bs : Bytes) (at k : ℕ) → rowIn bs at (k + 1) ≡ rowIn bs at k ++ (u32 bs (at + 4 * k) ∷ [])
-row-more bs at zero = ap (λ (n : ℕ). u32 bs n ∷ []) (let e : at ≡ at + 4 * 0 = omega arith in e)
+row-more : (bs : Bytes) (at k : ℕ) → rowIn bs at (k + 1) ≡ rowIn bs at k ++ (u32 bs (at + stride * k) ∷ [])
+row-more bs at zero = ap (λ (n : ℕ). u32 bs n ∷ []) (let e : at ≡ at + stride * 0 = omega arith in e)
 row-more bs at (suc k) =
     let e : suc k + 1 ≡ suc (k + 1) = omega arith in
-    let f : at + 4 + 4 * k ≡ at + 4 * suc k = omega arith in
-    rw e (ap (λ (l : List ℕ). u32 bs at ∷ l) (row-more bs (at + 4) k ∙ ap (λ (n : ℕ). rowIn bs (at + 4) k ++ (u32 bs n ∷ [])) f))
+    let f : at + stride + stride * k ≡ at + stride * suc k = omega arith in
+    rw e (ap (λ (l : List ℕ). u32 bs at ∷ l) (row-more bs (at + stride) k ∙ ap (λ (n : ℕ). rowIn bs (at + stride) k ++ (u32 bs n ∷ [])) f))
 
 -- one field more of an event's row
-pub row-filled : (bs : Bytes) (at k : ℕ) (row : List ℕ) (x : ℕ) → k < 4 → row ≡ padded 4 (rowIn bs at k) → x ≡ u32 bs (at + 4 * k) → set row k x ≡ padded 4 (rowIn bs at (k + 1))
+pub row-filled : (bs : Bytes) (at k : ℕ) (row : List ℕ) (x : ℕ) → k < stride → row ≡ padded stride (rowIn bs at k) → x ≡ u32 bs (at + stride * k) → set row k x ≡ padded stride (rowIn bs at (k + 1))
 row-filled bs at k row x h e f =
-    ap₂ {A = List ℕ} {B = ℕ} {C = List ℕ} (λ r y. set r k y) e f ∙ padded-more 4 (rowIn bs at k) (u32 bs (at + 4 * k)) k (length-row-in bs at k) h ∙ ap (padded 4) (sym (row-more bs at k))
+    ap₂ {A = List ℕ} {B = ℕ} {C = List ℕ} (λ r y. set r k y) e f ∙ padded-more stride (rowIn bs at k) (u32 bs (at + stride * k)) k (length-row-in bs at k) h ∙ ap (padded stride) (sym (row-more bs at k))
 
 -- an event's row in words is its own row
-pub event-row-at : (bs : Bytes) (at w : ℕ) (row : List ℕ) → w ≤ 4 → row ≡ padded 4 (rowIn bs at w) → rowAt 4 row 0 ≡ padded 4 (rowIn bs at w)
+pub event-row-at : (bs : Bytes) (at w : ℕ) (row : List ℕ) → w ≤ maxWidth → row ≡ padded stride (rowIn bs at w) → rowAt stride row 0 ≡ padded stride (rowIn bs at w)
 unfolding rowAt
 event-row-at bs at w row h e =
-    let size : length row ≡ 4 = ap length e ∙ length-padded 4 (rowIn bs at w) (rw (length-row-in bs at w) h) in
-    fields-part 4 row 0 (omega (arith, size)) ∙ take-all 4 row (omega (arith, size)) ∙ e
+    let size : length row ≡ stride = ap length e ∙ length-padded stride (rowIn bs at w) (rw (length-row-in bs at w) h) in
+    fields-part stride row 0 (omega (arith, size)) ∙ take-all stride row (omega (arith, size)) ∙ e
 
 module _ (bs : Bytes) (at w k : ℕ) (rows : List Row) (out : List ℕ) (n : ℕ) (is : k ≡ kindAt bs at) where
-  pub act-put : k ≡ 32 → Stands (insertRow (padded 4 (rowIn bs (at + 6) w)) rows) out n → Stands (actOn bs at w rows) out n
+  pub act-put : k ≡ maxNodes → Stands (insertRow (padded stride (rowIn bs (at + 6) w)) rows) out n → Stands (actOn bs at w rows) out n
   act-put e s = rw (eq-eqb (kindAt bs at) 32 (sym is ∙ e)) s
 
-  pub act-remove : (k ≡ 32 → ⊥) → Stands (deleteRow (padded 4 (rowIn bs (at + 6) w)) rows) out n → Stands (actOn bs at w rows) out n
+  pub act-remove : (k ≡ maxNodes → ⊥) → Stands (deleteRow (padded stride (rowIn bs (at + 6) w)) rows) out n → Stands (actOn bs at w rows) out n
   act-remove e s = rw (ne-eqb (kindAt bs at) 32 (λ z. e (is ∙ z))) s
 
 -- a relation with a row has one
@@ -56,43 +56,43 @@ some-row r (s ∷ l) n e f = omega arith
 -- ---- all events of a table
 
 -- rows that stand in words, read back
-pub stands-table : (rows : List Row) (out : List ℕ) (n : ℕ) → Wide 4 rows → Ascending rows → Stands rows out n → (firstRows out n ≡ rows) × Table out n × (length out ≡ 512)
+pub stands-table : (rows : List Row) (out : List ℕ) (n : ℕ) → Wide stride rows → Ascending rows → Stands rows out n → (firstRows out n ≡ rows) × Table out n × (length out ≡ foldedSize)
 unfolding stored
 stands-table rows out n wide asc s =
-    let back : firstRows out n ≡ rows = rw (s .is, s .count) (rows-stored 4 rows (replicate 512 0) wide) in
-    let size : length (words rows) ≡ length rows * 4 = length-words 4 rows wide in (
+    let back : firstRows out n ≡ rows = rw (s .is, s .count) (rows-stored stride rows (replicate foldedSize 0) wide) in
+    let size : length (words rows) ≡ length rows * stride = length-words stride rows wide in (
       back,
       record { stands = rw back s; asc = ap ascending back ∙ ascending-true rows asc },
-      ap length (s .is) ∙ length-append (words rows) (drop (length (words rows)) (replicate 512 0)) ∙ rw (length-drop, length-replicate, size) (omega (arith, s .count, s .few)),
+      ap length (s .is) ∙ length-append (words rows) (drop (length (words rows)) (replicate foldedSize 0)) ∙ rw (length-drop, length-replicate, size) (omega (arith, s .count, s .few)),
     )
 
-wide-act : (bs : Bytes) (at w : ℕ) (rows : List Row) → w ≤ 4 → Wide 4 rows → Wide 4 (actOn bs at w rows)
+wide-act : (bs : Bytes) (at w : ℕ) (rows : List Row) → w ≤ maxWidth → Wide stride rows → Wide stride (actOn bs at w rows)
 unfolding deleteRow
 wide-act bs at w rows h wide = go (eqb (kindAt bs at) 32)
   where
     r : Row
-    r = padded 4 (rowIn bs (at + 6) w)
+    r = padded stride (rowIn bs (at + 6) w)
 
-    go : (t : Bool) → Wide 4 (cond t (insertRow (padded 4 (rowIn bs (at + 6) w)) rows) (keep (λ s. not (sameRow s (padded 4 (rowIn bs (at + 6) w)))) rows))
-    go true = wide-insert 4 (padded 4 (rowIn bs (at + 6) w)) rows (length-padded 4 (rowIn bs (at + 6) w) (rw (length-row-in bs (at + 6) w) h)) wide
-    go false = wide-keep 4 (λ s. not (sameRow s (padded 4 (rowIn bs (at + 6) w)))) rows wide
+    go : (t : Bool) → Wide stride (cond t (insertRow (padded stride (rowIn bs (at + 6) w)) rows) (keep (λ s. not (sameRow s (padded stride (rowIn bs (at + 6) w)))) rows))
+    go true = wide-insert stride (padded stride (rowIn bs (at + 6) w)) rows (length-padded stride (rowIn bs (at + 6) w) (rw (length-row-in bs (at + 6) w) h)) wide
+    go false = wide-keep stride (λ s. not (sameRow s (padded stride (rowIn bs (at + 6) w)))) rows wide
 
 asc-act : (bs : Bytes) (at w : ℕ) (rows : List Row) → Ascending rows → Ascending (actOn bs at w rows)
 asc-act bs at w rows asc = go (eqb (kindAt bs at) 32)
   where
-    go : (t : Bool) → Ascending (cond t (insertRow (padded 4 (rowIn bs (at + 6) w)) rows) (deleteRow (padded 4 (rowIn bs (at + 6) w)) rows))
-    go true = asc-insert (padded 4 (rowIn bs (at + 6) w)) rows asc
-    go false = asc-delete (padded 4 (rowIn bs (at + 6) w)) rows asc
+    go : (t : Bool) → Ascending (cond t (insertRow (padded stride (rowIn bs (at + 6) w)) rows) (deleteRow (padded stride (rowIn bs (at + 6) w)) rows))
+    go true = asc-insert (padded stride (rowIn bs (at + 6) w)) rows asc
+    go false = asc-delete (padded stride (rowIn bs (at + 6) w)) rows asc
 
 -- the fold so far: what is left to fold decides
 pub record Folded (bs : Bytes) (t w : ℕ) (start : List Row) (words : List ℕ) (count at : ℕ) : Type 0 where
   pub table : Table words count
-  pub size : length words ≡ 512
-  pub room : count + length (remaining bs at) ≤ 128
+  pub size : length words ≡ foldedSize
+  pub room : count + length (remaining bs at) ≤ foldedRows
   pub events : Events bs t w (remaining bs at)
   pub same : foldAt bs t w (offsets bs) start ≡ foldAt bs t w (remaining bs at) (firstRows words count)
 
-pub folded-start : (bs : Bytes) (t w : ℕ) (words : List ℕ) (n : ℕ) → Foldable bs t w → Table words n → n ≤ 64 → length words ≡ 512 → Folded bs t w (firstRows words n) words n 0
+pub folded-start : (bs : Bytes) (t w : ℕ) (words : List ℕ) (n : ℕ) → Foldable bs t w → Table words n → n ≤ maxRows → length words ≡ foldedSize → Folded bs t w (firstRows words n) words n 0
 folded-start bs t w words n f tb few size =
     let all : offsets bs ≡ remaining bs 0 = remaining-all bs in
     record {
@@ -123,35 +123,35 @@ module _ (bs : Bytes) (t w : ℕ) (start : List Row) (words : List ℕ) (count a
   pub fold-header : at + 6 ≤ length bs
   fold-header = events-here .1
 
-  pub fold-inside : fieldAt bs at 0 ≡ t → at + 6 + 4 * w ≤ length bs
+  pub fold-inside : fieldAt bs at 0 ≡ t → at + 6 + stride * w ≤ length bs
   fold-inside e = events-here .2 e
 
-  room-here : count + suc (length (remaining bs (at + lengthAt bs at))) ≤ 128
+  room-here : count + suc (length (remaining bs (at + lengthAt bs at))) ≤ foldedRows
   room-here = omega (arith, f .room, ap length next-is)
 
-  pub fold-room : count < 128
+  pub fold-room : count < foldedRows
   fold-room = omega (arith, room-here)
 
   -- the rows after the event at this offset
   abbrev after : List Row
   after = cond (eqb (fieldAt bs at 0) t) (actOn bs at w (firstRows words count)) (firstRows words count)
 
-  after-fine : w ≤ 4 → Wide 4 after × Ascending after
+  after-fine : w ≤ maxWidth → Wide stride after × Ascending after
   after-fine narrow = go (eqb (fieldAt bs at 0) t)
     where
-      go : (b : Bool) → Wide 4 (cond b (actOn bs at w (firstRows words count)) (firstRows words count)) × Ascending (cond b (actOn bs at w (firstRows words count)) (firstRows words count))
+      go : (b : Bool) → Wide stride (cond b (actOn bs at w (firstRows words count)) (firstRows words count)) × Ascending (cond b (actOn bs at w (firstRows words count)) (firstRows words count))
       go true = (
-        wide-act bs at w (firstRows words count) narrow (wide-rows 4 words 0 count),
+        wide-act bs at w (firstRows words count) narrow (wide-rows stride words 0 count),
         asc-act bs at w (firstRows words count)
             (ascending-holds (firstRows words count) (f .table .asc)),
       )
-      go false = (wide-rows 4 words 0 count, ascending-holds (firstRows words count) (f .table .asc))
+      go false = (wide-rows stride words 0 count, ascending-holds (firstRows words count) (f .table .asc))
 
-  pub folded-more : (out : List ℕ) (more next : ℕ) → w ≤ 4 → Stands (cond (eqb (fieldAt bs at 0) t) (actOn bs at w (firstRows words count)) (firstRows words count)) out more →
+  pub folded-more : (out : List ℕ) (more next : ℕ) → w ≤ maxWidth → Stands (cond (eqb (fieldAt bs at 0) t) (actOn bs at w (firstRows words count)) (firstRows words count)) out more →
       more ≤ count + 1 → next ≡ at + lengthAt bs at → Folded bs t w start out more next
   folded-more out more next narrow s few k =
-      let fine : Wide 4 after × Ascending after = after-fine narrow in
-      let back : (firstRows out more ≡ after) × Table out more × (length out ≡ 512) = stands-table after out more (fine .0) (fine .1) s in
+      let fine : Wide stride after × Ascending after = after-fine narrow in
+      let back : (firstRows out more ≡ after) × Table out more × (length out ≡ foldedSize) = stands-table after out more (fine .0) (fine .1) s in
       rw k (record {
         table = back .1;
         size = back .2;

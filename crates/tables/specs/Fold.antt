@@ -5,15 +5,15 @@ use mathlib.Core.List.{List, [], _∷_}
 use Prim.Native.Nat.{ℕ, _+_, _*_, _≤_}
 use lib.Dec.{eqb}
 use lib.ListN.{length}
-use Rattle.model.specs.Row.{Row, Relation, ascending, insertRow, deleteRow}
+use Rattle.model.specs.Row.{Row, Relation, ascending, insertRow, deleteRow, maxWidth}
 use Rattle.model.specs.Record.{Bytes, kindAt, fieldAt, isBroken, offsets}
-use Rattle.model.specs.Batch.{rowIn}
-use Rattle.model.specs.Areas.{padded}
+use Rattle.model.specs.Batch.{rowIn, foldedRows, maxEvents}
+use Rattle.model.specs.Areas.{padded, foldedSize, stride}
 use Rattle.rows.specs.Rows.{firstRows, Standing}
 
 -- at most 128 rows of words, as many as a table can have while a batch is folded
 abbrev pub Stands : List Row → List ℕ → ℕ → Type 0
-Stands rows words n = Standing 128 512 rows words n
+Stands rows words n = Standing foldedRows foldedSize rows words n
 
 -- rows of words, ascending
 pub record Table (words : List ℕ) (n : ℕ) : Type 0 where
@@ -31,10 +31,10 @@ foldIn form bs t w (at ∷ ats) rows = foldIn form bs t w ats (cond (eqb (fieldA
 
 -- on rows in words, each with zeros up to the stride
 abbrev pub actOn : Bytes → ℕ → ℕ → List Row → List Row
-actOn bs at w rows = actIn (padded 4) bs at w rows
+actOn bs at w rows = actIn (padded stride) bs at w rows
 
 abbrev pub foldAt : Bytes → ℕ → ℕ → List ℕ → List Row → List Row
-foldAt bs t w ats rows = foldIn (padded 4) bs t w ats rows
+foldAt bs t w ats rows = foldIn (padded stride) bs t w ats rows
 
 -- on a relation
 abbrev pub foldRows : Bytes → ℕ → ℕ → List ℕ → Relation → Relation
@@ -47,6 +47,6 @@ Events bs t w (at ∷ ats) = (isBroken bs at ≡ false) × (at + 6 ≤ length bs
 
 -- a batch that can be folded
 pub record Foldable (bs : Bytes) (t w : ℕ) : Type 0 where
-  pub narrow : w ≤ 4
-  pub few : length (offsets bs) ≤ 64
+  pub narrow : w ≤ maxWidth
+  pub few : length (offsets bs) ≤ maxEvents
   pub events : Events bs t w (offsets bs)

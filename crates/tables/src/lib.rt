@@ -5,17 +5,26 @@ ghost use Prim.Native.Nat.{_+_, _*_, _≤_, _<_};
 ghost use lib.Dec.{eqb};
 ghost use lib.ListN.{length};
 ghost use Rattle.model.specs.Record.{fieldAt, offsets};
-ghost use Rattle.model.specs.Batch.{rowIn};
-ghost use Rattle.model.specs.Areas.{padded};
+ghost use Rattle.model.specs.Batch.{rowIn, foldedRows};
+ghost use Rattle.model.specs.Areas.{padded, foldedSize, stride};
+ghost use Rattle.model.specs.Row.{maxRows, maxWidth};
 ghost use Rattle.rows.specs.Rows.{firstRows};
 ghost use Rattle.tables.specs.Fold.{Stands, Table, actOn, foldAt, Foldable};
+use records::MAX_EVENTS;
+use records::PUT;
 use rows::Inserted;
+use rows::MAX_ROWS;
 use rows::STRIDE;
+
+// How many rows a table may have in the middle of a batch, and their words.
+pub const FOLDED_ROWS: usize = MAX_ROWS + MAX_EVENTS;
+
+pub const FOLDED: usize = FOLDED_ROWS * STRIDE;
 
 // The row of the event at an offset, then zeros.
 fn event_row(bytes: &[u8], at: usize, width: usize) -> [u32; STRIDE]
-    requires { ⌜ (width ≤ 4) × (at + 6 + 4 * width ≤ length (now bytes)) ⌝ }
-    ensures { λ r. ⌜ r ≡ padded 4 (rowIn (now (bytes .entry)) (at + 6) width) ⌝ }
+    requires { ⌜ (width ≤ maxWidth) × (at + 6 + 4 * width ≤ length (now bytes)) ⌝ }
+    ensures { λ r. ⌜ r ≡ padded stride (rowIn (now (bytes .entry)) (at + 6) width) ⌝ }
 {
     let mut row = [0u32; STRIDE];
     let mut k = 0;
@@ -28,12 +37,12 @@ fn event_row(bytes: &[u8], at: usize, width: usize) -> [u32; STRIDE]
 
 // The event at an offset on the first n rows: how many rows there are afterwards.
 fn act(words: &mut [u32], n: usize, bytes: &[u8], at: usize, width: usize) -> usize
-    requires { ⌜ (width ≤ 4) × (at + 6 + 4 * width ≤ length (now bytes)) × Table (now words) n × (n < 128) × (length (now words) ≡ 512) ⌝ }
+    requires { ⌜ (width ≤ maxWidth) × (at + 6 + 4 * width ≤ length (now bytes)) × Table (now words) n × (n < foldedRows) × (length (now words) ≡ foldedSize) ⌝ }
     ensures { λ r. ⌜ Stands (actOn (now (bytes .entry)) at width (firstRows (now (words .entry)) n)) (now (words .exit)) r × (r ≤ n + 1) ⌝ }
 {
     let row = event_row(bytes, at, width);
-    if records::u16_at(bytes, at + 2) == 32 {
-        match rows::insert(words, n, &row, 0, 128) {
+    if records::u16_at(bytes, at + 2) == PUT {
+        match rows::insert(words, n, &row, 0, FOLDED_ROWS) {
             Inserted::New => n + 1,
             Inserted::Present => n,
             Inserted::Full => n,
@@ -54,8 +63,8 @@ fn fold_one(
     table: usize,
     width: usize,
 ) -> usize
-    requires { ⌜ (width ≤ 4) × (at + 6 ≤ length (now bytes)) × (fieldAt (now bytes) at 0 ≡ table → at + 6 + 4 * width ≤ length (now bytes))
-        × Table (now words) n × (n < 128) × (length (now words) ≡ 512) ⌝ }
+    requires { ⌜ (width ≤ maxWidth) × (at + 6 ≤ length (now bytes)) × (fieldAt (now bytes) at 0 ≡ table → at + 6 + 4 * width ≤ length (now bytes))
+        × Table (now words) n × (n < foldedRows) × (length (now words) ≡ foldedSize) ⌝ }
     ensures { λ r. ⌜ Stands
         (cond (eqb (fieldAt (now (bytes .entry)) at 0) table) (actOn (now (bytes .entry)) at width (firstRows (now (words .entry)) n))
         (firstRows (now (words .entry)) n)) (now (words .exit)) r × (r ≤ n + 1) ⌝ }
@@ -68,7 +77,7 @@ fn fold_one(
 
 // The events of a table, in order, on its rows: how many there are afterwards.
 pub fn fold(words: &mut [u32], n: usize, bytes: &[u8], table: usize, width: usize) -> usize
-    requires { ⌜ Foldable (now bytes) table width × Table (now words) n × (n ≤ 64) × (length (now words) ≡ 512) ⌝ }
+    requires { ⌜ Foldable (now bytes) table width × Table (now words) n × (n ≤ maxRows) × (length (now words) ≡ foldedSize) ⌝ }
     ensures { λ r. ⌜ Stands (foldAt (now (bytes .entry)) table width (offsets (now (bytes .entry))) (firstRows (now (words .entry)) n))
         (now (words .exit)) r ⌝ }
 {

@@ -5,21 +5,22 @@ ghost use Prim.Native.Nat.{_≤_, _<_};
 ghost use lib.Dec.{eqb};
 ghost use lib.ListN.{length};
 ghost use Rattle.model.specs.Network.{readNetwork};
-ghost use Rattle.model.specs.Areas.{gainedCount, lostCount};
+ghost use Rattle.model.specs.Areas.{gainedCount, lostCount, headWords};
 ghost use Rattle.model.specs.Text.{nodeLines};
+ghost use Rattle.model.specs.Row.{maxNodes};
 ghost use Rattle.areas.specs.Lent.{lent};
 ghost use Rattle.station_lines.specs.Lines.{Put, nodeRoom};
 ghost use Rattle.stages.specs.declared.Stage.the-variants.{Cut, Tell};
 ghost use Rattle.stages.specs.Stages.{Opened, Ready, Says, files, stateOf};
 use areas::GAINED_COUNTS;
 use areas::LOST_COUNTS;
-use areas::NODES;
+use nodes::MAX_NODES;
 use stages::Said;
 use stages::Stage;
 
 // Whether a node has neither gained nor lost rows.
 fn is_unchanged(head: &[u32], node: usize) -> bool
-    requires { ⌜ (162 ≤ length (now head)) × (node < 32) ⌝ }
+    requires { ⌜ (headWords ≤ length (now head)) × (node < maxNodes) ⌝ }
     ensures { λ r. ⌜ r ≡ (eqb (gainedCount (now (head .entry)) node) 0 && eqb (lostCount (now (head .entry)) node) 0) ⌝ }
 {
     if head[GAINED_COUNTS + node] != 0 {
@@ -38,7 +39,7 @@ fn node_lines(
     head: &[u32],
     out: &mut [u8],
 ) -> usize
-    requires { ⌜ Opened (now net) (lent (now rows) (now gained) (now lost) (now head)) × (node < 32) × (nodeRoom ≤ length (now out)) ⌝ }
+    requires { ⌜ Opened (now net) (lent (now rows) (now gained) (now lost) (now head)) × (node < maxNodes) × (nodeRoom ≤ length (now out)) ⌝ }
     ensures { λ r. ⌜ Put (nodeLines (readNetwork (now (net .entry)) .network)
         (stateOf (now (net .entry)) (lent (now (rows .entry)) (now (gained .entry)) (now (lost .entry)) (now (head .entry))) .changes)
         node) nodeRoom 0 (now (out .entry)) (now (out .exit)) r ⌝ }
@@ -75,7 +76,7 @@ pub fn tell(
         (lent (now (rows .entry)) (now (gained .entry)) (now (lost .entry)) (now (head .entry))) (now (out .entry)) (now (out .exit)) r ⌝ }
 {
     let size = node_lines(net, node, rows, gained, lost, head, out);
-    if node + 1 < NODES {
+    if node + 1 < MAX_NODES {
         return Said {
             size,
             stage: Stage::Tell(node + 1, next),

@@ -2,11 +2,11 @@
 use mathlib.Core.Path.{_≡_}
 use mathlib.Core.Bool.{cond}
 use mathlib.Core.List.{List, [], _∷_}
-use Prim.Native.Nat.{ℕ}
+use Prim.Native.Nat.{ℕ, _-_}
 use lib.Dec.{eqb}
 use lib.ListN.{getD, length, replicate, set}
 use Rattle.model.specs.Record.{Bytes}
-use Rattle.model.specs.Areas.{Areas}
+use Rattle.model.specs.Areas.{Areas, headWords}
 use Rattle.model.specs.Calls.{openCall, checkCall, reportCall}
 use Rattle.model.specs.Text.{line}
 use Rattle.areas.specs.Lent.{lent}
@@ -31,7 +31,7 @@ kindOf number = getD kinds number Small
 
 -- an area that is too short
 abbrev pub short : List ℕ
-short = replicate 161 0
+short = replicate (headWords - 1) 0
 
 -- one area in place of another
 abbrev pub withRows : List ℕ → Areas → Areas

@@ -17,7 +17,7 @@ use test_script::Operation;
 const NETWORK: usize = 2;
 
 // The words of an area that is too short.
-const SHORT: usize = 161;
+const SHORT: usize = HEAD - 1;
 
 // The most bytes of a report, and of one into few bytes.
 const REPORT: usize = 2816;

@@ -9,6 +9,7 @@ ghost use Rattle.model.specs.Calls.{readCall};
 ghost use Rattle.model.specs.Text.{line};
 ghost use Rattle.test_networks.specs.Cases.{ReadsCase, answerLines};
 use libc::STDOUT_FILENO;
+use nodes::MAX_NODES;
 
 // Where a case's name and its network begin, and where the next case does.
 pub struct Case {
@@ -41,7 +42,7 @@ fn case_at(bytes: &[u8], at: usize) -> Case
 }
 
 // A line of a word and 32 numbers from an offset on: where the bytes after it begin.
-fn put_list(text: &mut [u8], at: usize, word: &[u8], list: [usize; 32]) -> usize
+fn put_list(text: &mut [u8], at: usize, word: &[u8], list: [usize; MAX_NODES]) -> usize
     requires { ⌜ at + length (now word) + 672 < length (now text) ⌝ }
     ensures { λ r. ⌜ (now (text .exit) ≡ sets (now (text .entry)) at (line (now (word .entry)) list))
         × (r ≡ at + length (line (now (word .entry)) list)) × (r ≤ at + length (now (word .entry)) + 673) ⌝ }

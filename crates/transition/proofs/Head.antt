@@ -6,8 +6,8 @@ use native.Mathlib.Omega.{arith}
 use mathlib.Core.Bool.{Bool, false, cond}
 use lib.ListN.{length, length-append, getD, set, drop, take}
 use lib.Seq.{paste, drop-append-add, drop-drop, take-at, take-all, drop-cons, set-at, append-snoc}
-use Rattle.model.specs.Row.{numbersBelow}
-use Rattle.model.specs.Areas.{padded, stampAt, over}
+use Rattle.model.specs.Row.{numbersBelow, maxNodes}
+use Rattle.model.specs.Areas.{padded, stampAt, over, headWords}
 use Rattle.model.proofs.Parts.{length-counted, numbers-more, map-append}
 use Rattle.rows.proofs.Padding.{padded-more}
 use Rattle.transition.specs.Head.{stampsFrom, headFrom}
@@ -15,13 +15,13 @@ use Rattle.transition.specs.Head.{stampsFrom, headFrom}
 -- ---- stamps
 
 -- one stamp more
-pub stamps-more : (head : List ℕ) (changed : List Bool) (number i : ℕ) (stamps : List ℕ) (x : ℕ) → i < 32 → stamps ≡ padded 32 (stampsFrom head changed number i) →
-    x ≡ cond (getD changed i false) number (stampAt head i) → set stamps i x ≡ padded 32 (stampsFrom head changed number (i + 1))
+pub stamps-more : (head : List ℕ) (changed : List Bool) (number i : ℕ) (stamps : List ℕ) (x : ℕ) → i < maxNodes → stamps ≡ padded maxNodes (stampsFrom head changed number i) →
+    x ≡ cond (getD changed i false) number (stampAt head i) → set stamps i x ≡ padded maxNodes (stampsFrom head changed number (i + 1))
 stamps-more head changed number i stamps x h e f =
     ap₂ {A = List ℕ} {B = ℕ} {C = List ℕ} (λ s y. set s i y) e f
-    ∙ padded-more 32 (stampsFrom head changed number i) (cond (getD changed i false) number (stampAt head i)) i
+    ∙ padded-more maxNodes (stampsFrom head changed number i) (cond (getD changed i false) number (stampAt head i)) i
     (length-counted (λ j. cond (getD changed j false) number (stampAt head j)) 0 i) h
-    ∙ ap (padded 32) (sym
+    ∙ ap (padded maxNodes) (sym
     (ap (map (λ j. cond (getD changed j false) number (stampAt head j))) (numbers-more i) ∙ map-append (λ j. cond (getD changed j false) number (stampAt head j)) (numbersBelow i) (i ∷ [])))
 
 -- ---- words written one after the other
@@ -45,10 +45,10 @@ over-one done h at x d fits =
     ∙ ap (λ (k : ℕ). done ++ (x ∷ []) ++ drop k h) (let e : suc (length done) ≡ length (done ++ (x ∷ [])) = omega (arith, length-append done (x ∷ [])) in e)
 
 -- all of the head's words
-pub head-written : (h counts stamps gains losses entries h1 h2 h3 h4 h5 : List ℕ) (number k : ℕ) → 162 ≤ length h → length counts ≡ 32 → length stamps ≡ 32 → length gains ≡ 32 →
-    length losses ≡ 32 → length entries ≡ 32 →
-    h1 ≡ paste (set h 0 number) 1 (drop 0 counts) 32 → h2 ≡ paste h1 33 (drop 0 stamps) 32 → h3 ≡ paste h2 65 (drop 0 gains) 32 → h4 ≡ paste h3 97 (drop 0 losses) 32 →
-    h5 ≡ paste (set h4 129 k) 130 (drop 0 entries) 32 →
+pub head-written : (h counts stamps gains losses entries h1 h2 h3 h4 h5 : List ℕ) (number k : ℕ) → headWords ≤ length h → length counts ≡ maxNodes → length stamps ≡ maxNodes → length gains ≡ maxNodes →
+    length losses ≡ maxNodes → length entries ≡ maxNodes →
+    h1 ≡ paste (set h 0 number) 1 (drop 0 counts) maxNodes → h2 ≡ paste h1 33 (drop 0 stamps) maxNodes → h3 ≡ paste h2 65 (drop 0 gains) maxNodes → h4 ≡ paste h3 97 (drop 0 losses) maxNodes →
+    h5 ≡ paste (set h4 129 k) 130 (drop 0 entries) maxNodes →
     h5 ≡ over (headFrom number counts stamps gains losses k entries) h
 head-written h counts stamps gains losses entries h1 h2 h3 h4 h5 number k long lc ls lg ll le e1 e2 e3 e4 e5 =
     let d1 : List ℕ = (number ∷ []) ++ counts in
@@ -59,13 +59,13 @@ head-written h counts stamps gains losses entries h1 h2 h3 h4 h5 number k long l
     let n5 : length ((number ∷ []) ++ counts ++ stamps ++ gains ++ losses ++ (k ∷ []))
     ≡ 130 = omega (arith, length-append ((number ∷ []) ++ counts ++ stamps ++ gains ++ losses) (k ∷ []), n4) in
     let s0 : set h 0 number ≡ over (number ∷ []) h = over-one [] h 0 number refl (omega arith) in
-    let s1 : h1 ≡ over ((number ∷ []) ++ counts) h = e1 ∙ ap (λ (l : List ℕ). paste l 1 (drop 0 counts) 32) s0 ∙ over-more (number ∷ []) counts h 1 32 refl lc (omega arith) in
-    let s2 : h2 ≡ over ((number ∷ []) ++ counts ++ stamps) h = e2 ∙ ap (λ (l : List ℕ). paste l 33 (drop 0 stamps) 32) s1
-    ∙ over-more ((number ∷ []) ++ counts) stamps h 33 32 n1 ls (omega arith) in
-    let s3 : h3 ≡ over ((number ∷ []) ++ counts ++ stamps ++ gains) h = e3 ∙ ap (λ (l : List ℕ). paste l 65 (drop 0 gains) 32) s2
-    ∙ over-more ((number ∷ []) ++ counts ++ stamps) gains h 65 32 n2 lg (omega arith) in
-    let s4 : h4 ≡ over ((number ∷ []) ++ counts ++ stamps ++ gains ++ losses) h = e4 ∙ ap (λ (l : List ℕ). paste l 97 (drop 0 losses) 32) s3
-    ∙ over-more ((number ∷ []) ++ counts ++ stamps ++ gains) losses h 97 32 n3 ll (omega arith) in
+    let s1 : h1 ≡ over ((number ∷ []) ++ counts) h = e1 ∙ ap (λ (l : List ℕ). paste l 1 (drop 0 counts) maxNodes) s0 ∙ over-more (number ∷ []) counts h 1 maxNodes refl lc (omega arith) in
+    let s2 : h2 ≡ over ((number ∷ []) ++ counts ++ stamps) h = e2 ∙ ap (λ (l : List ℕ). paste l 33 (drop 0 stamps) maxNodes) s1
+    ∙ over-more ((number ∷ []) ++ counts) stamps h 33 maxNodes n1 ls (omega arith) in
+    let s3 : h3 ≡ over ((number ∷ []) ++ counts ++ stamps ++ gains) h = e3 ∙ ap (λ (l : List ℕ). paste l 65 (drop 0 gains) maxNodes) s2
+    ∙ over-more ((number ∷ []) ++ counts ++ stamps) gains h 65 maxNodes n2 lg (omega arith) in
+    let s4 : h4 ≡ over ((number ∷ []) ++ counts ++ stamps ++ gains ++ losses) h = e4 ∙ ap (λ (l : List ℕ). paste l 97 (drop 0 losses) maxNodes) s3
+    ∙ over-more ((number ∷ []) ++ counts ++ stamps ++ gains) losses h 97 maxNodes n3 ll (omega arith) in
     let s5 : set h4 129 k ≡ over ((number ∷ []) ++ counts ++ stamps ++ gains ++ losses ++ (k ∷ [])) h = ap (λ (l : List ℕ). set l 129 k) s4
     ∙ over-one ((number ∷ []) ++ counts ++ stamps ++ gains ++ losses) h 129 k n4 (omega arith) in
-    e5 ∙ ap (λ (l : List ℕ). paste l 130 (drop 0 entries) 32) s5 ∙ over-more ((number ∷ []) ++ counts ++ stamps ++ gains ++ losses ++ (k ∷ [])) entries h 130 32 n5 le (omega arith)
+    e5 ∙ ap (λ (l : List ℕ). paste l 130 (drop 0 entries) maxNodes) s5 ∙ over-more ((number ∷ []) ++ counts ++ stamps ++ gains ++ losses ++ (k ∷ [])) entries h 130 maxNodes n5 le (omega arith)

@@ -6,7 +6,7 @@ use mathlib.Core.List.{List, _∷_, _++_, map, zipWith, []}
 use native.Mathlib.Nat.{le-refl, zero-add}
 use lib.ListN.{length, take, length-map, getD}
 use lib.Seq.{ext-getD, getD-take, length-take-le, take-all}
-use Rattle.model.specs.Row.{Relation, numbersBelow}
+use Rattle.model.specs.Row.{Relation, numbersBelow, maxNodes}
 use Rattle.model.specs.Network.{AllFit, widths}
 use Rattle.network.specs.declared.Network.{Network}
 use Rattle.changes.specs.Written.{WorkedOut, filled, WritesNodes, gainedOf, lostOf}
@@ -15,7 +15,7 @@ use Rattle.worklist.specs.Listed.{listedIn, listTo}
 use Rattle.worklist.proofs.Worked.{worked-are}
 use Rattle.network.specs.Reading.{nodesOf, Built}
 use Rattle.model.specs.Areas.{Areas, holdingRows, rowsIn, layout, padded, stampAt, goodArea, over, areaOf, batchNumber, stateIn, headOf, rowCount, gainedCount, lostCount, goodStamps}
-use Rattle.model.specs.Areas.{goodWorked}
+use Rattle.model.specs.Areas.{goodWorked, areaSize, headWords}
 use Rattle.areas.specs.Lent.{lent}
 use Rattle.model.specs.Delta.{Change, netChanges, changeAt}
 use Rattle.coherence.proofs.Coherent.{nodes-count}
@@ -53,25 +53,25 @@ module _ (net : Network) (rows gained lost head work counts : List ℕ) (changed
   changes-many : length (netChanges old (o .new)) ≡ net .count
   changes-many = changes-count net rows gained lost head work counts changed o
 
-  few : net .count ≤ 32
+  few : net .count ≤ maxNodes
   few = b .sound .few
 
   -- ---- counts
 
-  counts-are : counts ≡ padded 32 (map length (o .new))
+  counts-are : counts ≡ padded maxNodes (map length (o .new))
   counts-are =
-      ends-padded 32 (net .count) counts (o .worked .sized .counts) few (o .worked .uncounted)
-      ∙ ap (padded 32)
+      ends-padded maxNodes (net .count) counts (o .worked .sized .counts) few (o .worked .uncounted)
+      ∙ ap (padded maxNodes)
       (ext-getD 0 (take (net .count) counts) (map length (o .new)) (first ∙ sym (length-map (o .new) length ∙ new-many))
       (λ i h. let k : i < net .count = rw first at h in getD-take (net .count) counts i 0 k ∙ o .worked .worked i k .count ∙ sym (lengths-at (o .new) i)))
     where
       first : length (take (net .count) counts) ≡ net .count
       first = length-take-le (net .count) counts (rw (o .worked .sized .counts) few)
 
-  sizes-are : (g : Change → Relation) (l : List ℕ) → l ≡ padded 32 (map length (take (net .count) (map g (netChanges old (o .new))))) →
-      l ≡ padded 32 (map (λ c. length (g c)) (netChanges old (o .new)))
+  sizes-are : (g : Change → Relation) (l : List ℕ) → l ≡ padded maxNodes (map length (take (net .count) (map g (netChanges old (o .new))))) →
+      l ≡ padded maxNodes (map (λ c. length (g c)) (netChanges old (o .new)))
   sizes-are g l e =
-      e ∙ ap (padded 32)
+      e ∙ ap (padded maxNodes)
       (ap (map length) (take-all (net .count) (map g (netChanges old (o .new))) (rw (length-map (netChanges old (o .new)) g ∙ changes-many) (le-refl (net .count))))
       ∙ sym (map-twice g (netChanges old (o .new))))
 
@@ -94,7 +94,7 @@ module _ (net : Network) (rows gained lost head work counts : List ℕ) (changed
 
   -- ---- all words
 
-  area-are : (rels : List Relation) (area after : List ℕ) (count : ℕ → ℕ) → Fitting (widths (nodesOf net)) rels → 8192 ≤ length area → goodArea layout (widths (nodesOf net)) count area
+  area-are : (rels : List Relation) (area after : List ℕ) (count : ℕ → ℕ) → Fitting (widths (nodesOf net)) rels → areaSize ≤ length area → goodArea layout (widths (nodesOf net)) count area
       ≡ true → after ≡ filled rels (net .count) area → after ≡ over (areaOf layout rels) area
   area-are rels area after count f long g e =
       let n : length rels ≡ net .count = f .size ∙ size net rows gained lost head work counts changed o in
@@ -105,15 +105,15 @@ module _ (net : Network) (rows gained lost head work counts : List ℕ) (changed
 
   pub state-written : (rows′ gained′ lost′ head′ gains losses stamps entries : List ℕ) (listed : List Bool) (number k : ℕ) (copy : List Relation) →
       number ≡ batchNumber head + 1 → WritesNodes (nodesOf net) (o .new) rows gained lost head rows′ gained′ lost′ gains losses (net .count) →
-      stamps ≡ padded 32 (stampsFrom head changed number (net .count)) →
-      ((i : ℕ) → i < net .count → getD listed i false ≡ listedIn net changed i) → entries ≡ padded 32 (listTo (net .levels) listed (net .count) (net .count)) →
+      stamps ≡ padded maxNodes (stampsFrom head changed number (net .count)) →
+      ((i : ℕ) → i < net .count → getD listed i false ≡ listedIn net changed i) → entries ≡ padded maxNodes (listTo (net .levels) listed (net .count) (net .count)) →
       k ≡ length (listTo (net .levels) listed (net .count) (net .count)) →
       head′ ≡ over (headFrom number counts stamps gains losses k entries) head →
       lent rows′ gained′ lost′ head′ ≡ holdingRows layout (o .new) (advanceRows (nodesOf net) (stateIn layout (nodesOf net) (lent rows gained lost head)) copy old (o .new))
       (lent rows gained lost head)
   unfolding headOf stateIn
   state-written rows′ gained′ lost′ head′ gains losses stamps entries listed number k copy en w es fl ee ek eh =
-      let longs : (8192 ≤ length rows) × (8192 ≤ length gained) × (8192 ≤ length lost) × (162 ≤ length head) = long-parts rows gained lost head (o .long) in
+      let longs : (areaSize ≤ length rows) × (areaSize ≤ length gained) × (areaSize ≤ length lost) × (headWords ≤ length head) = long-parts rows gained lost head (o .long) in
       let parts : (goodArea layout (widths (nodesOf net)) (rowCount head) rows ≡ true) × (goodArea layout (widths (nodesOf net)) (gainedCount head) gained ≡ true)
       × (goodArea layout (widths (nodesOf net)) (lostCount head) lost ≡ true) × (goodStamps (length (nodesOf net)) head ≡ true) × (goodWorked (length (nodesOf net)) head ≡ true) = form-parts
       (nodesOf net) (lent rows gained lost head) (o .form) in
@@ -128,9 +128,9 @@ module _ (net : Network) (rows gained lost head work counts : List ℕ) (changed
       λ j.
       (en j ∷ [])
       ++ counts-are j
-      ++ (es ∙ ap (λ (n : ℕ). padded 32 (stampsFrom head changed n (net .count))) en ∙ ap (padded 32) (stamps-are (batchNumber head + 1))) j
+      ++ (es ∙ ap (λ (n : ℕ). padded maxNodes (stampsFrom head changed n (net .count))) en ∙ ap (padded maxNodes) (stamps-are (batchNumber head + 1))) j
       ++ sizes-are (λ c. c .gained) gains (w .gains-are) j
       ++ sizes-are (λ c. c .lost) losses (w .losses-are) j
       ++ ((ek ∙ ap length list) j ∷ [])
-      ++ (ee ∙ ap (padded 32) list) j in
+      ++ (ee ∙ ap (padded maxNodes) list) j in
       λ j. record { rows = r j; gained = g j; lost = l j; head = (eh ∙ ap (λ (x : List ℕ). over x head) words) j }

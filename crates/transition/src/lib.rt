@@ -4,21 +4,21 @@ ghost use mathlib.Core.Bool.{cond};
 ghost use mathlib.Core.List.{List};
 ghost use Prim.Native.Nat.{_≤_};
 ghost use lib.ListN.{length};
-ghost use Rattle.model.specs.Row.{Relation};
+ghost use Rattle.model.specs.Row.{Relation, maxNodes};
 ghost use Rattle.model.specs.Network.{AllFit};
 ghost use Rattle.model.specs.Station.{advanceRows};
-ghost use Rattle.model.specs.Areas.{layout, padded, over, stateIn, rowsIn, batchNumber, holdingRows};
+ghost use Rattle.model.specs.Areas.{layout, padded, over, stateIn, rowsIn, batchNumber, holdingRows, headWords};
 ghost use Rattle.network.specs.Reading.{nodesOf};
 ghost use Rattle.areas.specs.Lent.{lent};
 ghost use Rattle.changes.specs.Written.{WorkedOut};
 ghost use Rattle.transition.specs.Head.{stampsFrom, headFrom};
 use areas::GAINED_COUNTS;
 use areas::LOST_COUNTS;
-use areas::NODES;
 use areas::ROW_COUNTS;
 use areas::STAMPS;
 use areas::WORKED;
 use network::Network;
+use nodes::MAX_NODES;
 
 // The stamp of a node: the new number if it changed.
 fn stamp_of(stamped: bool, number: u32, stamp: u32) -> u32
@@ -31,11 +31,11 @@ fn stamp_of(stamped: bool, number: u32, stamp: u32) -> u32
 }
 
 // The stamps of the first n nodes, then zeros.
-fn new_stamps(head: &[u32], changed: &[bool], number: u32, n: usize) -> [u32; NODES]
-    requires { ⌜ (n ≤ 32) × (162 ≤ length (now head)) × (n ≤ length (now changed)) ⌝ }
-    ensures { λ r. ⌜ r ≡ padded 32 (stampsFrom (now (head .entry)) (now (changed .entry)) number n) ⌝ }
+fn new_stamps(head: &[u32], changed: &[bool], number: u32, n: usize) -> [u32; MAX_NODES]
+    requires { ⌜ (n ≤ maxNodes) × (headWords ≤ length (now head)) × (n ≤ length (now changed)) ⌝ }
+    ensures { λ r. ⌜ r ≡ padded maxNodes (stampsFrom (now (head .entry)) (now (changed .entry)) number n) ⌝ }
 {
-    let mut stamps = [0u32; NODES];
+    let mut stamps = [0u32; MAX_NODES];
     let mut i = 0;
     while i < n {
         stamps[i] = stamp_of(changed[i], number, head[STAMPS + i]);
@@ -55,19 +55,19 @@ fn write_head(
     k: usize,
     entries: &[u32],
 )
-    requires { ⌜ (162 ≤ length (now head)) × (length (now counts) ≡ 32) × (length (now stamps) ≡ 32) × (length (now gains) ≡ 32)
-        × (length (now losses) ≡ 32) × (k ≤ 32) × (length (now entries) ≡ 32) ⌝ }
+    requires { ⌜ (headWords ≤ length (now head)) × (length (now counts) ≡ maxNodes) × (length (now stamps) ≡ maxNodes) × (length (now gains) ≡ maxNodes)
+        × (length (now losses) ≡ maxNodes) × (k ≤ maxNodes) × (length (now entries) ≡ maxNodes) ⌝ }
     ensures { λ _. ⌜ now (head .exit)
         ≡ over (headFrom number (now (counts .entry)) (now (stamps .entry)) (now (gains .entry)) (now (losses .entry)) k (now (entries .entry)))
         (now (head .entry)) ⌝ }
 {
     head[0] = number;
-    words::copy_run(counts, 0, head, ROW_COUNTS, NODES);
-    words::copy_run(stamps, 0, head, STAMPS, NODES);
-    words::copy_run(gains, 0, head, GAINED_COUNTS, NODES);
-    words::copy_run(losses, 0, head, LOST_COUNTS, NODES);
+    words::copy_run(counts, 0, head, ROW_COUNTS, MAX_NODES);
+    words::copy_run(stamps, 0, head, STAMPS, MAX_NODES);
+    words::copy_run(gains, 0, head, GAINED_COUNTS, MAX_NODES);
+    words::copy_run(losses, 0, head, LOST_COUNTS, MAX_NODES);
     head[WORKED] = k as u32;
-    words::copy_run(entries, 0, head, WORKED + 1, NODES);
+    words::copy_run(entries, 0, head, WORKED + 1, MAX_NODES);
 }
 
 // The state after an accepted batch, written over the one before, once every node's new rows are worked out.
@@ -95,8 +95,8 @@ pub fn write_state(
     let number = head[0] + 1;
     let count = net.count;
     let levels = net.levels;
-    let mut gains = [0u32; NODES];
-    let mut losses = [0u32; NODES];
+    let mut gains = [0u32; MAX_NODES];
+    let mut losses = [0u32; MAX_NODES];
     changes::write_nodes(
         net,
         work,
@@ -111,7 +111,7 @@ pub fn write_state(
     );
     let stamps = new_stamps(head, changed, number, count);
     let listed = worklist::listed_nodes(net, changed);
-    let mut entries = [0u32; NODES];
+    let mut entries = [0u32; MAX_NODES];
     let k = worklist::list_worked(&levels, &listed, count, &mut entries);
     write_head(head, number, counts, &stamps, &gains, &losses, k, &entries);
 }

@@ -10,13 +10,13 @@ use native.Mathlib.Omega.{arith}
 use lib.Dec.{leb}
 use borrow.Author.Tests.{le-leb}
 use Rattle.places.specs.Places.{Place, relationIn, Fills}
-use Rattle.model.specs.Row.{Relation, sameRows, ascending, place}
+use Rattle.model.specs.Row.{Relation, sameRows, ascending, place, maxNodes, maxRows, maxWidth}
 use Rattle.coherence.proofs.Agree.{sizes-differ, places-decide}
 use Rattle.places.proofs.Places.{place-count, place-wide, place-few, place-is}
 use Rattle.words.specs.Runs.{sameFirst}
 use Rattle.rows.specs.Rows.{Wide}
 use Rattle.model.proofs.Sets.{Ascending, and-both, ascending-true, sameRows-eq}
-use Rattle.model.specs.Areas.{goodPlace, placeOf, layout, heldIn, unusedZero}
+use Rattle.model.specs.Areas.{goodPlace, placeOf, layout, heldIn, unusedZero, areaSize, placeSize}
 use Rattle.rows.proofs.Checked.{place-length}
 use Rattle.rows.proofs.Place.{place-reads, place-clean}
 use Rattle.areas.specs.Lent.{placeAt}
@@ -42,34 +42,34 @@ module _ (w : ℕ) (new : List ℕ) (n : ℕ) (old : List ℕ) (m : ℕ) (p : Pl
   pub place-counts : (n ≡ m → ⊥) → true ≡ not (sameRows (relationIn w new n) (relationIn w old m))
   place-counts h = ap not (sym (sizes-differ a b (λ e. h (sym (place-count w new n p) ∙ e ∙ place-count w old m q))))
 
-  pub place-words-same : n ≡ m → sameFirst 256 new old ≡ sameRows (relationIn w new n) (relationIn w old m)
+  pub place-words-same : n ≡ m → sameFirst placeSize new old ≡ sameRows (relationIn w new n) (relationIn w old m)
   place-words-same e =
       places-decide w a b new old (p .narrow) (place-wide w new n p) (place-wide w old m q) (rw (place-count w new n p) (place-few w new n p))
       (place-count w new n p ∙ e ∙ sym (place-count w old m q)) (place-is w new n p) (place-is w old m q)
 
 -- a relation that stands in a place is of good form there, and is read back
-pub fills-place : (w : ℕ) (rel : Relation) (out : List ℕ) (n : ℕ) → w ≤ 4 → Wide w rel → Ascending rel → Fills rel out n → Place w out n × (relationIn w out n ≡ rel)
+pub fills-place : (w : ℕ) (rel : Relation) (out : List ℕ) (n : ℕ) → w ≤ maxWidth → Wide w rel → Ascending rel → Fills rel out n → Place w out n × (relationIn w out n ≡ rel)
 unfolding goodPlace
 fills-place w rel out n narrow wide asc f =
-    let few : length rel ≤ 64 = rw (← f .count) (f .few) in
-    let long : length out ≡ 256 = ap length (f .is) ∙ place-length w rel narrow wide few in
-    let whole : take 256 (drop (256 * 0) out) ≡ placeOf layout rel = take-all 256 out (rw long (le-refl 256)) ∙ f .is in
+    let few : length rel ≤ maxRows = rw (← f .count) (f .few) in
+    let long : length out ≡ placeSize = ap length (f .is) ∙ place-length w rel narrow wide few in
+    let whole : take placeSize (drop (placeSize * 0) out) ≡ placeOf layout rel = take-all placeSize out (rw long (le-refl placeSize)) ∙ f .is in
     let back : heldIn layout w n out 0 ≡ rel = ap (λ (k : ℕ). heldIn layout w k out 0) (f .count) ∙ place-reads layout w out 0 rel narrow wide few (rw long (omega arith)) whole in
     let clean : unusedZero layout w n out 0 ≡ true = ap (λ (k : ℕ). unusedZero layout w k out 0) (f .count)
     ∙ place-clean layout w out 0 rel narrow wide few (rw long (omega arith)) whole in (
       record {
         long = long;
         narrow = narrow;
-        good = and-both (leb n 64 && ascending (heldIn layout w n out 0)) (unusedZero layout w n out 0)
-            (and-both (leb n 64) (ascending (heldIn layout w n out 0)) (le-leb n 64 (f .few)) (ap ascending back ∙ ascending-true rel asc)) clean;
+        good = and-both (leb n maxRows && ascending (heldIn layout w n out 0)) (unusedZero layout w n out 0)
+            (and-both (leb n maxRows) (ascending (heldIn layout w n out 0)) (le-leb n maxRows (f .few)) (ap ascending back ∙ ascending-true rel asc)) clean;
       },
       back,
     )
 
 -- ---- rows put
 
-module _ (w : ℕ) (ws out : List ℕ) (n : ℕ) (rows : List ℕ) (i m : ℕ) (work counts : List ℕ) (changed : List Bool) (p : Place w out n) (q : Place w (placeAt rows i) m) (inside : i < 32)
-    (work-long : length work ≡ 8192) (few : length changed ≡ 32) where
+module _ (w : ℕ) (ws out : List ℕ) (n : ℕ) (rows : List ℕ) (i m : ℕ) (work counts : List ℕ) (changed : List Bool) (p : Place w out n) (q : Place w (placeAt rows i) m) (inside : i < maxNodes)
+    (work-long : length work ≡ areaSize) (few : length changed ≡ maxNodes) where
   abbrev new : Relation
   new = relationIn w out n
 
@@ -94,16 +94,16 @@ module _ (w : ℕ) (ws out : List ℕ) (n : ℕ) (rows : List ℕ) (i m : ℕ) (
       }
 
   -- other rows: they stand in the working rows
-  pub put-other : (d : Bool) → d ≡ not (sameRows new old) → d ≡ true → (after : List ℕ) → after ≡ paste work (i * 256) (drop 0 out) 256 →
+  pub put-other : (d : Bool) → d ≡ not (sameRows new old) → d ≡ true → (after : List ℕ) → after ≡ paste work (i * placeSize) (drop 0 out) placeSize →
       Puts old new out n (working ws rows work counts changed) (working ws rows after (set counts i n) (set changed i true)) i
   put-other d e z after f =
-      let fits : i * 256 + 256 ≤ length work = omega (arith, work-long) in
-      let long : 256 ≤ length out = omega (arith, p .long) in
+      let fits : i * placeSize + placeSize ≤ length work = omega (arith, work-long) in
+      let long : placeSize ≤ length out = omega (arith, p .long) in
       record {
         counts = refl;
         changed = ap (set changed i) (sym z ∙ e);
         place = ap (λ (t : Bool). placeAt (cond t after rows) i) (flag-set true) ∙ ap (λ (l : List ℕ). placeAt l i) f ∙ place-pasted work out i fits long
-            ∙ take-all 256 out (omega (arith, p .long));
-        work-long = ap length f ∙ length-paste work (i * 256) out 256 fits long ∙ work-long;
+            ∙ take-all placeSize out (omega (arith, p .long));
+        work-long = ap length f ∙ length-paste work (i * placeSize) out placeSize fits long ∙ work-long;
         work = λ j h k. ap (λ (l : List ℕ). placeAt l j) f ∙ place-other work out i fits long j k;
       }

@@ -5,10 +5,10 @@ use mathlib.Core.List.{List}
 use Prim.Native.Nat.{ℕ, _≤_, _<_}
 use lib.Dec.{eqb}
 use lib.ListN.{getD, length, set}
-use Rattle.model.specs.Row.{Relation, sameRows}
+use Rattle.model.specs.Row.{Relation, sameRows, maxNodes, maxRows}
 use Rattle.model.specs.Record.{Bytes}
 use Rattle.model.specs.Evaluation.{rowsAt}
-use Rattle.model.specs.Areas.{layout, placeOf}
+use Rattle.model.specs.Areas.{layout, placeOf, areaSize}
 use Rattle.network.specs.declared.Slot.{Slot}
 use Rattle.areas.specs.Lent.{placeAt}
 use Rattle.worklist.specs.Listed.{inputChanged}
@@ -27,7 +27,7 @@ nextRows slot level bs head m i = cond (mustWork slot level (m .changed)) (worke
 -- node i's new rows are there, with their count, and whether they are others than the old ones
 pub record Worked (head : List ℕ) (m : Working) (new : Relation) (i : ℕ) : Type 0 where
   pub count : getD (m .counts) i 0 ≡ length new
-  pub few : length new ≤ 64
+  pub few : length new ≤ maxRows
   pub changed : getD (m .changed) i false ≡ not (sameRows new (oldRows head m i))
   pub place : presentPlace m i ≡ placeOf layout new
 
@@ -36,20 +36,20 @@ pub record KeepsOthers (m after : Working) (i : ℕ) : Type 0 where
   pub sized : Sized after
   pub counts : (j : ℕ) → (j ≡ i → ⊥) → getD (after .counts) j 0 ≡ getD (m .counts) j 0
   pub changed : (j : ℕ) → (j ≡ i → ⊥) → getD (after .changed) j false ≡ getD (m .changed) j false
-  pub work : (j : ℕ) → j < 32 → (j ≡ i → ⊥) → placeAt (after .work) j ≡ placeAt (m .work) j
+  pub work : (j : ℕ) → j < maxNodes → (j ≡ i → ⊥) → placeAt (after .work) j ≡ placeAt (m .work) j
 
 -- rows of a place put as node i's new ones
 pub record Puts (old : Relation) (new : Relation) (out : List ℕ) (n : ℕ) (m after : Working) (i : ℕ) : Type 0 where
   pub counts : after .counts ≡ set (m .counts) i n
   pub changed : after .changed ≡ set (m .changed) i (not (sameRows new old))
   pub place : presentPlace after i ≡ out
-  pub work-long : length (after .work) ≡ 8192
-  pub work : (j : ℕ) → j < 32 → (j ≡ i → ⊥) → placeAt (after .work) j ≡ placeAt (m .work) j
+  pub work-long : length (after .work) ≡ areaSize
+  pub work : (j : ℕ) → j < maxNodes → (j ≡ i → ⊥) → placeAt (after .work) j ≡ placeAt (m .work) j
 
 -- a node is worked: its new rows are there, or they are more than 64
 abbrev pub WorksNode : List ℕ → Relation → Working → Working → ℕ → Bool → Type 0
 WorksNode head new m after i true = Worked head after new i × KeepsOthers m after i
-WorksNode head new m after i false = 64 < length new
+WorksNode head new m after i false = maxRows < length new
 
 -- ---- the nodes so far
 

@@ -4,11 +4,12 @@ ghost use mathlib.Core.Bool.{false, not};
 ghost use mathlib.Core.List.{List};
 ghost use Prim.Native.Nat.{ℕ, _≤_, _<_};
 ghost use lib.ListN.{length, getD};
-ghost use Rattle.model.specs.Row.{sameRows};
+ghost use Rattle.model.specs.Row.{sameRows, maxNodes, maxRows};
 ghost use Rattle.places.specs.Places.{Place, relationIn};
 ghost use Rattle.network.specs.Reading.{slotNode};
 ghost use Rattle.areas.specs.Lent.{placeAt};
 ghost use Rattle.model.specs.Network.{leftOf, rightOf};
+ghost use Rattle.model.specs.Areas.{areaSize, placeSize};
 ghost use Rattle.new_rows.specs.Working.{working, Workable};
 ghost use Rattle.working.specs.Worked.{mustWork, nextRows, WorksNode, Puts};
 use areas::PLACE;
@@ -29,7 +30,7 @@ fn must_work(slot: Slot, level: usize, changed: &[bool]) -> bool
 
 // Whether the rows of a place are others than those of node i in the rows area.
 fn differs(new: &[u32], n: usize, rows: &[u32], i: usize, m: usize) -> bool
-    requires { ⌜ (i < 32) × (8192 ≤ length (now rows)) × (length (now new) ≡ 256) ⌝ }
+    requires { ⌜ (i < maxNodes) × (areaSize ≤ length (now rows)) × (length (now new) ≡ placeSize) ⌝ }
     ensures { λ r. ⌜ ((w : ℕ) → Place w (now (new .entry)) n → Place w (placeAt (now (rows .entry)) i) m →
         r ≡ not (sameRows (relationIn w (now (new .entry)) n) (relationIn w (placeAt (now (rows .entry)) i) m))) ⌝ }
 {
@@ -51,8 +52,8 @@ fn put_node(
     counts: &mut [u32],
     changed: &mut [bool],
 )
-    requires { ⌜ (i < 32) × (n ≤ 64) × (8192 ≤ length (now rows)) × (length (now out) ≡ 256) × (length (now work) ≡ 8192) × (length (now counts) ≡ 32)
-        × (length (now changed) ≡ 32) × (getD (now changed) i false ≡ false) ⌝ }
+    requires { ⌜ (i < maxNodes) × (n ≤ maxRows) × (areaSize ≤ length (now rows)) × (length (now out) ≡ placeSize) × (length (now work) ≡ areaSize) × (length (now counts) ≡ maxNodes)
+        × (length (now changed) ≡ maxNodes) × (getD (now changed) i false ≡ false) ⌝ }
     ensures { λ _. ⌜ ((w : ℕ) (ws : List ℕ) → Place w (now (out .entry)) n → Place w (placeAt (now (rows .entry)) i) m →
         Puts (relationIn w (placeAt (now (rows .entry)) i) m) (relationIn w (now (out .entry)) n) (now (out .entry)) n
         (working ws (now (rows .entry)) (now (work .entry)) (now (counts .entry)) (now (changed .entry)))

@@ -9,7 +9,7 @@ use lib.ListN.{length, length-append, getD, replicate, length-replicate, set}
 use lib.Seq.{sets, getD-set-other, getD-set-same, ext-getD}
 use lib.Dec.{ltb}
 use borrow.Author.Tests.{lt-ltb, ltb-true, ltb-false}
-use Rattle.model.specs.Row.{numbersBelow, keep, keepIf}
+use Rattle.model.specs.Row.{numbersBelow, keep, keepIf, maxNodes}
 use Rattle.worklist.specs.Listed.{isOfLevel, levelList, listTo}
 use Rattle.model.proofs.Parts.{numbers-more, keep-append, sets-more, flat-append, flat-one, sets-first, counted-at, length-counted}
 use Rattle.states.proofs.Worked.{at-most-once, length-numbers}
@@ -34,8 +34,8 @@ module _ (levels : List ℕ) (listed : List Bool) (n level : ℕ) where
   level-more i = keep-more (isOfLevel levels listed level) i
 
   -- room for the next entry
-  pub level-room : (i k : ℕ) → i < n → k + length (levelList levels listed n level) ≤ 32 →
-      k + length (levelList levels listed i level) + length (keepIf (isOfLevel levels listed level i) i []) ≤ 32
+  pub level-room : (i k : ℕ) → i < n → k + length (levelList levels listed n level) ≤ maxNodes →
+      k + length (levelList levels listed i level) + length (keepIf (isOfLevel levels listed level i) i []) ≤ maxNodes
   level-room i k h room =
       let e : i + 1 + (n - (i + 1)) ≡ n = omega arith in
       let short : length (levelList levels listed (i + 1) level) ≤ length (levelList levels listed n level) = rw e at (keep-fewer (isOfLevel levels listed level) (i + 1) (n - (i + 1))) in
@@ -57,7 +57,7 @@ module _ (levels : List ℕ) (listed : List Bool) (n level : ℕ) where
   pub list-short : (l : ℕ) → length (listTo levels listed n l) ≤ n
   list-short l = omega (arith, at-most-once (λ i. getD levels i 0) (λ i. getD listed i false) l (numbersBelow n), length-numbers 0 n)
 
-  pub list-room : n ≤ 32 → length (listTo levels listed n level) + length (levelList levels listed n level) ≤ 32
+  pub list-room : n ≤ maxNodes → length (listTo levels listed n level) + length (levelList levels listed n level) ≤ maxNodes
   list-room h = omega (arith, h, list-short (level + 1), ap length list-more, length-append (listTo levels listed n level) (levelList levels listed n level))
 
   pub list-step : (entries before after : List ℕ) (k r : ℕ) → before ≡ sets entries 0 (listTo levels listed n level) → k ≡ length (listTo levels listed n level) →
@@ -70,8 +70,8 @@ module _ (levels : List ℕ) (listed : List Bool) (n level : ℕ) where
   )
 
 -- entries in an array of zeros
-pub sets-zeros : (l : List ℕ) → length l ≤ 32 → sets (replicate 32 0) 0 l ≡ padded 32 l
-sets-zeros l h = sets-first (replicate 32 0) l (rw (length-replicate {A = ℕ} 32 0) h) ∙ ap (λ (z : List ℕ). l ++ z) (drop-zeros (length l) 32)
+pub sets-zeros : (l : List ℕ) → length l ≤ maxNodes → sets (replicate maxNodes 0) 0 l ≡ padded maxNodes l
+sets-zeros l h = sets-first (replicate maxNodes 0) l (rw (length-replicate {A = ℕ} maxNodes 0) h) ∙ ap (λ (z : List ℕ). l ++ z) (drop-zeros (length l) maxNodes)
 
 -- ---- marks
 
@@ -84,7 +84,7 @@ listed-more f l i x h before e j k = go (ltb j i) refl
     go false g = let n : i ≤ j = ltb-false j i g in let same : j ≡ i = omega arith in rw same (getD-set-same l i x false h ∙ e)
 
 -- no mark past those that are set
-pub unlisted-more : (l : List Bool) (i : ℕ) (x : Bool) → ((j : ℕ) → i ≤ j → j < 32 → getD l j false ≡ false) → (j : ℕ) → i + 1 ≤ j → j < 32 → getD (set l i x) j false ≡ false
+pub unlisted-more : (l : List Bool) (i : ℕ) (x : Bool) → ((j : ℕ) → i ≤ j → j < maxNodes → getD l j false ≡ false) → (j : ℕ) → i + 1 ≤ j → j < maxNodes → getD (set l i x) j false ≡ false
 unlisted-more l i x past j h k = getD-set-other l i j x false (λ z. absurd (omega (arith, h, z))) ∙ past j (omega arith) k
 
 -- ---- the marks of 32 nodes, the first n of which are there
@@ -94,13 +94,13 @@ module _ (f : ℕ → Bool) (n : ℕ) where
   mark j = ltb j n && f j
 
   abbrev marks : List Bool
-  marks = map (λ j. ltb j n && f j) (numbersBelow 32)
+  marks = map (λ j. ltb j n && f j) (numbersBelow maxNodes)
 
-  marks-at : (i : ℕ) → i < 32 → getD marks i false ≡ mark i
-  marks-at i h = counted-at false (λ j. ltb j n && f j) 0 32 i h ∙ ap (λ j. ltb j n && f j) (zero-add i)
+  marks-at : (i : ℕ) → i < maxNodes → getD marks i false ≡ mark i
+  marks-at i h = counted-at false (λ j. ltb j n && f j) 0 maxNodes i h ∙ ap (λ j. ltb j n && f j) (zero-add i)
 
-  pub marks-set : (l : List Bool) → length l ≡ 32 → ((j : ℕ) → j < n → getD l j false ≡ f j) → ((j : ℕ) → n ≤ j → j < 32 → getD l j false ≡ false) → l ≡ marks
-  marks-set l e set past = ext-getD false l marks (e ∙ sym (length-counted (λ j. ltb j n && f j) 0 32)) at
+  pub marks-set : (l : List Bool) → length l ≡ maxNodes → ((j : ℕ) → j < n → getD l j false ≡ f j) → ((j : ℕ) → n ≤ j → j < maxNodes → getD l j false ≡ false) → l ≡ marks
+  marks-set l e set past = ext-getD false l marks (e ∙ sym (length-counted (λ j. ltb j n && f j) 0 maxNodes)) at
     where
       at : (i : ℕ) → i < length l → getD l i false ≡ getD marks i false
       at i h = go (ltb i n) refl ∙ sym (marks-at i (omega arith))
@@ -109,8 +109,8 @@ module _ (f : ℕ → Bool) (n : ℕ) where
           go true g = rw g (set i (ltb-true i n g))
           go false g = rw g (past i (ltb-false i n g) (omega arith))
 
-  pub marks-length : (l : List Bool) → l ≡ marks → length l ≡ 32
-  marks-length l e = ap length e ∙ length-counted (λ j. ltb j n && f j) 0 32
+  pub marks-length : (l : List Bool) → l ≡ marks → length l ≡ maxNodes
+  marks-length l e = ap length e ∙ length-counted (λ j. ltb j n && f j) 0 maxNodes
 
-  pub marks-listed : (l : List Bool) → l ≡ marks → n ≤ 32 → (i : ℕ) → i < n → getD l i false ≡ f i
+  pub marks-listed : (l : List Bool) → l ≡ marks → n ≤ maxNodes → (i : ℕ) → i < n → getD l i false ≡ f i
   marks-listed l e few i h = ap (λ (m : List Bool). getD m i false) e ∙ marks-at i (omega arith) ∙ rw (lt-ltb i n h)

@@ -4,7 +4,7 @@ use mathlib.Core.List.{List, map, flatMap}
 use Prim.Native.Nat.{ℕ}
 use lib.Dec.{eqb, ltb}
 use lib.ListN.{getD}
-use Rattle.model.specs.Row.{keep, numbersBelow}
+use Rattle.model.specs.Row.{keep, numbersBelow, maxNodes}
 use Rattle.network.specs.declared.Network.{Network}
 use Rattle.network.specs.declared.Slot.{Slot}
 use Rattle.network.specs.Reading.{slotNode, noSlot}
@@ -20,7 +20,7 @@ listedIn net changed i = cond (eqb (getD (net .levels) i 0) 0) false (inputChang
 
 -- which of 32 nodes are listed: past the last node none
 abbrev pub listedMarks : Network → List Bool → List Bool
-listedMarks net changed = map (λ i. ltb i (net .count) && listedIn net changed i) (numbersBelow 32)
+listedMarks net changed = map (λ i. ltb i (net .count) && listedIn net changed i) (numbersBelow maxNodes)
 
 -- a listed node of a level
 abbrev pub isOfLevel : List ℕ → List Bool → ℕ → ℕ → Bool

@@ -6,14 +6,14 @@ ghost use Prim.Native.Nat.{_+_, _≤_, _<_};
 ghost use lib.Dec.{eqb};
 ghost use lib.ListN.{length, replicate};
 ghost use lib.Seq.{sets};
-ghost use Rattle.model.specs.Row.{keepIf};
+ghost use Rattle.model.specs.Row.{keepIf, maxNodes};
 ghost use Rattle.model.specs.Network.{AllFit, leftOf, rightOf};
 ghost use Rattle.model.specs.Areas.{padded};
 ghost use Rattle.network.specs.Reading.{nodesOf, Built, slotNode};
 ghost use Rattle.worklist.specs.Listed.{inputChanged, listedMarks, isOfLevel, levelList, listTo};
-use areas::NODES;
 use network::Network;
 use network::Slot;
+use nodes::MAX_NODES;
 
 // Whether a derived node has an input that changed.
 pub fn input_changed(slot: Slot, changed: &[bool]) -> bool
@@ -41,11 +41,11 @@ fn is_listed(slot: Slot, level: usize, changed: &[bool]) -> bool
 }
 
 // For each node whether it is derived and has an input that changed; past the last node none is.
-pub fn listed_nodes(net: Network, changed: &[bool]) -> [bool; NODES]
-    requires { ⌜ Built net × AllFit (nodesOf net) × (length (now changed) ≡ 32) ⌝ }
+pub fn listed_nodes(net: Network, changed: &[bool]) -> [bool; MAX_NODES]
+    requires { ⌜ Built net × AllFit (nodesOf net) × (length (now changed) ≡ maxNodes) ⌝ }
     ensures { λ r. ⌜ r ≡ listedMarks net (now (changed .entry)) ⌝ }
 {
-    let mut listed = [false; NODES];
+    let mut listed = [false; MAX_NODES];
     let mut i = 0;
     while i < net.count {
         let slot = net.slots[i];
@@ -65,8 +65,8 @@ fn list_node(
     entries: &mut [u32],
     k: usize,
 ) -> usize
-    requires { ⌜ (i < length (now levels)) × (i < length (now listed)) × (i < 32) × (length (now entries) ≡ 32)
-        × (k + length (keepIf (isOfLevel (now levels) (now listed) level i) i []) ≤ 32) ⌝ }
+    requires { ⌜ (i < length (now levels)) × (i < length (now listed)) × (i < maxNodes) × (length (now entries) ≡ maxNodes)
+        × (k + length (keepIf (isOfLevel (now levels) (now listed) level i) i []) ≤ maxNodes) ⌝ }
     ensures { λ r. ⌜ (now (entries .exit)
         ≡ sets (now (entries .entry)) k (keepIf (isOfLevel (now (levels .entry)) (now (listed .entry)) level i) i []))
         × (r ≡ k + length (keepIf (isOfLevel (now (levels .entry)) (now (listed .entry)) level i) i [])) ⌝ }
@@ -90,8 +90,8 @@ fn list_level(
     entries: &mut [u32],
     k: usize,
 ) -> usize
-    requires { ⌜ (n ≤ length (now levels)) × (n ≤ length (now listed)) × (n ≤ 32) × (length (now entries) ≡ 32)
-        × (k + length (levelList (now levels) (now listed) n level) ≤ 32) ⌝ }
+    requires { ⌜ (n ≤ length (now levels)) × (n ≤ length (now listed)) × (n ≤ maxNodes) × (length (now entries) ≡ maxNodes)
+        × (k + length (levelList (now levels) (now listed) n level) ≤ maxNodes) ⌝ }
     ensures { λ r. ⌜ (now (entries .exit) ≡ sets (now (entries .entry)) k (levelList (now (levels .entry)) (now (listed .entry)) n level))
         × (r ≡ k + length (levelList (now (levels .entry)) (now (listed .entry)) n level)) ⌝ }
 {
@@ -106,9 +106,9 @@ fn list_level(
 
 // The listed nodes by level, then number, put in an array of zeros: how many.
 pub fn list_worked(levels: &[usize], listed: &[bool], n: usize, entries: &mut [u32]) -> usize
-    requires { ⌜ (n ≤ length (now levels)) × (n ≤ length (now listed)) × (n ≤ 32) × (now entries ≡ replicate 32 0) ⌝ }
-    ensures { λ r. ⌜ (now (entries .exit) ≡ padded 32 (listTo (now (levels .entry)) (now (listed .entry)) n n))
-        × (r ≡ length (listTo (now (levels .entry)) (now (listed .entry)) n n)) × (r ≤ 32) ⌝ }
+    requires { ⌜ (n ≤ length (now levels)) × (n ≤ length (now listed)) × (n ≤ maxNodes) × (now entries ≡ replicate maxNodes 0) ⌝ }
+    ensures { λ r. ⌜ (now (entries .exit) ≡ padded maxNodes (listTo (now (levels .entry)) (now (listed .entry)) n n))
+        × (r ≡ length (listTo (now (levels .entry)) (now (listed .entry)) n n)) × (r ≤ maxNodes) ⌝ }
 {
     let mut k = 0;
     let mut level = 0;

@@ -5,7 +5,7 @@ use lib.Seq.{slice}
 use borrow.Author.Needs.{needs}
 use borrow.Author.Tests.{not-false, not-true}
 use Rattle.areas.proofs.good_place.Statement.{statement}
-use Rattle.model.specs.Areas.{allZero}
+use Rattle.model.specs.Areas.{allZero, placeSize, stride}
 use Rattle.areas.proofs.Good.{part-is, place-form, too-many}
 use Rattle.areas.specs.Lent.{placeAt}
 use Rattle.areas.proofs.good_place.Tie as tie
@@ -45,7 +45,7 @@ returns-2 : tie.Need-returns-2
 returns-2 c =
     let a = c .before .before .before .before .before .args in
     sym (place-form (a .width) (a .count) (a .area .now) (placeAt (a .area .now) (a .i)) (a .i) (c .before .good-rows .result)
-    (allZero (slice (a .count * 4) 256 (placeAt (a .area .now) (a .i)))) (c .before .before .before .before .before .pre .2) (omega arith)
+    (allZero (slice (a .count * stride) placeSize (placeAt (a .area .now) (a .i)))) (c .before .before .before .before .before .pre .2) (omega arith)
     (c .before .before .before .before .before .pre .0) (c .before .before .before .before .before .pre .1) (part-is (a .area .now) (a .i)) (c .before .good-rows .ensures) refl
     ∙ rw (not-true (c .before .good-rows .result) (c .if2 .taken)))
 

@@ -8,16 +8,17 @@ use borrow.Author.Needs.{needs}
 use Rattle.areas.proofs.good_worked.Statement.{statement}
 use Rattle.areas.proofs.All.{AllTo, all-none, all-not, all-more, all-done}
 use Rattle.model.specs.Areas.{workedCount, workedAt, goodWorked}
+use Rattle.model.specs.Row.{maxNodes}
 use Rattle.areas.proofs.good_worked.Tie as tie
 use Rattle.areas.proofs.good_worked.Reads as reads
 use Rattle.areas.proofs.good_worked.Lts as lts
 use Rattle.areas.proofs.good_entry.Reads as good-entry-reads
 
 abbrev Inv-loop : tie.InvT-loop
-Inv-loop head n counted k₀ k = (k ≤ 32) × AllTo (λ j. cond (ltb j (workedCount head)) (ltb (workedAt head j) n) (eqb (workedAt head j) 0)) 32 k
+Inv-loop head n counted k₀ k = (k ≤ maxNodes) × AllTo (λ j. cond (ltb j (workedCount head)) (ltb (workedAt head j) n) (eqb (workedAt head j) 0)) maxNodes k
 
 abbrev μ-loop : tie.MeasureT-loop
-μ-loop head n counted k₀ k = 32 - k
+μ-loop head n counted k₀ k = maxNodes - k
 
 shared-slice-read-counted : tie.Need-shared-slice-read-counted Inv-loop μ-loop
 shared-slice-read-counted c = omega arith
@@ -31,7 +32,7 @@ returns c = let a = c .before .before .before .args in rw (lt-leb (workedCount (
 
 loop-holds : tie.Need-loop-holds Inv-loop μ-loop
 loop-holds c = let a = c .before .before .before .args
-    in (omega arith, all-none (λ k. cond (ltb k (workedCount (a .head .now))) (ltb (workedAt (a .head .now) k) (a .n)) (eqb (workedAt (a .head .now) k) 0)) 32)
+    in (omega arith, all-none (λ k. cond (ltb k (workedCount (a .head .now))) (ltb (workedAt (a .head .now) k) (a .n)) (eqb (workedAt (a .head .now) k) 0)) maxNodes)
 
 good-entry-requires : tie.Need-good-entry-requires Inv-loop μ-loop
 good-entry-requires c κs = search needs
@@ -40,7 +41,7 @@ returns-2 : tie.Need-returns-2 Inv-loop μ-loop
 unfolding goodWorked
 returns-2 c = let a = c .before .before .before .before .before .before .before .args
     in rw (le-leb (workedCount (a .head .now)) (a .n) (omega (arith, c .before .before .before .before .if1 .left)))
-    (sym (all-not (λ k. cond (ltb k (workedCount (a .head .now))) (ltb (workedAt (a .head .now) k) (a .n)) (eqb (workedAt (a .head .now) k) 0)) 32 (c .before .before .before .loop .k)
+    (sym (all-not (λ k. cond (ltb k (workedCount (a .head .now))) (ltb (workedAt (a .head .now) k) (a .n)) (eqb (workedAt (a .head .now) k) 0)) maxNodes (c .before .before .before .loop .k)
     (c .before .good-entry .result) (omega arith) (c .before .good-entry .ensures) (c .if2 .taken)))
 
 add-k : tie.Need-add-k Inv-loop μ-loop
@@ -53,14 +54,14 @@ loop-again : tie.Need-loop-again Inv-loop μ-loop
 loop-again c = let a = c .before .before .before .before .before .before .before .args
     in (
       omega arith,
-      all-more (λ k. cond (ltb k (workedCount (a .head .now))) (ltb (workedAt (a .head .now) k) (a .n)) (eqb (workedAt (a .head .now) k) 0)) 32
+      all-more (λ k. cond (ltb k (workedCount (a .head .now))) (ltb (workedAt (a .head .now) k) (a .n)) (eqb (workedAt (a .head .now) k) 0)) maxNodes
           (c .before .before .before .loop .k) (c .before .good-entry .result) (c .before .before .before .loop .inv .1) (c .before .good-entry .ensures) (c .if2 .left),
     )
 
 returns-3 : tie.Need-returns-3 Inv-loop μ-loop
 unfolding goodWorked
 returns-3 c = let a = c .before .before .before .before .before .args in rw (le-leb (workedCount (a .head .now)) (a .n) (omega (arith, c .before .before .if1 .left)))
-    (sym (all-done (λ k. cond (ltb k (workedCount (a .head .now))) (ltb (workedAt (a .head .now) k) (a .n)) (eqb (workedAt (a .head .now) k) 0)) 32 (c .before .loop .k) (omega arith)
+    (sym (all-done (λ k. cond (ltb k (workedCount (a .head .now))) (ltb (workedAt (a .head .now) k) (a .n)) (eqb (workedAt (a .head .now) k) 0)) maxNodes (c .before .loop .k) (omega arith)
     (c .before .loop .inv .1)))
 
 pub good-worked-spec : {M : Type 1} → statement M

@@ -10,6 +10,7 @@ use Rattle.changes.proofs.write_difference.Reads as reads
 use Rattle.changes.proofs.write_difference.Lts as lts
 use Rattle.sets.proofs.difference_rows.Reads as difference-rows-reads
 use Rattle.words.proofs.copy_run.Reads as copy-run-reads
+use Rattle.model.specs.Areas.{placeSize}
 
 slice-aggregate-difference-rows : tie.Need-slice-aggregate-difference-rows
 slice-aggregate-difference-rows c = search needs
@@ -39,7 +40,7 @@ same-length c = search needs
 returns : tie.Need-returns
 returns c = let a = (c .before .before .before .before .before .before .before .before .before .before .before .args) in λ w p q. let f =
     c .before .before .before .before .before .before .difference-rows .ensures w p q
-    in (c .before .before .copy-run .ensures ∙ ap (λ (l : List ℕ). paste (a .area .now) (a .i * 256) l 256) (f .is), f .count)
+    in (c .before .before .copy-run .ensures ∙ ap (λ (l : List ℕ). paste (a .area .now) (a .i * placeSize) l placeSize) (f .is), f .count)
 
 pub write-difference-spec : {M : Type 1} → statement M
 write-difference-spec =

@@ -6,9 +6,9 @@ use Rattle.joins.proofs.Rows.{columns-more}
 use Rattle.model.specs.Network.{evaluateOn, evaluateSet}
 use Rattle.evaluation.proofs.Inside.{fills-none, join-fits, join-inside, operand-narrow, project-inside, select-inside, set-inside}
 use Rattle.model.specs.Algebra.{joinRows, projectRows}
+use Rattle.model.specs.Areas.{stride}
 use Rattle.nodes.specs.Nodes.{operationOf, pairsOf}
 use Rattle.places.proofs.Places.{place-few}
-use Rattle.rows.specs.Rows.{stride}
 use Rattle.evaluation.proofs.evaluate.Tie as tie
 
 enum-told : tie.Need-enum-told

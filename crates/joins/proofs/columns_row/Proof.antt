@@ -5,14 +5,15 @@ use lib.ListN.{length, length-set}
 use Rattle.joins.proofs.columns_row.Statement.{statement}
 use Rattle.joins.proofs.Rows.{column-below, filled, row-filled, row-started}
 use Rattle.joins.specs.Joins.{joinedField}
-use Rattle.rows.specs.Rows.{rowAt, stride}
+use Rattle.rows.specs.Rows.{rowAt}
 use Rattle.joins.proofs.columns_row.Tie as tie
 use Rattle.joins.proofs.columns_row.Reads as reads
 use Rattle.joins.proofs.columns_row.Lts as lts
 use Rattle.joins.proofs.joined_field.Reads as joined-field-reads
+use Rattle.model.specs.Areas.{stride}
 
 abbrev Inv-loop : tie.InvT-loop
-Inv-loop left i right j split columns n row₀ k₀ row k = (k ≤ n) × (row ≡ filled (joinedField split (rowAt stride left i) (rowAt stride right j)) columns k) × (length row ≡ 4)
+Inv-loop left i right j split columns n row₀ k₀ row k = (k ≤ n) × (row ≡ filled (joinedField split (rowAt stride left i) (rowAt stride right j)) columns k) × (length row ≡ stride)
 
 abbrev μ-loop : tie.MeasureT-loop
 μ-loop left i right j split columns n row₀ k₀ row k = n - k

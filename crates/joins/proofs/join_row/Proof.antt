@@ -13,10 +13,11 @@ use Rattle.places.specs.Places.{Stands, Stored, insertAll}
 use Rattle.joins.specs.Joins.{joinedRow, JoinFits}
 use Rattle.model.specs.Algebra.{agree}
 use Rattle.model.proofs.Sets.{ascending-holds}
+use Rattle.model.specs.Areas.{placeSize, stride}
 use Rattle.joins.proofs.Joins.{few-given, joined-from, joinedIf, wide-joined}
 use Rattle.joins.proofs.Rows.{joined-length, row-made}
 use Rattle.places.proofs.Puts.{put-exceeds, put-none, put-ready, put-stands, put-start, putFrom}
-use Rattle.rows.specs.Rows.{firstRows, rowAt, stride}
+use Rattle.rows.specs.Rows.{firstRows, rowAt}
 use Rattle.nodes.specs.Nodes.{pairsOf}
 use Rattle.rows.proofs.Words.{wide-rows}
 use Rattle.joins.proofs.join_row.Tie as tie
@@ -38,7 +39,7 @@ joined-none : (how : Joining) (l r : Row) → agree (pairsOf (how .p) (how .pair
 joined-none how l r e = rw e
 
 abbrev Inv-loop : tie.InvT-loop
-Inv-loop left i right m out₀ count how rows₀ j₀ out rows j = (j ≤ m) × (length out ≡ 256) × Stands (putFrom (joinedIf how (rowAt stride left i)) (firstRows out₀ count) right m j) out rows
+Inv-loop left i right m out₀ count how rows₀ j₀ out rows j = (j ≤ m) × (length out ≡ placeSize) × Stands (putFrom (joinedIf how (rowAt stride left i)) (firstRows out₀ count) right m j) out rows
 
 abbrev μ-loop : tie.MeasureT-loop
 μ-loop left i right m out₀ count how rows₀ j₀ out rows j = j
@@ -49,7 +50,7 @@ loop-holds c = let a = c .before .before .before .args
       omega arith,
       c .before .before .before .pre .5,
       put-start (joinedIf (a .t5) (rowAt stride (a .left .now) (a .i))) (firstRows (a .out .now) (a .count)) (a .right .now) (a .m)
-          (wide-joined (a .t5) (c .before .before .before .pre .2) (rowAt stride (a .left .now) (a .i))) (wide-rows 4 (a .out .now) 0 (a .count))
+          (wide-joined (a .t5) (c .before .before .before .pre .2) (rowAt stride (a .left .now) (a .i))) (wide-rows stride (a .out .now) 0 (a .count))
           (ascending-holds (firstRows (a .out .now) (a .count)) (c .before .before .before .pre .4)) (a .out .now) (a .count) (c .before .before .before .pre .3),
     )
 
@@ -82,7 +83,7 @@ put-row-requires c κs =
     let a = c .before .before .before .before .before .before .before .before .before .before .before .before .before .before .before .before .args in
     let r = put-ready (joinedIf (a .t5) (rowAt stride (a .left .now) (a .i))) (firstRows (a .out .now) (a .count)) (a .right .now) (a .m)
     (wide-joined (a .t5) (c .before .before .before .before .before .before .before .before .before .before .before .before .before .before .before .before .pre .2)
-    (rowAt stride (a .left .now) (a .i))) (wide-rows 4 (a .out .now) 0 (a .count))
+    (rowAt stride (a .left .now) (a .i))) (wide-rows stride (a .out .now) 0 (a .count))
     (ascending-holds (firstRows (a .out .now) (a .count))
     (c .before .before .before .before .before .before .before .before .before .before .before .before .before .before .before .before .pre .4))
     (c .before .before .before .before .before .before .before .before .before .before .before .before .loop .j)
@@ -131,7 +132,7 @@ returns c =
     (sym (c .before .before .before .before .before .before .before .before .before .before .before .before .rows-agree .ensures)
     ∙ c .before .before .before .before .before .before .before .before .before .before .before .if1 .taken)
     (c .before .before .before .before .before .before .before .columns-row .ensures) (p .ensures) in
-    let over = put-exceeds (joinedIf (a .t5) row) base (a .right .now) (a .m) (wide-joined (a .t5) fits row) (wide-rows 4 (a .out .now) 0 (a .count))
+    let over = put-exceeds (joinedIf (a .t5) row) base (a .right .now) (a .m) (wide-joined (a .t5) fits row) (wide-rows stride (a .out .now) 0 (a .count))
     asc (l .j) (l .out) (p .last .0) (l .rows) (p .result)
     (c .enum-told .given .1) (omega arith) (omega arith) (l .inv .2) put in
     (rw (← joined-from (a .t5) fits row base (a .right .now) (a .m)) (over .0), over .1)
@@ -155,7 +156,7 @@ loop-again c =
     (sym (c .before .before .before .before .before .before .before .before .before .before .before .before .before .rows-agree .ensures)
     ∙ c .before .before .before .before .before .before .before .before .before .before .before .before .if1 .taken)
     (c .before .before .before .before .before .before .before .before .columns-row .ensures) (p .ensures) in
-    let s = put-stands (joinedIf (a .t5) row) base (a .right .now) (a .m) (wide-joined (a .t5) fits row) (wide-rows 4 (a .out .now) 0 (a .count))
+    let s = put-stands (joinedIf (a .t5) row) base (a .right .now) (a .m) (wide-joined (a .t5) fits row) (wide-rows stride (a .out .now) 0 (a .count))
     asc (l .j) (l .out) (p .last .0) (l .rows) (c .before .more .given .0 .0)
     (p .result) (c .before .more .given .1) (omega arith) (omega arith) (l .inv .2) put in
     (omega arith, s .0, s .1)
@@ -172,7 +173,7 @@ loop-again-2 c =
       c .before .before .before .before .before .before .loop .inv .1,
       put-none (joinedIf (a .t5) (rowAt stride (a .left .now) (a .i))) (firstRows (a .out .now) (a .count))
           (a .right .now) (a .m) (wide-joined (a .t5) (c .before .before .before .before .before .before .before .before .before .before .pre .2) (rowAt stride (a .left .now) (a .i)))
-          (wide-rows 4 (a .out .now) 0 (a .count))
+          (wide-rows stride (a .out .now) 0 (a .count))
           (ascending-holds (firstRows (a .out .now) (a .count)) (c .before .before .before .before .before .before .before .before .before .before .pre .4))
           (c .before .before .before .before .before .before .loop .j) (c .before .before .before .before .before .before .loop .out)
           (c .before .before .before .before .before .before .loop .rows) (omega arith) (omega arith) none (c .before .before .before .before .before .before .loop .inv .2),

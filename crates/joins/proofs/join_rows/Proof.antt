@@ -11,6 +11,7 @@ use Rattle.joins.proofs.Joins.{few-given, join-is, join-wide, wide-with
 use Rattle.places.proofs.Puts.{model-exceeds, model-fills, put-exceeds, put-ready, put-stands, put-start, putFrom, stands-none}
 use Rattle.rows.specs.Rows.{firstRows}
 use Rattle.model.specs.Algebra.{joinRows}
+use Rattle.model.specs.Areas.{placeSize, stride}
 use Rattle.nodes.specs.Nodes.{pairsOf}
 use Rattle.rows.proofs.Words.{wide-rows}
 use Rattle.joins.proofs.join_rows.Tie as tie
@@ -19,7 +20,7 @@ use Rattle.joins.proofs.join_rows.Lts as lts
 use Rattle.joins.proofs.join_row.Reads as join-row-reads
 
 abbrev Inv-loop : tie.InvT-loop
-Inv-loop left n right m how out₀ count₀ i₀ out count i = (i ≤ n) × (length out ≡ 256) × Stands (putFrom (joinedWith how (firstRows right m)) [] left n i) out count
+Inv-loop left n right m how out₀ count₀ i₀ out count i = (i ≤ n) × (length out ≡ placeSize) × Stands (putFrom (joinedWith how (firstRows right m)) [] left n i) out count
 
 abbrev μ-loop : tie.MeasureT-loop
 μ-loop left n right m how out₀ count₀ i₀ out count i = i
@@ -28,9 +29,9 @@ loop-holds : tie.Need-loop-holds Inv-loop μ-loop
 loop-holds c = let a = c .before .before .before .args
     in (
       omega arith,
-      ap length (c .before .before .before .pre .3) ∙ length-replicate {A = ℕ} 256 0,
+      ap length (c .before .before .before .pre .3) ∙ length-replicate {A = ℕ} placeSize 0,
       put-start (joinedWith (a .how) (firstRows (a .right .now) (a .m))) [] (a .left .now)
-          (a .n) (λ l e. wide-with (a .how) (c .before .before .before .pre .2) (firstRows (a .right .now) (a .m)) l e (wide-rows 4 (a .right .now) 0 (a .m))) tt tt (a .out .now) 0
+          (a .n) (λ l e. wide-with (a .how) (c .before .before .before .pre .2) (firstRows (a .right .now) (a .m)) l e (wide-rows stride (a .right .now) 0 (a .m))) tt tt (a .out .now) 0
           (stands-none (a .out .now) (c .before .before .before .pre .3)),
     )
 
@@ -41,7 +42,7 @@ join-row-requires : tie.Need-join-row-requires Inv-loop μ-loop
 join-row-requires c κs =
     let a = c .before .before .before .before .before .before .args in
     let r = put-ready (joinedWith (a .how) (firstRows (a .right .now) (a .m))) [] (a .left .now) (a .n)
-    (λ l e. wide-with (a .how) (c .before .before .before .before .before .before .pre .2) (firstRows (a .right .now) (a .m)) l e (wide-rows 4 (a .right .now) 0 (a .m))) tt tt
+    (λ l e. wide-with (a .how) (c .before .before .before .before .before .before .pre .2) (firstRows (a .right .now) (a .m)) l e (wide-rows stride (a .right .now) 0 (a .m))) tt tt
     (c .before .before .loop .i) (c .before .before .loop .out) (c .before .before .loop .count) (c .before .before .loop .inv .2) in
     (omega arith, c .before .before .before .before .before .before .pre .1, c .before .before .before .before .before .before .pre .2, r .0, r .1, c .before .before .loop .inv .1)
 
@@ -63,7 +64,7 @@ returns c =
     let p = c .before .before .before .before .join-row in
     let right = firstRows (a .right .now) (a .m) in
     let fits = c .before .before .before .before .before .before .before .before .before .before .before .pre .2 in
-    let over = put-exceeds (joinedWith (a .how) right) [] (a .left .now) (a .n) (λ x e. wide-with (a .how) fits right x e (wide-rows 4 (a .right .now) 0 (a .m))) tt tt (l .i) (l .out)
+    let over = put-exceeds (joinedWith (a .how) right) [] (a .left .now) (a .n) (λ x e. wide-with (a .how) fits right x e (wide-rows stride (a .right .now) 0 (a .m))) tt tt (l .i) (l .out)
     (p .last .1 .1 .1 .1 .1 .0) (l .count) (p .result) (c .enum-told .given .1) (omega arith) (omega arith) (l .inv .2) (p .ensures) in
     λ w pl pr inside. (
       model-exceeds (putFrom (joinedWith (a .how) right) [] (a .left .now) (a .n) 0)
@@ -83,7 +84,7 @@ loop-again c =
     let p = c .before .before .before .before .before .join-row in
     let right = firstRows (a .right .now) (a .m) in
     let fits = c .before .before .before .before .before .before .before .before .before .before .before .before .pre .2 in
-    let s = put-stands (joinedWith (a .how) right) [] (a .left .now) (a .n) (λ x e. wide-with (a .how) fits right x e (wide-rows 4 (a .right .now) 0 (a .m))) tt tt (l .i) (l .out)
+    let s = put-stands (joinedWith (a .how) right) [] (a .left .now) (a .n) (λ x e. wide-with (a .how) fits right x e (wide-rows stride (a .right .now) 0 (a .m))) tt tt (l .i) (l .out)
     (p .last .1 .1 .1 .1 .1 .0) (l .count) (c .before .more .given .0 .0) (p .result) (c .before .more .given .1) (omega arith) (omega arith) (l .inv .2) (p .ensures) in
     (omega arith, s .0, s .1)
 

@@ -15,18 +15,20 @@ use Rattle.places.proofs.Puts.{putFrom, stands-none}
 use Rattle.joins.proofs.Rows.{row-made}
 use Rattle.joins.proofs.Projects.{wide-projected}
 use Rattle.model.specs.Algebra.{projectRows}
-use Rattle.rows.specs.Rows.{rowAt, stride}
+use Rattle.model.specs.Row.{maxWidth}
+use Rattle.model.specs.Areas.{placeSize, stride}
+use Rattle.rows.specs.Rows.{rowAt}
 use Rattle.joins.proofs.project_rows.Tie as tie
 use Rattle.joins.proofs.project_rows.Reads as reads
 use Rattle.joins.proofs.project_rows.Lts as lts
 use Rattle.joins.proofs.columns_row.Reads as columns-row-reads
 use Rattle.places.proofs.put_row.Reads as put-row-reads
 
-few-columns : (n : ℕ) (columns : List ℕ) → n ≤ 4 → n ≤ length columns → length (take n columns) ≤ 4
+few-columns : (n : ℕ) (columns : List ℕ) → n ≤ maxWidth → n ≤ length columns → length (take n columns) ≤ maxWidth
 few-columns n columns h g = rw (length-take-le n columns g) h
 
 abbrev Inv-loop : tie.InvT-loop
-Inv-loop input n columns c out₀ count₀ i₀ out count i = (i ≤ n) × (length out ≡ 256) × Stands (putFrom (projected (take c columns)) [] input n i) out count
+Inv-loop input n columns c out₀ count₀ i₀ out count i = (i ≤ n) × (length out ≡ placeSize) × Stands (putFrom (projected (take c columns)) [] input n i) out count
 
 abbrev μ-loop : tie.MeasureT-loop
 μ-loop input n columns c out₀ count₀ i₀ out count i = i
@@ -36,7 +38,7 @@ loop-holds c =
     let a = c .before .before .before .args in
     let wf = wide-projected (take (a .c) (a .columns .now)) (few-columns (a .c) (a .columns .now) (c .before .before .before .pre .1) (c .before .before .before .pre .2)) in (
       omega arith,
-      ap length (c .before .before .before .pre .4) ∙ length-replicate {A = ℕ} 256 0,
+      ap length (c .before .before .before .pre .4) ∙ length-replicate {A = ℕ} placeSize 0,
       put-start (projected (take (a .c) (a .columns .now))) [] (a .input .now) (a .n) wf tt tt
           (a .out .now) 0 (stands-none (a .out .now) (c .before .before .before .pre .4)),
     )

@@ -4,9 +4,10 @@ use native.Mathlib.Omega.{arith}
 use borrow.Author.Tests.{not-false, not-true}
 use Rattle.joins.proofs.rows_agree.Statement.{statement}
 use Rattle.model.specs.Algebra.{agree}
+use Rattle.model.specs.Areas.{stride}
 use Rattle.joins.proofs.Rows.{agrees-done, agrees-first, agrees-more, agrees-not, agreesFrom, pair-below}
 use Rattle.nodes.specs.Nodes.{pairsOf}
-use Rattle.rows.specs.Rows.{rowAt, stride}
+use Rattle.rows.specs.Rows.{rowAt}
 use Rattle.joins.proofs.rows_agree.Tie as tie
 use Rattle.joins.proofs.rows_agree.Reads as reads
 use Rattle.joins.proofs.rows_agree.Lts as lts

@@ -3,6 +3,7 @@ use Prim.Native.Nat.{_-_, _≤_}
 use lib.ListN.{length, take, length-set}
 use Rattle.model.specs.Areas.{padded}
 use Rattle.model.specs.Record.{fieldsAt}
+use Rattle.model.specs.Row.{maxWidth}
 use Rattle.network.specs.Reading.{Ends}
 use Rattle.network.proofs.Building.{set-ends, zero-at}
 use Rattle.network.proofs.Kept.{ends-padded}
@@ -56,7 +57,7 @@ returns c =
     let a = c .before .before .before .args in
     let l = c .before .loop in
     let e : l .i ≡ a .n = omega arith in
-    ends-padded 4 (a .n) (l .fields) (l .inv .1) (omega arith) (rw e at (l .inv .3)) ∙ ap (padded 4) (rw e at (l .inv .2))
+    ends-padded maxWidth (a .n) (l .fields) (l .inv .1) (omega arith) (rw e at (l .inv .3)) ∙ ap (padded maxWidth) (rw e at (l .inv .2))
 
 pub columns-of-spec : {M : Type 1} → statement M
 columns-of-spec =

@@ -2,6 +2,7 @@ use mathlib.Core.Path.{_≡_, refl, _∙_}
 use Prim.Native.Nat.{_≤_, _-_}
 use lib.ListN.{length, length-set, getD, take}
 use Rattle.model.specs.Areas.{padded}
+use Rattle.model.specs.Row.{maxNodes}
 use Rattle.nodes.specs.Nodes.{listsOf, pairsOf}
 use Rattle.network.specs.Reading.{noSlot}
 use Rattle.network.proofs.Kept.{kindsTo, kinds-more}
@@ -14,7 +15,7 @@ use Rattle.network.proofs.kinds_of.Lts as lts
 use Rattle.nodes.proofs.parts_of.Reads as parts-of-reads
 
 abbrev Inv-loop : tie.InvT-loop
-Inv-loop net kinds₀ count i₀ kinds i = (i ≤ count) × (length kinds ≡ 32) × (kinds ≡ padded 32 (kindsTo (net .slots) i))
+Inv-loop net kinds₀ count i₀ kinds i = (i ≤ count) × (length kinds ≡ maxNodes) × (kinds ≡ padded maxNodes (kindsTo (net .slots) i))
 
 abbrev μ-loop : tie.MeasureT-loop
 μ-loop net kinds₀ count i₀ kinds i = count - i

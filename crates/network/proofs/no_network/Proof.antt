@@ -5,6 +5,7 @@ use Rattle.model.specs.Network.{build, levels, widths}
 use Rattle.network.proofs.Building.{zero-at}
 use Rattle.network.proofs.no_network.Statement.{statement}
 use Rattle.model.specs.Network as model
+use Rattle.model.specs.Row.{maxNodes}
 use Rattle.network.proofs.no_network.Tie as tie
 use Rattle.network.proofs.no_network.Reads as reads
 use Rattle.network.proofs.no_network.Lts as lts
@@ -19,11 +20,11 @@ returns c = (
     signs-length = refl;
     sound = record { few = omega arith; widths = refl; levels = refl };
     shaped = λ i h. absurd (not-suc-le-zero h);
-    narrow = λ i. omega (arith, zero-at 32 i);
-    low = λ i. omega (arith, zero-at 32 i);
-    unwatched = λ i h. zero-at 32 i;
-    widths-end = λ i h. zero-at 32 i;
-    levels-end = λ i h. zero-at 32 i;
+    narrow = λ i. omega (arith, zero-at maxNodes i);
+    low = λ i. omega (arith, zero-at maxNodes i);
+    unwatched = λ i h. zero-at maxNodes i;
+    widths-end = λ i h. zero-at maxNodes i;
+    levels-end = λ i h. zero-at maxNodes i;
   },
   refl,
 )

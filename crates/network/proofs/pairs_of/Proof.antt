@@ -3,6 +3,7 @@ use Prim.Native.Nat.{_*_, _-_, _≤_}
 use lib.ListN.{length, take, length-set}
 use Rattle.model.specs.Areas.{padded}
 use Rattle.model.specs.Record.{fieldsAt}
+use Rattle.model.specs.Network.{maxPairs}
 use Rattle.network.specs.Reading.{Ends}
 use Rattle.network.proofs.Building.{set-ends, zero-at}
 use Rattle.network.proofs.Kept.{ends-padded}
@@ -59,7 +60,7 @@ returns c =
     let a = c .before .before .before .args in
     let l = c .before .loop in
     let e : l .i ≡ 2 * a .n = omega arith in
-    ends-padded 4 (2 * a .n) (l .fields) (l .inv .1) (omega arith) (rw e at (l .inv .3)) ∙ ap (padded 4) (rw e at (l .inv .2))
+    ends-padded (2 * maxPairs) (2 * a .n) (l .fields) (l .inv .1) (omega arith) (rw e at (l .inv .3)) ∙ ap (padded (2 * maxPairs)) (rw e at (l .inv .2))
 
 pub pairs-of-spec : {M : Type 1} → statement M
 pairs-of-spec =

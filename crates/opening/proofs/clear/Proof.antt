@@ -2,7 +2,7 @@ use mathlib.Core.Path.{_∙_}
 use native.Mathlib.Omega.{arith}
 use borrow.Author.Needs.{needs}
 use Rattle.opening.proofs.clear.Statement.{statement}
-use Rattle.model.specs.Areas.{cleared}
+use Rattle.model.specs.Areas.{cleared, areaSize, headWords}
 use Rattle.opening.proofs.Opening.{cleared-run}
 use Rattle.areas.proofs.Good.{long-parts}
 use Rattle.opening.proofs.clear.Tie as tie
@@ -58,10 +58,10 @@ returns c =
     let second = third .before .before .before .before in
     let first = second .before .before .before .before in
     let a = first .before .before .before .before .before .before .args in
-    let r = first .clear-run .ensures ∙ cleared-run 8192 (a .rows .now) in
-    let g = second .clear-run2 .ensures ∙ cleared-run 8192 (a .gained .now) in
-    let l = third .clear-run3 .ensures ∙ cleared-run 8192 (a .lost .now) in
-    let h = fourth .clear-run4 .ensures ∙ cleared-run 162 (a .head .now) in
+    let r = first .clear-run .ensures ∙ cleared-run areaSize (a .rows .now) in
+    let g = second .clear-run2 .ensures ∙ cleared-run areaSize (a .gained .now) in
+    let l = third .clear-run3 .ensures ∙ cleared-run areaSize (a .lost .now) in
+    let h = fourth .clear-run4 .ensures ∙ cleared-run headWords (a .head .now) in
     λ i. record { rows = r i; gained = g i; lost = l i; head = h i }
 
 pub clear-spec : {M : Type 1} → statement M

@@ -3,7 +3,9 @@ use native.Mathlib.Omega.{arith}
 use lib.ListN.{length}
 use borrow.Author.Needs.{needs}
 use Rattle.model.proofs.Sets.{ascending-holds}
-use Rattle.rows.specs.Rows.{stride, rowAt, firstRows}
+use Rattle.model.specs.Row.{maxRows}
+use Rattle.model.specs.Areas.{placeSize, stride}
+use Rattle.rows.specs.Rows.{rowAt, firstRows}
 use Rattle.rows.proofs.Words.{length-row, wide-rows}
 use Rattle.rows.proofs.Stand.{put-new, put-present, put-full}
 use Rattle.places.proofs.put_row.Statement.{statement}
@@ -31,7 +33,7 @@ same-length : tie.Need-same-length
 same-length c = search needs
 
 returns : tie.Need-returns
-returns c = let a = c .before .before .before .before .before .before .before .before .args in put-new 64 256 (rowAt stride (a .src .now) (a .i)) (firstRows (a .out .now) (a .n))
+returns c = let a = c .before .before .before .before .before .before .before .before .args in put-new maxRows placeSize (rowAt stride (a .src .now) (a .i)) (firstRows (a .out .now) (a .n))
     (a .out .now) _ (a .n) (c .before .before .before .before .before .before .before .before .pre .0) (length-row stride (a .src .now) (a .i)) (wide-rows stride (a .out .now) 0 (a .n))
     (rw (c .enum-told .given .1) at (c .before .before .before .before .insert .ensures))
 
@@ -39,7 +41,7 @@ same-length-2 : tie.Need-same-length-2
 same-length-2 c = search needs
 
 returns-2 : tie.Need-returns-2
-returns-2 c = let a = c .before .before .before .before .before .before .before .before .args in put-present 64 256 (rowAt stride (a .src .now) (a .i)) (firstRows (a .out .now) (a .n))
+returns-2 c = let a = c .before .before .before .before .before .before .before .before .args in put-present maxRows placeSize (rowAt stride (a .src .now) (a .i)) (firstRows (a .out .now) (a .n))
     (a .out .now) _ (a .n) (c .before .before .before .before .before .before .before .before .pre .0)
     (ascending-holds (firstRows (a .out .now) (a .n)) (c .before .before .before .before .before .before .before .before .pre .2))
     (rw (c .enum-told2 .given .1) at (c .before .before .before .before .insert .ensures))
@@ -48,7 +50,7 @@ same-length-3 : tie.Need-same-length-3
 same-length-3 c = search needs
 
 returns-3 : tie.Need-returns-3
-returns-3 c = let a = c .before .before .before .before .before .before .before .before .args in let full = put-full 64 256 (rowAt stride (a .src .now) (a .i))
+returns-3 c = let a = c .before .before .before .before .before .before .before .before .args in let full = put-full maxRows placeSize (rowAt stride (a .src .now) (a .i))
     (firstRows (a .out .now) (a .n)) (a .out .now) _ (a .n) (c .before .before .before .before .before .before .before .before .pre .0)
     (rw (c .enum-told3 .given .1) at (c .before .before .before .before .insert .ensures))
     in (full .0, ap length (full .1) ∙ c .before .before .before .before .before .before .before .before .pre .3)

@@ -15,6 +15,7 @@ use Rattle.model.specs.Record.{Bytes}
 use Rattle.model.specs.Calls.{writtenTo}
 use Rattle.model.specs.Watched.{allows, wasGained, wasLost}
 use Rattle.model.specs.Areas.{heldIn, layout}
+use Rattle.model.specs.Row.{maxRows}
 use Rattle.reports.proofs.put_report.Tie as tie
 use Rattle.reports.proofs.put_report.Reads as reads
 use Rattle.reports.proofs.put_report.Lts as lts
@@ -64,7 +65,7 @@ put-allowed-requires-2 c κs =
         c .before .before .before .before .before .allowed-size .ensures,
         ap length (c .before .before .before .put-allowed .ensures)
             ∙ length-sets (a .out .now) 0
-            (allowedOf (c .before .before .before .before .before .before .before .allows .result) 64 (a .node) (heldIn layout (a .w) (a .g) (a .gained .now) (a .node))),
+            (allowedOf (c .before .before .before .before .before .before .before .allows .result) maxRows (a .node) (heldIn layout (a .w) (a .g) (a .gained .now) (a .node))),
       ),
     )
 
@@ -81,33 +82,33 @@ returns c =
     (c .before .before .before .before .before .before .before .before .before .before .before .before .before .before .pre .6) in
     let both = sets-more (a .out .now) (c .before .before .before .before .before .before .put-allowed .last .1 .0) (c .before .before .put-allowed2 .last .1 .0) 0
     (c .before .before .before .before .before .before .before .before .allowed-size .result)
-    (allowedOf (c .before .before .before .before .before .before .before .before .before .before .allows .result) 64 (a .node)
+    (allowedOf (c .before .before .before .before .before .before .before .before .before .before .allows .result) maxRows (a .node)
     (heldIn layout (a .w) (a .g) (a .gained .now) (a .node)))
     (allowedOf (c .before .before .before .before .before .before .before .before .before .allows2 .result) 65 (a .node) (heldIn layout (a .w) (a .l) (a .lost .now) (a .node)))
     (c .before .before .before .before .before .before .put-allowed .ensures)
     (c .before .before .before .before .before .before .before .before .allowed-size .ensures
-    ∙ sym (allowed-size-is (c .before .before .before .before .before .before .before .before .before .before .allows .result) 64 (a .node) (a .w) (a .g) (a .gained .now))
+    ∙ sym (allowed-size-is (c .before .before .before .before .before .before .before .before .before .before .allows .result) maxRows (a .node) (a .w) (a .g) (a .gained .now))
     ∙ sym (zero-add (length
-    (allowedOf (c .before .before .before .before .before .before .before .before .before .before .allows .result) 64 (a .node)
+    (allowedOf (c .before .before .before .before .before .before .before .before .before .before .allows .result) maxRows (a .node)
     (heldIn layout (a .w) (a .g) (a .gained .now) (a .node)))))) (c .before .before .put-allowed2 .ensures) in
     let size = length-append
-    (allowedOf (c .before .before .before .before .before .before .before .before .before .before .allows .result) 64 (a .node)
+    (allowedOf (c .before .before .before .before .before .before .before .before .before .before .allows .result) maxRows (a .node)
     (heldIn layout (a .w) (a .g) (a .gained .now) (a .node)))
     (allowedOf (c .before .before .before .before .before .before .before .before .before .allows2 .result) 65 (a .node) (heldIn layout (a .w) (a .l) (a .lost .now) (a .node))) in
     both ∙ sets-first (a .out .now)
-    ((allowedOf (c .before .before .before .before .before .before .before .before .before .before .allows .result) 64 (a .node)
+    ((allowedOf (c .before .before .before .before .before .before .before .before .before .before .allows .result) maxRows (a .node)
     (heldIn layout (a .w) (a .g) (a .gained .now) (a .node))) ++
     (allowedOf (c .before .before .before .before .before .before .before .before .before .allows2 .result) 65 (a .node) (heldIn layout (a .w) (a .l) (a .lost .now) (a .node))))
     (omega (
       arith,
       size,
-      (allowed-size-is (c .before .before .before .before .before .before .before .before .before .before .allows .result) 64 (a .node) (a .w) (a .g)
+      (allowed-size-is (c .before .before .before .before .before .before .before .before .before .before .allows .result) maxRows (a .node) (a .w) (a .g)
           (a .gained .now)),
       (allowed-size-is (c .before .before .before .before .before .before .before .before .before .allows2 .result) 65 (a .node) (a .w) (a .l) (a .lost .now)),
       room,
     )) ∙ ap (writtenTo (a .out .now))
     (ap₂ {A = Bool} {B = Bool} {C = Bytes}
-    (λ t u. allowedOf t 64 (a .node) (heldIn layout (a .w) (a .g) (a .gained .now) (a .node)) ++ allowedOf u 65 (a .node) (heldIn layout (a .w) (a .l) (a .lost .now) (a .node)))
+    (λ t u. allowedOf t maxRows (a .node) (heldIn layout (a .w) (a .g) (a .gained .now) (a .node)) ++ allowedOf u 65 (a .node) (heldIn layout (a .w) (a .l) (a .lost .now) (a .node)))
     (c .before .before .before .before .before .before .before .before .before .before .allows .ensures) (c .before .before .before .before .before .before .before .before .before .allows2 .ensures)
     ∙ sym (report-parts (a .sign) (a .node)
     (record { gained = heldIn layout (a .w) (a .g) (a .gained .now) (a .node); lost = heldIn layout (a .w) (a .l) (a .lost .now) (a .node) })))

@@ -1,13 +1,13 @@
 use mathlib.Core.Path.{_≡_, refl, _∙_}
 use Prim.Native.Nat.{_≤_, _-_, _+_}
 use lib.ListN.{length, length-set}
-use Rattle.rows.specs.Rows.{stride}
 use Rattle.rows.proofs.Words.{shut, shut-none, shut-turn}
 use native.Mathlib.Omega.{arith}
 use Rattle.rows.proofs.close_gap.Statement.{statement}
 use Rattle.rows.proofs.close_gap.Tie as tie
 use Rattle.rows.proofs.close_gap.Reads as reads
 use Rattle.rows.proofs.close_gap.Lts as lts
+use Rattle.model.specs.Areas.{stride}
 
 abbrev Inv-loop : tie.InvT-loop
 Inv-loop s₀ from to end k₀ s k = (from ≤ k) × (k ≤ end) × (length s ≡ length s₀) × (s ≡ shut stride from k s₀)

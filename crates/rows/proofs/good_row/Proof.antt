@@ -1,6 +1,6 @@
 use mathlib.Core.Path.{sym, ap, _∙_}
 use borrow.Author.Tests.{not-true, not-false}
-use Rattle.rows.specs.Rows.{stride, orderOf}
+use Rattle.rows.specs.Rows.{orderOf}
 use Rattle.rows.specs.declared.Order.the-variants.{Less, Equal, Greater}
 use Rattle.rows.proofs.Form.{row-unclean, row-last, row-next}
 use native.Mathlib.Omega.{arith}
@@ -11,6 +11,7 @@ use Rattle.rows.proofs.good_row.Reads as reads
 use Rattle.rows.proofs.good_row.Lts as lts
 use Rattle.words.proofs.all_zero.Reads as all-zero-reads
 use Rattle.rows.proofs.compare_fields.Reads as compare-fields-reads
+use Rattle.model.specs.Areas.{stride}
 
 mul-at : tie.Need-mul-at
 mul-at c = search needs

@@ -1,7 +1,6 @@
 use Prim.Native.Nat.{_≤_, _-_}
 use mathlib.Core.Path.{sym, _∙_}
 use borrow.Author.Tests.{not-true, not-false}
-use Rattle.rows.specs.Rows.{stride}
 use Rattle.rows.proofs.Form.{GoodTo, good-none, good-more, good-not, good-all}
 use native.Mathlib.Omega.{arith}
 use Rattle.rows.proofs.good_rows.Statement.{statement}
@@ -9,6 +8,7 @@ use Rattle.rows.proofs.good_rows.Tie as tie
 use Rattle.rows.proofs.good_rows.Reads as reads
 use Rattle.rows.proofs.good_rows.Lts as lts
 use Rattle.rows.proofs.good_row.Reads as good-row-reads
+use Rattle.model.specs.Areas.{stride}
 
 abbrev Inv-loop : tie.InvT-loop
 Inv-loop words n width j₀ j = (j ≤ n) × GoodTo width stride words n j

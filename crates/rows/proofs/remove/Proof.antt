@@ -4,7 +4,8 @@ use lib.ListN.{replicate}
 use lib.Seq.{paste}
 use Prim.Native.Nat.{ℕ, _<_, _*_, _-_}
 use Rattle.model.proofs.Sets.{Ascending, ascending-holds}
-use Rattle.rows.specs.Rows.{stride, rowAt, firstRows}
+use Rattle.model.specs.Areas.{stride}
+use Rattle.rows.specs.Rows.{rowAt, firstRows}
 use Rattle.rows.specs.declared.Found.the-variants.{At}
 use Rattle.rows.proofs.Search.{Spot, located-as}
 use Rattle.rows.proofs.Words.{length-rows, taken-cleared}

@@ -1,6 +1,7 @@
 use mathlib.Core.Path.{sym, _∙_}
 use Rattle.model.proofs.Sets.{ascending-holds}
-use Rattle.rows.specs.Rows.{stride, rowAt, firstRows}
+use Rattle.model.specs.Areas.{stride}
+use Rattle.rows.specs.Rows.{rowAt, firstRows}
 use Rattle.rows.proofs.Search.{located-as}
 use borrow.Author.Needs.{needs}
 use Rattle.sets.proofs.contains.Statement.{statement}

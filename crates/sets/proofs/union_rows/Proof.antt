@@ -12,6 +12,7 @@ use Rattle.places.proofs.Puts.{model-exceeds, model-fills, put-exceeds, put-rea
 use Rattle.model.proofs.Sets.{ascending-holds}
 use Rattle.rows.specs.Rows.{firstRows}
 use Rattle.model.specs.Algebra.{unionRows}
+use Rattle.model.specs.Areas.{placeSize, stride}
 use Rattle.rows.proofs.Words.{wide-rows}
 use Rattle.sets.proofs.union_rows.Tie as tie
 use Rattle.sets.proofs.union_rows.Reads as reads
@@ -20,7 +21,7 @@ use Rattle.places.proofs.put_row.Reads as put-row-reads
 use Rattle.words.proofs.copy_run.Reads as copy-run-reads
 
 abbrev Inv-loop : tie.InvT-loop
-Inv-loop left n right m out₀ count₀ i₀ out count i = (i ≤ n) × (length out ≡ 256) × Stands (putFrom alone (firstRows right m) left n i) out count
+Inv-loop left n right m out₀ count₀ i₀ out count i = (i ≤ n) × (length out ≡ placeSize) × Stands (putFrom alone (firstRows right m) left n i) out count
 
 abbrev μ-loop : tie.MeasureT-loop
 μ-loop left n right m out₀ count₀ i₀ out count i = i
@@ -35,12 +36,12 @@ loop-holds : tie.Need-loop-holds Inv-loop μ-loop
 loop-holds c =
     let a = c .before .before .before .before .before .before .before .args in
     let asc = ascending-holds (firstRows (a .right .now) (a .m)) (c .before .before .before .before .before .before .before .pre .3) in
-    let e = c .before .before .copy-run .ensures ∙ ap (λ (d : List ℕ). paste d 0 (drop 0 (a .right .now)) (a .m * 4)) (c .before .before .before .before .before .before .before .pre .4) in
-    let s = put-start alone (firstRows (a .right .now) (a .m)) (a .left .now) (a .n) wide-alone (wide-rows 4 (a .right .now) 0 (a .m)) asc (c .before .before .copy-run .last .1 .1 .0) (a .m)
+    let e = c .before .before .copy-run .ensures ∙ ap (λ (d : List ℕ). paste d 0 (drop 0 (a .right .now)) (a .m * stride)) (c .before .before .before .before .before .before .before .pre .4) in
+    let s = put-start alone (firstRows (a .right .now) (a .m)) (a .left .now) (a .n) wide-alone (wide-rows stride (a .right .now) 0 (a .m)) asc (c .before .before .copy-run .last .1 .1 .0) (a .m)
     (union-start (a .right .now) (a .m) (c .before .before .copy-run .last .1 .1 .0) (c .before .before .before .before .before .before .before .pre .1)
     (c .before .before .before .before .before .before .before .pre .2) e) in (
       omega arith,
-      put-size alone (firstRows (a .right .now) (a .m)) (a .left .now) (a .n) wide-alone (wide-rows 4 (a .right .now) 0 (a .m)) asc (a .n)
+      put-size alone (firstRows (a .right .now) (a .m)) (a .left .now) (a .n) wide-alone (wide-rows stride (a .right .now) 0 (a .m)) asc (a .n)
           (c .before .before .copy-run .last .1 .1 .0) (a .m) s,
       s,
     )
@@ -52,7 +53,7 @@ put-row-requires : tie.Need-put-row-requires Inv-loop μ-loop
 put-row-requires c κs =
     let a = c .before .before .before .before .before .before .before .before .before .before .args in
     let asc = ascending-holds (firstRows (a .right .now) (a .m)) (c .before .before .before .before .before .before .before .before .before .before .pre .3) in
-    let r = put-ready alone (firstRows (a .right .now) (a .m)) (a .left .now) (a .n) wide-alone (wide-rows 4 (a .right .now) 0 (a .m)) asc (c .before .before .loop .i)
+    let r = put-ready alone (firstRows (a .right .now) (a .m)) (a .left .now) (a .n) wide-alone (wide-rows stride (a .right .now) 0 (a .m)) asc (c .before .before .loop .i)
     (c .before .before .loop .out) (c .before .before .loop .count) (c .before .before .loop .inv .2) in
     (r .0, omega arith, r .1, c .before .before .loop .inv .1)
 
@@ -74,7 +75,7 @@ returns c =
     let p = c .before .before .before .before .put-row in
     let right = firstRows (a .right .now) (a .m) in
     let asc = ascending-holds right (c .before .before .before .before .before .before .before .before .before .before .before .before .before .before .before .pre .3) in
-    let over = put-exceeds alone right (a .left .now) (a .n) wide-alone (wide-rows 4 (a .right .now) 0 (a .m)) asc (l .i) (l .out) (p .last .0) (l .count) (p .result)
+    let over = put-exceeds alone right (a .left .now) (a .n) wide-alone (wide-rows stride (a .right .now) 0 (a .m)) asc (l .i) (l .out) (p .last .0) (l .count) (p .result)
     (c .enum-told .given .1) (omega arith) (omega arith) (l .inv .2) (p .ensures) in
     λ w pl pr. (
       model-exceeds (putFrom alone right (a .left .now) (a .n) 0) (unionRows (relationIn w (a .left .now) (a .n)) (relationIn w (a .right .now) (a .m))) w (pl .narrow)
@@ -92,7 +93,7 @@ loop-again c =
     let p = c .before .before .before .before .before .put-row in
     let right = firstRows (a .right .now) (a .m) in
     let asc = ascending-holds right (c .before .before .before .before .before .before .before .before .before .before .before .before .before .before .before .before .pre .3) in
-    let s = put-stands alone right (a .left .now) (a .n) wide-alone (wide-rows 4 (a .right .now) 0 (a .m)) asc (l .i) (l .out) (p .last .0) (l .count) (c .before .more .given .0 .0)
+    let s = put-stands alone right (a .left .now) (a .n) wide-alone (wide-rows stride (a .right .now) 0 (a .m)) asc (l .i) (l .out) (p .last .0) (l .count) (c .before .more .given .0 .0)
     (p .result) (c .before .more .given .1) (omega arith) (omega arith) (l .inv .2) (p .ensures) in
     (omega arith, s .0, s .1)
 

@@ -1,3 +1,4 @@
+use Rattle.model.specs.Row.{maxWidth}
 use Prim.Native.Nat.{_≤_, _-_, zero-le, _+_}
 use mathlib.Core.Path.{_≡_, refl, ap, _∙_}
 use mathlib.Core.List.{_∷_}
@@ -13,7 +14,7 @@ use Rattle.station_lines.proofs.change_numbers.Reads as reads
 use Rattle.station_lines.proofs.change_numbers.Lts as lts
 
 abbrev Inv-loop : tie.InvT-loop
-Inv-loop node words from w numbers₀ k₀ numbers k = (k ≤ w) × (numbers ≡ padded 5 (node ∷ fields k words from))
+Inv-loop node words from w numbers₀ k₀ numbers k = (k ≤ w) × (numbers ≡ padded (1 + maxWidth) (node ∷ fields k words from))
 
 abbrev μ-loop : tie.MeasureT-loop
 μ-loop node words from w numbers₀ k₀ numbers k = w - k
@@ -45,7 +46,7 @@ mul-numbers-2 c = omega (arith, c .before .loop-test .taken, c .before .before .
 
 array-write-numbers-2 : tie.Need-array-write-numbers-2 Inv-loop μ-loop
 array-write-numbers-2 c = let a = (c .before .before .before .args) in let size : length (c .before .before .loop .numbers) ≡ 5 = ap length (c .before .before .loop .inv .1)
-    ∙ length-padded 5 (a .node ∷ fields (c .before .before .loop .k) (a .words .now) (a .from))
+    ∙ length-padded (1 + maxWidth) (a .node ∷ fields (c .before .before .loop .k) (a .words .now) (a .from))
     (omega (arith, length-fields (c .before .before .loop .k) (a .words .now) (a .from), c .before .before .loop .inv .0, c .before .before .before .pre .0)) in omega
     (arith, c .before .loop-test .taken, c .before .before .before .pre .0, size)
 

@@ -1,3 +1,4 @@
+use Rattle.station_lines.specs.Lines.{changeRoom}
 use Prim.Native.Nat.{_≤_, _+_, _*_, _-_, zero-le}
 use mathlib.Core.Path.{_≡_, ap, _∙_}
 use lib.Seq.{sets, length-sets}
@@ -14,7 +15,7 @@ use Rattle.station_lines.proofs.put_change.Reads as put-change-reads
 
 abbrev Inv-loop : tie.InvT-loop
 Inv-loop out₀ at sign node area n w to₀ j₀ out to j = (j ≤ n) × (out ≡ sets out₀ at (changeLines sign node (heldIn layout w j area node)))
-    × (to ≡ at + length (changeLines sign node (heldIn layout w j area node))) × (to ≤ at + 107 * j)
+    × (to ≡ at + length (changeLines sign node (heldIn layout w j area node))) × (to ≤ at + changeRoom * j)
 
 abbrev μ-loop : tie.MeasureT-loop
 μ-loop out₀ at sign node area n w to₀ j₀ out to j = n - j

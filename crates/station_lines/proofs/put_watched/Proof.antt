@@ -1,3 +1,4 @@
+use Rattle.station_lines.specs.Lines.{nodeRoom}
 use borrow.Author.Needs.{needs}
 use Rattle.station_lines.proofs.put_watched.Statement.{statement}
 use native.Mathlib.Omega.{arith}
@@ -70,7 +71,7 @@ same-length c = search needs
 
 returns : tie.Need-returns
 returns c = let a = (c .before .before .before .before .before .before .before .before .before .before .before .before .args) in subst
-    (λ (text : List ℕ). Put text 13696 (a .at) (a .out .now) (c .before .before .put-node .last .0) (c .before .before .put-node .result))
+    (λ (text : List ℕ). Put text nodeRoom (a .at) (a .out .now) (c .before .before .put-node .last .0) (c .before .before .put-node .result))
     (watched-is (a .t3) (c .before .before .before .before .before .before .before .before .before .before .before .before .pre .0) (a .gained .now) (a .lost .now) (a .head .now) (a .node)
     (c .before .before .before .before .before .before .before .before .before .before .before .before .pre .2)) (c .before .before .put-node .ensures)
 

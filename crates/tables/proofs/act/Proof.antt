@@ -9,8 +9,8 @@ use Rattle.model.proofs.Sets.{ascending-holds, insert-once}
 use Rattle.rows.specs.Rows.{firstRows}
 use Rattle.rows.proofs.Stand.{leave-in, put-full, put-new, put-present, take-out}
 use Rattle.rows.proofs.Place.{length-padded}
-use Rattle.model.specs.Areas.{padded}
-use Rattle.model.specs.Batch.{rowIn}
+use Rattle.model.specs.Areas.{padded, foldedSize, stride}
+use Rattle.model.specs.Batch.{rowIn, foldedRows}
 use Rattle.rows.proofs.Words.{wide-rows}
 use Rattle.model.proofs.Events.{length-row-in}
 use Rattle.tables.proofs.act.Tie as tie
@@ -35,7 +35,7 @@ slice-aggregate-insert c = search needs
 
 insert-requires : tie.Need-insert-requires
 insert-requires c κs = let a = c .before .before .before .before .before .before .before .args in let size = ap length (c .before .before .before .before .event-row .ensures)
-    ∙ (length-padded 4 (rowIn (a .bytes .now) (a .at + 6) (a .width))
+    ∙ (length-padded stride (rowIn (a .bytes .now) (a .at + 6) (a .width))
     (rw (length-row-in (a .bytes .now) (a .at + 6) (a .width)) (c .before .before .before .before .before .before .before .pre .0)))
     in (
       omega arith,
@@ -61,14 +61,14 @@ slice-aggregate-remove c = search needs
 
 remove-requires : tie.Need-remove-requires
 remove-requires c κs = let a = c .before .before .before .before .before .before .before .args in let size = ap length (c .before .before .before .before .event-row .ensures)
-    ∙ (length-padded 4 (rowIn (a .bytes .now) (a .at + 6) (a .width))
+    ∙ (length-padded stride (rowIn (a .bytes .now) (a .at + 6) (a .width))
     (rw (length-row-in (a .bytes .now) (a .at + 6) (a .width)) (c .before .before .before .before .before .before .before .pre .0)))
     in (omega (arith, c .before .before .before .before .before .before .before .pre .4), omega (arith, size), c .before .before .before .before .before .before .before .pre .2 .asc)
 
 sub-result : tie.Need-sub-result
 sub-result c =
     let a = c .before .before .before .before .before .before .before .before .before .before .before .args in
-    some-row (padded 4 (rowIn (a .bytes .now) (a .at + 6) (a .width))) (firstRows (a .words .now) (a .n)) (a .n)
+    some-row (padded stride (rowIn (a .bytes .now) (a .at + 6) (a .width))) (firstRows (a .words .now) (a .n)) (a .n)
     (sym (rw (event-row-at (a .bytes .now) (a .at + 6) (a .width) (c .before .before .before .before .before .before .before .before .event-row .result)
     (c .before .before .before .before .before .before .before .before .before .before .before .pre .0)
     (c .before .before .before .before .before .before .before .before .event-row .ensures)) at (rw (c .if2 .taken) at (c .before .before .before .remove .ensures)) .says))
@@ -83,11 +83,11 @@ returns c =
       act-put (a .bytes .now) (a .at) (a .width) (c .before .before .before .before .before .before .before .before .u16-at .result) (firstRows (a .words .now) (a .n))
           (c .before .before .before .before .insert .last .0) (a .n + 1) (c .before .before .before .before .before .before .before .before .u16-at .ensures .is)
           (c .before .before .before .before .before .before .before .if1 .taken)
-          (put-new 128 512 (padded 4 (rowIn (a .bytes .now) (a .at + 6) (a .width))) (firstRows (a .words .now) (a .n)) (a .words .now) (c .before .before .before .before .insert .last .0)
+          (put-new foldedRows foldedSize (padded stride (rowIn (a .bytes .now) (a .at + 6) (a .width))) (firstRows (a .words .now) (a .n)) (a .words .now) (c .before .before .before .before .insert .last .0)
           (a .n) (c .before .before .before .before .before .before .before .before .before .before .before .before .pre .2 .stands)
-          (length-padded 4 (rowIn (a .bytes .now) (a .at + 6) (a .width))
+          (length-padded stride (rowIn (a .bytes .now) (a .at + 6) (a .width))
           (rw (length-row-in (a .bytes .now) (a .at + 6) (a .width)) (c .before .before .before .before .before .before .before .before .before .before .before .before .pre .0)))
-          (wide-rows 4 (a .words .now) 0 (a .n))
+          (wide-rows stride (a .words .now) 0 (a .n))
           (rw (event-row-at (a .bytes .now) (a .at + 6) (a .width) (c .before .before .before .before .before .before .before .before .before .event-row .result)
           (c .before .before .before .before .before .before .before .before .before .before .before .before .pre .0)
           (c .before .before .before .before .before .before .before .before .before .event-row .ensures))
@@ -104,7 +104,7 @@ returns-2 c =
       act-put (a .bytes .now) (a .at) (a .width) (c .before .before .before .before .before .before .before .before .u16-at .result) (firstRows (a .words .now) (a .n))
           (c .before .before .before .before .insert .last .0) (a .n) (c .before .before .before .before .before .before .before .before .u16-at .ensures .is)
           (c .before .before .before .before .before .before .before .if1 .taken)
-          (put-present 128 512 (padded 4 (rowIn (a .bytes .now) (a .at + 6) (a .width))) (firstRows (a .words .now) (a .n)) (a .words .now) (c .before .before .before .before .insert .last .0)
+          (put-present foldedRows foldedSize (padded stride (rowIn (a .bytes .now) (a .at + 6) (a .width))) (firstRows (a .words .now) (a .n)) (a .words .now) (c .before .before .before .before .insert .last .0)
           (a .n) (c .before .before .before .before .before .before .before .before .before .before .before .before .pre .2 .stands)
           (ascending-holds (firstRows (a .words .now) (a .n)) (c .before .before .before .before .before .before .before .before .before .before .before .before .pre .2 .asc))
           (rw (event-row-at (a .bytes .now) (a .at + 6) (a .width) (c .before .before .before .before .before .before .before .before .before .event-row .result)
@@ -120,7 +120,7 @@ same-length-3 c = search needs
 returns-3 : tie.Need-returns-3
 returns-3 c =
     let a = c .before .before .before .before .before .before .before .before .before .before .before .before .args in
-    let full = put-full 128 512 (padded 4 (rowIn (a .bytes .now) (a .at + 6) (a .width))) (firstRows (a .words .now) (a .n)) (a .words .now)
+    let full = put-full foldedRows foldedSize (padded stride (rowIn (a .bytes .now) (a .at + 6) (a .width))) (firstRows (a .words .now) (a .n)) (a .words .now)
     (c .before .before .before .before .insert .last .0) (a .n) (c .before .before .before .before .before .before .before .before .before .before .before .before .pre .2 .stands)
     (rw (event-row-at (a .bytes .now) (a .at + 6) (a .width) (c .before .before .before .before .before .before .before .before .before .event-row .result)
     (c .before .before .before .before .before .before .before .before .before .before .before .before .pre .0)
@@ -129,7 +129,7 @@ returns-3 c =
     absurd (omega (
       arith,
       full .0,
-      insert-once (padded 4 (rowIn (a .bytes .now) (a .at + 6) (a .width))) (firstRows (a .words .now) (a .n)),
+      insert-once (padded stride (rowIn (a .bytes .now) (a .at + 6) (a .width))) (firstRows (a .words .now) (a .n)),
       c .before .before .before .before .before .before .before .before .before .before .before .before .pre .2 .stands .count,
     ))
 
@@ -142,9 +142,9 @@ returns-4 c =
       act-remove (a .bytes .now) (a .at) (a .width) (c .before .before .before .before .before .before .before .u16-at .result) (firstRows (a .words .now) (a .n))
           (c .before .before .before .remove .last .0) (a .n - 1) (c .before .before .before .before .before .before .before .u16-at .ensures .is)
           (c .before .before .before .before .before .before .if1 .left)
-          (take-out 128 512 (omega arith) (padded 4 (rowIn (a .bytes .now) (a .at + 6) (a .width))) (firstRows (a .words .now) (a .n)) (a .words .now)
+          (take-out foldedRows foldedSize (omega arith) (padded stride (rowIn (a .bytes .now) (a .at + 6) (a .width))) (firstRows (a .words .now) (a .n)) (a .words .now)
           (c .before .before .before .remove .last .0) (a .n) (c .before .before .before .before .before .before .before .before .before .before .before .pre .2 .stands)
-          (wide-rows 4 (a .words .now) 0 (a .n))
+          (wide-rows stride (a .words .now) 0 (a .n))
           (ascending-holds (firstRows (a .words .now) (a .n)) (c .before .before .before .before .before .before .before .before .before .before .before .pre .2 .asc))
           (rw (event-row-at (a .bytes .now) (a .at + 6) (a .width) (c .before .before .before .before .before .before .before .before .event-row .result)
           (c .before .before .before .before .before .before .before .before .before .before .before .pre .0)
@@ -161,7 +161,7 @@ returns-5 c =
       act-remove (a .bytes .now) (a .at) (a .width) (c .before .before .before .before .before .before .before .u16-at .result) (firstRows (a .words .now) (a .n))
           (c .before .before .before .remove .last .0) (a .n) (c .before .before .before .before .before .before .before .u16-at .ensures .is)
           (c .before .before .before .before .before .before .if1 .left)
-          (leave-in 128 512 (omega arith) (padded 4 (rowIn (a .bytes .now) (a .at + 6) (a .width))) (firstRows (a .words .now) (a .n)) (a .words .now)
+          (leave-in foldedRows foldedSize (omega arith) (padded stride (rowIn (a .bytes .now) (a .at + 6) (a .width))) (firstRows (a .words .now) (a .n)) (a .words .now)
           (c .before .before .before .remove .last .0) (a .n) (c .before .before .before .before .before .before .before .before .before .before .before .pre .2 .stands)
           (rw (event-row-at (a .bytes .now) (a .at + 6) (a .width) (c .before .before .before .before .before .before .before .before .event-row .result)
           (c .before .before .before .before .before .before .before .before .before .before .before .pre .0)

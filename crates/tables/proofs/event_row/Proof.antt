@@ -4,7 +4,7 @@ use native.Mathlib.Omega.{arith}
 use lib.ListN.{length, length-set}
 use borrow.Author.Needs.{needs}
 use Rattle.tables.proofs.event_row.Statement.{statement}
-use Rattle.model.specs.Areas.{padded}
+use Rattle.model.specs.Areas.{padded, stride}
 use Rattle.tables.proofs.Folds.{row-filled}
 use Rattle.model.specs.Batch.{rowIn}
 use Rattle.tables.proofs.event_row.Tie as tie
@@ -13,7 +13,7 @@ use Rattle.tables.proofs.event_row.Lts as lts
 use Rattle.records.proofs.u32_at.Reads as u32-at-reads
 
 abbrev Inv-loop : tie.InvT-loop
-Inv-loop bytes at width row₀ k₀ row k = (k ≤ width) × (length row ≡ 4) × (row ≡ padded 4 (rowIn bytes (at + 6) k))
+Inv-loop bytes at width row₀ k₀ row k = (k ≤ width) × (length row ≡ stride) × (row ≡ padded stride (rowIn bytes (at + 6) k))
 
 abbrev μ-loop : tie.MeasureT-loop
 μ-loop bytes at width row₀ k₀ row k = width - k

@@ -12,6 +12,7 @@ use Rattle.telling.proofs.tell.Tie as tie
 use Rattle.telling.proofs.tell.Reads as reads
 use Rattle.telling.proofs.tell.Lts as lts
 use Rattle.telling.proofs.node_lines.Reads as node-lines-reads
+use Rattle.model.specs.Row.{maxNodes}
 
 node-lines-requires : tie.Need-node-lines-requires
 node-lines-requires c κs = search needs
@@ -30,7 +31,7 @@ returns c = let a = c .before .before .before .before .before .before .before .b
     (a .node) (a .next) (lent (a .rows .now) (a .gained .now) (a .lost .now) (a .head .now)) (a .out .now) (c .before .before .before .node-lines .last .1 .1 .1 .1 .1 .1 .0)
     (c .before .before .before .node-lines .result) (c .before .before .before .node-lines .ensures)
     (c .before .before .before .before .before .before .before .before .before .before .before .before .pre .1) (Tell (a .node + 1) (a .next))
-    (sym (ap (λ (t : Bool). cond t (Tell (a .node + 1) (a .next)) (Cut (a .next))) (lt-ltb (a .node + 1) 32 (c .if1 .taken))))
+    (sym (ap (λ (t : Bool). cond t (Tell (a .node + 1) (a .next)) (Cut (a .next))) (lt-ltb (a .node + 1) maxNodes (c .if1 .taken))))
 
 same-length-2 : tie.Need-same-length-2
 same-length-2 c = search needs
@@ -40,7 +41,7 @@ returns-2 c = let a = c .before .before .before .before .before .before .before 
     (a .node) (a .next) (lent (a .rows .now) (a .gained .now) (a .lost .now) (a .head .now)) (a .out .now) (c .before .before .before .node-lines .last .1 .1 .1 .1 .1 .1 .0)
     (c .before .before .before .node-lines .result) (c .before .before .before .node-lines .ensures)
     (c .before .before .before .before .before .before .before .before .before .before .before .before .pre .1) (Cut (a .next))
-    (sym (ap (λ (t : Bool). cond t (Tell (a .node + 1) (a .next)) (Cut (a .next))) (le-ltb (a .node + 1) 32 (c .if1 .left))))
+    (sym (ap (λ (t : Bool). cond t (Tell (a .node + 1) (a .next)) (Cut (a .next))) (le-ltb (a .node + 1) maxNodes (c .if1 .left))))
 
 pub tell-spec : {M : Type 1} → statement M
 tell-spec =

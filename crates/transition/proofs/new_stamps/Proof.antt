@@ -9,6 +9,7 @@ use Rattle.model.specs.Areas.{padded, stampAt}
 use Rattle.transition.specs.Head.{stampsFrom}
 use Rattle.states.proofs.Head.{padded-length}
 use Rattle.model.proofs.Parts.{length-counted}
+use Rattle.model.specs.Row.{maxNodes}
 use Rattle.transition.proofs.Head.{stamps-more}
 use Rattle.transition.proofs.new_stamps.Tie as tie
 use Rattle.transition.proofs.new_stamps.Reads as reads
@@ -16,7 +17,7 @@ use Rattle.transition.proofs.new_stamps.Lts as lts
 use Rattle.transition.proofs.stamp_of.Reads as stamp-of-reads
 
 abbrev Inv-loop : tie.InvT-loop
-Inv-loop head changed number n stamps₀ i₀ stamps i = (i ≤ n) × (stamps ≡ padded 32 (stampsFrom head changed number i))
+Inv-loop head changed number n stamps₀ i₀ stamps i = (i ≤ n) × (stamps ≡ padded maxNodes (stampsFrom head changed number i))
 
 abbrev μ-loop : tie.MeasureT-loop
 μ-loop head changed number n stamps₀ i₀ stamps i = n - i
@@ -45,8 +46,8 @@ mul-stamps c = omega (arith, c .before .before .before .loop-test .taken, c .bef
 
 array-write-stamps : tie.Need-array-write-stamps Inv-loop μ-loop
 array-write-stamps c = let a = (c .before .before .before .before .before .before .before .args) in let size : length (c .before .before .before .before .loop .stamps)
-    ≡ 32 = ap length (c .before .before .before .before .loop .inv .1)
-    ∙ padded-length 32 (stampsFrom (a .head .now) (a .changed .now) (a .number) (c .before .before .before .before .loop .i))
+    ≡ maxNodes = ap length (c .before .before .before .before .loop .inv .1)
+    ∙ padded-length maxNodes (stampsFrom (a .head .now) (a .changed .now) (a .number) (c .before .before .before .before .loop .i))
     (rw (length-counted (λ j. cond (getD (a .changed .now) j false) (a .number) (stampAt (a .head .now) j)) 0 (c .before .before .before .before .loop .i))
     (omega (arith, c .before .before .before .before .loop .inv .0, c .before .before .before .before .before .before .before .pre .0))) in omega
     (arith, c .before .before .before .loop-test .taken, c .before .before .before .before .before .before .before .pre .0, size)

@@ -13,6 +13,7 @@ use Rattle.worklist.proofs.Listing.{marks-length, marks-listed}
 use Rattle.states.proofs.Head.{padded-length}
 use Rattle.model.proofs.Parts.{length-counted}
 use Rattle.model.specs.Areas.{stampAt}
+use Rattle.model.specs.Row.{maxNodes}
 use Rattle.transition.proofs.Next.{state-written}
 use Rattle.transition.proofs.write_state.Tie as tie
 use Rattle.transition.proofs.write_state.Reads as reads
@@ -139,7 +140,7 @@ write-head-requires c κs = let a =
     .last .1 .1 .1 .1 .1 .1 .1 .1 .0)
     (c .before .before .before .before .before .before .before .before .before .before .before .before .before .before .before .before .before .before .before .before .before .write-nodes
     .last .1 .1 .1 .1 .1 .1 .1 .1 .1 .0) (a .net .count) (le-refl (a .net .count)) w in let short : length
-    (listTo (a .net .levels) (c .before .before .before .before .before .before .before .before .before .before .listed-nodes .result) (a .net .count) (a .net .count)) ≤ 32 = omega
+    (listTo (a .net .levels) (c .before .before .before .before .before .before .before .before .before .before .listed-nodes .result) (a .net .count) (a .net .count)) ≤ maxNodes = omega
     (arith, c .before .before .before .before .before .before .list-worked .ensures .1, c .before .before .before .before .before .before .list-worked .ensures .2)
     in (
       head-long (a .net) (a .rows .now) (a .gained .now) (a .lost .now) (a .head .now) (a .work .now) (a .counts .now) (a .changed .now)
@@ -148,7 +149,7 @@ write-head-requires c κs = let a =
       c .before .before .before .before .before .before .before .before .before .before .before .before .before .before .before .before .before .before .before .before .before .before .before
           .before .before .before .before .before .before .before .before .before .before .before .before .before .before .pre .0 .worked .sized .counts,
       ap length (c .before .before .before .before .before .before .before .before .before .before .before .new-stamps .ensures)
-          ∙ padded-length 32 (stampsFrom (a .head .now) (a .changed .now) (getD (a .head .now) 0 0 + 1) (a .net .count))
+          ∙ padded-length maxNodes (stampsFrom (a .head .now) (a .changed .now) (getD (a .head .now) 0 0 + 1) (a .net .count))
           (rw (length-counted (λ j. cond (getD (a .changed .now) j false) (getD (a .head .now) 0 0 + 1) (stampAt (a .head .now) j)) 0 (a .net .count))
           (c .before .before .before .before .before .before .before .before .before .before .before .before .before .before .before .before .before .before .before .before .before .before .before
           .before .before .before .before .before .before .before .before .before .before .before .before .before .before .pre .0 .built .sound .few)),
@@ -156,7 +157,7 @@ write-head-requires c κs = let a =
       l .4,
       c .before .before .before .before .before .before .list-worked .ensures .2,
       ap length (c .before .before .before .before .before .before .list-worked .ensures .0)
-          ∙ padded-length 32 (listTo (a .net .levels) (c .before .before .before .before .before .before .before .before .before .before .listed-nodes .result) (a .net .count) (a .net .count))
+          ∙ padded-length maxNodes (listTo (a .net .levels) (c .before .before .before .before .before .before .before .before .before .before .listed-nodes .result) (a .net .count) (a .net .count))
           short,
     )
 

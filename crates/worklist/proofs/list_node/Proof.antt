@@ -9,6 +9,7 @@ use Rattle.worklist.proofs.list_node.Statement.{statement}
 use Rattle.worklist.proofs.list_node.Tie as tie
 use Rattle.worklist.proofs.list_node.Reads as reads
 use Rattle.worklist.proofs.list_node.Lts as lts
+use Rattle.model.specs.Row.{maxNodes}
 
 mul-if1 : tie.Need-mul-if1
 mul-if1 c = search needs
@@ -33,12 +34,12 @@ mul-entries : tie.Need-mul-entries
 mul-entries c = search needs
 
 slice-write-entries : tie.Need-slice-write-entries
-slice-write-entries c = let a = (c .before .before .before .before .args) in let room : a .k + 1 ≤ 32 =
+slice-write-entries c = let a = (c .before .before .before .before .args) in let room : a .k + 1 ≤ maxNodes =
     rw (eq-eqb (getD (a .levels .now) (a .i) 0) (a .level) (c .before .before .if1 .left), not-false (getD (a .listed .now) (a .i) false) (c .if2 .left))
     at (c .before .before .before .before .pre .4) in omega (arith, room, c .before .before .before .before .pre .3)
 
 add-result : tie.Need-add-result
-add-result c = let a = (c .before .before .before .before .args) in let room : a .k + 1 ≤ 32 =
+add-result c = let a = (c .before .before .before .before .args) in let room : a .k + 1 ≤ maxNodes =
     rw (eq-eqb (getD (a .levels .now) (a .i) 0) (a .level) (c .before .before .if1 .left), not-false (getD (a .listed .now) (a .i) false) (c .if2 .left))
     at (c .before .before .before .before .pre .4) in omega (arith, room)
 

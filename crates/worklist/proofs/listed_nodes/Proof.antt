@@ -12,16 +12,17 @@ use Rattle.worklist.proofs.listed_nodes.Tie as tie
 use Rattle.worklist.proofs.listed_nodes.Reads as reads
 use Rattle.worklist.proofs.listed_nodes.Lts as lts
 use Rattle.worklist.proofs.is_listed.Reads as is-listed-reads
+use Rattle.model.specs.Row.{maxNodes}
 
 abbrev Inv-loop : tie.InvT-loop
-Inv-loop changed net listed₀ i₀ listed i = (i ≤ net .count) × (length listed ≡ 32) × ((j : ℕ) → j < i → getD listed j false ≡ listedIn net changed j)
-    × ((j : ℕ) → i ≤ j → j < 32 → getD listed j false ≡ false)
+Inv-loop changed net listed₀ i₀ listed i = (i ≤ net .count) × (length listed ≡ maxNodes) × ((j : ℕ) → j < i → getD listed j false ≡ listedIn net changed j)
+    × ((j : ℕ) → i ≤ j → j < maxNodes → getD listed j false ≡ false)
 
 abbrev μ-loop : tie.MeasureT-loop
 μ-loop changed net listed₀ i₀ listed i = net .count - i
 
 loop-holds : tie.Need-loop-holds Inv-loop μ-loop
-loop-holds c = (zero-le, length-replicate {A = Bool} 32 false, (λ j h. absurd (not-suc-le-zero h)), λ j h k. getD-replicate {A = Bool} 32 j false false k)
+loop-holds c = (zero-le, length-replicate {A = Bool} maxNodes false, (λ j h. absurd (not-suc-le-zero h)), λ j h k. getD-replicate {A = Bool} maxNodes j false false k)
 
 mul-slot : tie.Need-mul-slot Inv-loop μ-loop
 mul-slot c = omega (arith, c .loop-test .taken, c .before .before .before .pre .0 .sound .few)
