@@ -1,7 +1,7 @@
 -- What the reader's networks mean: the model's network, reading and answer.
 use mathlib.Core.Path.{_≡_}
 use mathlib.Core.List.{List, [], map}
-use Prim.Native.Nat.{ℕ, _≤_, _<_}
+use Prim.Native.Nat.{ℕ, _*_, _≤_, _<_}
 use lib.ListN.{getD, take, length}
 use Rattle.model.specs.Record.{Bytes}
 use Rattle.model.specs.Algebra.{Pair}

@@ -7,7 +7,7 @@ ghost use Rattle.model.specs.Network.{noNetwork, refusedReading, kindOf, maxPai
 ghost use Rattle.model.specs.Record.{fieldsAt};
 ghost use Rattle.model.specs.Areas.{padded};
 ghost use Rattle.model.specs.Calls.{readCall};
-ghost use Rattle.model.specs.Row.{maxNodes, maxRows, maxWidth};
+ghost use Rattle.model.specs.Row.{maxNodes, maxWidth};
 ghost use Rattle.nodes.specs.Nodes.{nodeAt, listsOf, ListsFit};
 ghost use Rattle.network.specs.Reading.{ReadsNetwork, slotNode, Shaped, InputsBelow, WidthIs, LevelIs, Built, nodesOf, networkOf, readingOf};
 ghost use Rattle.network.specs.Reading.{answerOf};
@@ -115,7 +115,7 @@ fn greater(a: usize, b: usize) -> usize
 
 // A node's level, from the levels of the nodes before it.
 fn level_of(node: Node, levels: &[usize]) -> usize
-    requires { ⌜ InputsBelow node (length (now levels)) × ((i : ℕ) → getD (now levels) i 0 ≤ i) × (length (now levels) ≤ maxRows) ⌝ }
+    requires { ⌜ InputsBelow node (length (now levels)) × ((i : ℕ) → getD (now levels) i 0 ≤ i) × (length (now levels) ≤ maxNodes) ⌝ }
     ensures { λ r. ⌜ LevelIs node (now (levels .entry)) r ⌝ }
 {
     let parts = nodes::parts_of(node);
