@@ -55,7 +55,8 @@ part-is area i =
     ap₂ {A = ℕ} {B = ℕ} {C = List ℕ} (λ a b. take a (drop b area)) f e
 
 -- what the check of a place says
-pub place-form : (w count : ℕ) (area part : List ℕ) (i : ℕ) (good clean : Bool) → w ≤ maxWidth → count ≤ maxRows → i < maxNodes → areaSize ≤ length area → part ≡ take placeSize (drop (placeSize * i) area) →
+pub place-form : (w count : ℕ) (area part : List ℕ) (i : ℕ) (good clean : Bool) → w ≤ maxWidth → count ≤ maxRows → i < maxNodes → areaSize ≤ length area → part
+    ≡ take placeSize (drop (placeSize * i) area) →
     good ≡ goodRows w (firstRows part count) → clean ≡ allZero (slice (count * stride) placeSize part) → goodPlace layout w count area i ≡ (good && clean)
 place-form w count area part i good clean narrow few h l p g z =
     sym (place-checked w count area i narrow few (omega arith))

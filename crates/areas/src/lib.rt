@@ -38,7 +38,8 @@ pub const HEAD: usize = WORKED + 1 + MAX_NODES;
 
 // Whether every area has its named words.
 pub fn long_enough(rows: &[u32], gained: &[u32], lost: &[u32], head: &[u32]) -> bool
-    ensures { λ r. ⌜ r ≡ longEnough layout (lent (now (rows .entry)) (now (gained .entry)) (now (lost .entry)) (now (head .entry))) ⌝ }
+    ensures { λ r. ⌜ r ≡ longEnough layout
+        (lent (now (rows .entry)) (now (gained .entry)) (now (lost .entry)) (now (head .entry))) ⌝ }
 {
     if rows.len() < AREA {
         return false;
@@ -83,9 +84,11 @@ fn empty_place(area: &[u32], i: usize, count: usize) -> bool
 
 // Whether the place with number i is of good form, in a network of n nodes.
 fn good_node(area: &[u32], widths: &[usize], n: usize, head: &[u32], first: usize, i: usize) -> bool
-    requires { ⌜ (i < maxNodes) × (areaSize ≤ length (now area)) × (n ≤ length (now widths)) × Narrow (now widths) × (headWords ≤ length (now head)) × (first ≤ headWords - maxNodes) ⌝ }
+    requires { ⌜ (i < maxNodes) × (areaSize ≤ length (now area)) × (n ≤ length (now widths)) × Narrow (now widths)
+        × (headWords ≤ length (now head)) × (first ≤ headWords - maxNodes) ⌝ }
     ensures { λ r. ⌜ r ≡ cond (ltb i n)
-        (goodPlace layout (getD (now (widths .entry)) i 0) (countsFrom (now (head .entry)) first i) (now (area .entry)) i)
+        (goodPlace layout (getD (now (widths .entry)) i 0) (countsFrom (now (head .entry)) first i)
+        (now (area .entry)) i)
         (emptyPlace layout (countsFrom (now (head .entry)) first i) (now (area .entry)) i) ⌝ }
 {
     let count = head[first + i] as usize;
@@ -97,8 +100,10 @@ fn good_node(area: &[u32], widths: &[usize], n: usize, head: &[u32], first: usiz
 
 // Whether every place of an area is of good form, in a network of n nodes, the counts standing in the head from a word on.
 fn good_area(area: &[u32], widths: &[usize], n: usize, head: &[u32], first: usize) -> bool
-    requires { ⌜ (areaSize ≤ length (now area)) × (n ≤ length (now widths)) × Narrow (now widths) × (headWords ≤ length (now head)) × (first ≤ headWords - maxNodes) ⌝ }
-    ensures { λ r. ⌜ r ≡ goodArea layout (take n (now (widths .entry))) (countsFrom (now (head .entry)) first) (now (area .entry)) ⌝ }
+    requires { ⌜ (areaSize ≤ length (now area)) × (n ≤ length (now widths)) × Narrow (now widths)
+        × (headWords ≤ length (now head)) × (first ≤ headWords - maxNodes) ⌝ }
+    ensures { λ r. ⌜ r ≡ goodArea layout (take n (now (widths .entry))) (countsFrom (now (head .entry)) first)
+        (now (area .entry)) ⌝ }
 {
     let mut i = 0;
     while i < MAX_NODES {
@@ -141,7 +146,8 @@ fn good_stamps(head: &[u32], n: usize) -> bool
 // Whether entry k of the worked list is a node's number, or 0 past those that are counted.
 fn good_entry(head: &[u32], n: usize, counted: usize, k: usize) -> bool
     requires { ⌜ (headWords ≤ length (now head)) × (k < maxNodes) ⌝ }
-    ensures { λ r. ⌜ r ≡ cond (ltb k counted) (ltb (workedAt (now (head .entry)) k) n) (eqb (workedAt (now (head .entry)) k) 0) ⌝ }
+    ensures { λ r. ⌜ r ≡ cond (ltb k counted) (ltb (workedAt (now (head .entry)) k) n)
+        (eqb (workedAt (now (head .entry)) k) 0) ⌝ }
 {
     let entry = head[WORKED + 1 + k];
     if k < counted {
@@ -178,9 +184,11 @@ pub fn good_form(
     lost: &[u32],
     head: &[u32],
 ) -> bool
-    requires { ⌜ (n ≤ length (now widths)) × Narrow (now widths) × (longEnough layout (lent (now rows) (now gained) (now lost) (now head)) ≡ true) ⌝ }
+    requires { ⌜ (n ≤ length (now widths)) × Narrow (now widths)
+        × (longEnough layout (lent (now rows) (now gained) (now lost) (now head)) ≡ true) ⌝ }
     ensures { λ r. ⌜ ((nodes : List Node) → take n (now (widths .entry)) ≡ Rattle.model.specs.Network.widths nodes →
-        r ≡ goodForm layout nodes (lent (now (rows .entry)) (now (gained .entry)) (now (lost .entry)) (now (head .entry)))) ⌝ }
+        r ≡ goodForm layout nodes (lent (now (rows .entry)) (now (gained .entry)) (now (lost .entry))
+        (now (head .entry)))) ⌝ }
 {
     if !good_area(rows, widths, n, head, ROW_COUNTS) {
         return false;

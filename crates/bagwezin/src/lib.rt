@@ -19,13 +19,15 @@ pub extern "C" fn bagwezin_open(
 ) -> u64
     ensures answers { λ r. ⌜
         Answers
-        (openCall (now (net .entry)) (lent (now (rows .entry)) (now (gained .entry)) (now (lost .entry)) (now (head .entry))) .verdict)
+        (openCall (now (net .entry)) (lent (now (rows .entry)) (now (gained .entry)) (now (lost .entry))
+        (now (head .entry))) .verdict)
         0
         r
         ⌝ }
     ensures areas { λ _. ⌜
         lent (now (rows .exit)) (now (gained .exit)) (now (lost .exit)) (now (head .exit))
-        ≡ openCall (now (net .entry)) (lent (now (rows .entry)) (now (gained .entry)) (now (lost .entry)) (now (head .entry))) .areas
+        ≡ openCall (now (net .entry)) (lent (now (rows .entry)) (now (gained .entry)) (now (lost .entry))
+        (now (head .entry))) .areas
         ⌝ }
 {
     let v = opening::open(net, rows, gained, lost, head);
@@ -66,7 +68,8 @@ pub extern "C" fn bagwezin_check(
 ) -> u64
     ensures answers { λ r. ⌜
         AnswersCheck
-        (checkCall (now (net .entry)) (lent (now (rows .entry)) (now (gained .entry)) (now (lost .entry)) (now (head .entry))))
+        (checkCall (now (net .entry)) (lent (now (rows .entry)) (now (gained .entry)) (now (lost .entry))
+        (now (head .entry))))
         r
         ⌝ }
 {
@@ -87,13 +90,15 @@ pub extern "C" fn bagwezin_report(
 ) -> u64
     ensures answers { λ r. ⌜
         AnswersReport
-        (reportCall (now (net .entry)) node (lent (now (rows .entry)) (now (gained .entry)) (now (lost .entry)) (now (head .entry)))
+        (reportCall (now (net .entry)) node
+        (lent (now (rows .entry)) (now (gained .entry)) (now (lost .entry)) (now (head .entry)))
         (now (out .entry)))
         r
         ⌝ }
     ensures bytes { λ _. ⌜
         now (out .exit)
-        ≡ reportCall (now (net .entry)) node (lent (now (rows .entry)) (now (gained .entry)) (now (lost .entry)) (now (head .entry)))
+        ≡ reportCall (now (net .entry)) node
+        (lent (now (rows .entry)) (now (gained .entry)) (now (lost .entry)) (now (head .entry)))
         (now (out .entry)) .out
         ⌝ }
 {

@@ -20,8 +20,10 @@ fn advance(
     lost: &mut [u32],
     head: &mut [u32],
 ) -> Verdict
-    requires { ⌜ Applicable net (lent (now rows) (now gained) (now lost) (now head)) × Unrefused net (now bytes) (now head) ⌝ }
-    ensures { λ r. ⌜ AppliedTo net (now (bytes .entry)) (lent (now (rows .entry)) (now (gained .entry)) (now (lost .entry)) (now (head .entry)))
+    requires { ⌜ Applicable net (lent (now rows) (now gained) (now lost) (now head))
+        × Unrefused net (now bytes) (now head) ⌝ }
+    ensures { λ r. ⌜ AppliedTo net (now (bytes .entry))
+        (lent (now (rows .entry)) (now (gained .entry)) (now (lost .entry)) (now (head .entry)))
         (resultWith r (lent (now (rows .exit)) (now (gained .exit)) (now (lost .exit)) (now (head .exit)))) ⌝ }
 {
     let mut work = [0u32; AREA];
@@ -45,7 +47,8 @@ pub fn apply_batch(
     head: &mut [u32],
 ) -> Verdict
     requires { ⌜ Applicable net (lent (now rows) (now gained) (now lost) (now head)) ⌝ }
-    ensures { λ r. ⌜ AppliedTo net (now (bytes .entry)) (lent (now (rows .entry)) (now (gained .entry)) (now (lost .entry)) (now (head .entry)))
+    ensures { λ r. ⌜ AppliedTo net (now (bytes .entry))
+        (lent (now (rows .entry)) (now (gained .entry)) (now (lost .entry)) (now (head .entry)))
         (resultWith r (lent (now (rows .exit)) (now (gained .exit)) (now (lost .exit)) (now (head .exit)))) ⌝ }
 {
     if head[0] == LAST {

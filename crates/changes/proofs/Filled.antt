@@ -35,7 +35,8 @@ module _ (area : List ℕ) (i : ℕ) (fits : i * placeSize + placeSize ≤ lengt
 
   -- rows written where they stand already
   pub placed-same : (rel : Relation) → length (placeOf layout rel) ≡ placeSize → placeAt area i ≡ placeOf layout rel → area ≡ placed area i rel
-  placed-same rel size e = sym (ap (λ (l : List ℕ). take (i * placeSize) area ++ l ++ drop (i * placeSize + placeSize) area) (take-all placeSize (placeOf layout rel) (omega (arith, size)) ∙ sym e) ∙ whole)
+  placed-same rel size e = sym (ap (λ (l : List ℕ). take (i * placeSize) area ++ l ++ drop (i * placeSize + placeSize) area)
+      (take-all placeSize (placeOf layout rel) (omega (arith, size)) ∙ sym e) ∙ whole)
 
   -- the words of the rows set to 0
   pub placed-none : (w count : ℕ) (after : List ℕ) → Place w (placeAt area i) count →
@@ -57,8 +58,10 @@ module _ (area : List ℕ) (i : ℕ) (fits : i * placeSize + placeSize ≤ lengt
       let rest : drop (i * placeSize + count * stride) area ≡ replicate (placeSize - count * stride) 0 ++ drop (i * placeSize + placeSize) area =
       sym (take-append-drop (placeSize - count * stride) (drop (i * placeSize + count * stride) area))
       ∙ ap₂ {A = List ℕ} {B = List ℕ} {C = List ℕ} (λ a b. a ++ b) same
-      (drop-drop (placeSize - count * stride) (i * placeSize + count * stride) area ∙ ap (λ (k : ℕ). drop k area) (let f : i * placeSize + count * stride + (placeSize - count * stride) ≡ i * placeSize + placeSize = omega arith in f)) in
-      let zeros : replicate {A = ℕ} (count * stride) 0 ++ replicate (placeSize - count * stride) 0 ≡ placeOf layout [] = replicate-append-replicate {A = ℕ} (count * stride) (placeSize - count * stride) 0
+      (drop-drop (placeSize - count * stride) (i * placeSize + count * stride) area ∙ ap (λ (k : ℕ). drop k area)
+      (let f : i * placeSize + count * stride + (placeSize - count * stride) ≡ i * placeSize + placeSize = omega arith in f)) in
+      let zeros : replicate {A = ℕ} (count * stride) 0 ++ replicate (placeSize - count * stride) 0
+      ≡ placeOf layout [] = replicate-append-replicate {A = ℕ} (count * stride) (placeSize - count * stride) 0
       ∙ ap (λ (k : ℕ). replicate {A = ℕ} k 0) (sym split) ∙ place-none in
       e
       ∙ ap (λ (k : ℕ). paste area (i * placeSize) (replicate k 0) k) cut′
@@ -121,7 +124,8 @@ module _ (rels : List Relation) (area : List ℕ) (s : Sized rels) where
       place-size j g = s j g
 
 -- places that are all 0
-zeros-to : (area : List ℕ) (k n : ℕ) → n + k ≡ maxNodes → ((j : ℕ) → n ≤ j → j < maxNodes → placeAt area j ≡ replicate placeSize 0) → take (k * placeSize) (drop (n * placeSize) area) ≡ replicate (k * placeSize) 0
+zeros-to : (area : List ℕ) (k n : ℕ) → n + k ≡ maxNodes → ((j : ℕ) → n ≤ j → j < maxNodes → placeAt area j ≡ replicate placeSize 0) → take (k * placeSize) (drop (n * placeSize) area)
+    ≡ replicate (k * placeSize) 0
 zeros-to area zero n e z = ap (λ (m : ℕ). take m (drop (n * placeSize) area)) (zero-mul placeSize) ∙ ap (λ (m : ℕ). replicate {A = ℕ} m 0) (sym (zero-mul placeSize))
 zeros-to area (suc k) n e z =
     let f : suc k * placeSize ≡ placeSize + k * placeSize = omega arith in
@@ -136,7 +140,8 @@ zeros-to area (suc k) n e z =
     ∙ ap (λ (m : ℕ). replicate {A = ℕ} m 0) (sym f)
 
 -- every node's place written: the named words are those of the relations
-pub filled-all : (rels : List Relation) (area : List ℕ) → Sized rels → length rels ≤ maxNodes → areaSize ≤ length area → ((j : ℕ) → length rels ≤ j → j < maxNodes → placeAt area j ≡ replicate placeSize 0) →
+pub filled-all : (rels : List Relation) (area : List ℕ) → Sized rels → length rels ≤ maxNodes → areaSize ≤ length area
+    → ((j : ℕ) → length rels ≤ j → j < maxNodes → placeAt area j ≡ replicate placeSize 0) →
     filled rels (length rels) area ≡ over (areaOf layout rels) area
 unfolding areaOf
 filled-all rels area s few long z =
@@ -149,7 +154,8 @@ filled-all rels area s few long z =
     let rest : drop (length rels * placeSize) area ≡ replicate (areaSize - length (flatMap (placeOf layout) rels)) 0 ++ drop areaSize area =
     sym (take-append-drop ((maxNodes - length rels) * placeSize) (drop (length rels * placeSize) area))
     ∙ ap₂ {A = List ℕ} {B = List ℕ} {C = List ℕ} (λ a b. a ++ b) (zeros-to area (maxNodes - length rels) (length rels) (omega arith) z ∙ ap (λ (m : ℕ). replicate {A = ℕ} m 0) (sym part))
-    (drop-drop ((maxNodes - length rels) * placeSize) (length rels * placeSize) area ∙ ap (λ (m : ℕ). drop m area) (let f : length rels * placeSize + (maxNodes - length rels) * placeSize ≡ areaSize = omega arith in f)) in
+    (drop-drop ((maxNodes - length rels) * placeSize) (length rels * placeSize) area ∙ ap (λ (m : ℕ). drop m area)
+    (let f : length rels * placeSize + (maxNodes - length rels) * placeSize ≡ areaSize = omega arith in f)) in
     ap₂ {A = List Relation} {B = List ℕ} {C = List ℕ} (λ r l. flatMap (placeOf layout) r ++ l) (take-length rels) rest
     ∙ sym (append-assoc (flatMap (placeOf layout) rels) (replicate (areaSize - length (flatMap (placeOf layout) rels)) 0) (drop areaSize area))
     ∙ ap (λ (m : ℕ). (flatMap (placeOf layout) rels ++ replicate (areaSize - length (flatMap (placeOf layout) rels)) 0) ++ drop m area) (sym words)

@@ -38,7 +38,8 @@ use Rattle.model.proofs.Parts.{map-append}
 use Rattle.model.specs.Areas.{areaSize, headWords}
 
 lengths-more : (rels : List Relation) (i : ℕ) → i < length rels → map length (take (i + 1) rels) ≡ map length (take i rels) ++ (length (getD rels i []) ∷ [])
-lengths-more rels i h = let e : i + 1 ≡ suc i = omega arith in ap (λ (k : ℕ). map length (take k rels)) e ∙ ap (map length) (take-suc rels i [] h) ∙ map-append {A = Relation} {B = ℕ} length (take i rels) (getD rels i [] ∷ [])
+lengths-more rels i h = let e : i + 1
+    ≡ suc i = omega arith in ap (λ (k : ℕ). map length (take k rels)) e ∙ ap (map length) (take-suc rels i [] h) ∙ map-append {A = Relation} {B = ℕ} length (take i rels) (getD rels i [] ∷ [])
 
 -- a count set in an array of 32
 sizes-more : (rels : List Relation) (i : ℕ) (array : List ℕ) (x : ℕ) → i < length rels → length rels ≤ maxNodes → array ≡ padded maxNodes (map length (take i rels)) → x ≡ length (getD rels i []) →

@@ -25,7 +25,8 @@ abbrev pub placed : List ℕ → ℕ → Relation → List ℕ
 placed area i rel = paste area (i * placeSize) (placeOf layout rel) placeSize
 
 -- node i's new rows and its change are written
-pub record WritesNode (old new : Relation) (rows gained lost rows′ gained′ lost′ : List ℕ) (i : ℕ) (sizes : Sizes) : Type 0 where
+pub record WritesNode (old new : Relation) (rows gained lost rows′ gained′ lost′ : List ℕ) (i : ℕ)
+    (sizes : Sizes) : Type 0 where
   pub rows-are : rows′ ≡ placed rows i new
   pub gained-are : gained′ ≡ placed gained i (differenceRows new old)
   pub lost-are : lost′ ≡ placed lost i (differenceRows old new)
@@ -54,10 +55,13 @@ abbrev pub lostOf : List Relation → List Relation → List Relation
 lostOf old new = map (λ c. c .lost) (netChanges old new)
 
 -- the places of the first i nodes are written, with the sizes of their changes
-pub record WritesNodes (nodes : List Node) (new : List Relation) (rows gained lost head rows′ gained′ lost′ gains losses : List ℕ)
+pub record WritesNodes (nodes : List Node) (new : List Relation)
+    (rows gained lost head rows′ gained′ lost′ gains losses : List ℕ)
     (i : ℕ) : Type 0 where
   pub rows-are : rows′ ≡ filled new i rows
   pub gained-are : gained′ ≡ filled (gainedOf (rowsIn layout nodes (lent rows gained lost head)) new) i gained
   pub lost-are : lost′ ≡ filled (lostOf (rowsIn layout nodes (lent rows gained lost head)) new) i lost
-  pub gains-are : gains ≡ padded maxNodes (map length (take i (gainedOf (rowsIn layout nodes (lent rows gained lost head)) new)))
-  pub losses-are : losses ≡ padded maxNodes (map length (take i (lostOf (rowsIn layout nodes (lent rows gained lost head)) new)))
+  pub gains-are : gains ≡ padded maxNodes
+      (map length (take i (gainedOf (rowsIn layout nodes (lent rows gained lost head)) new)))
+  pub losses-are : losses ≡ padded maxNodes
+      (map length (take i (lostOf (rowsIn layout nodes (lent rows gained lost head)) new)))

@@ -28,10 +28,12 @@ fn write_difference(
     area: &mut [u32],
     i: usize,
 ) -> usize
-    requires { ⌜ (i < maxNodes) × (areaSize ≤ length (now area)) × (n ≤ maxRows) × (m ≤ maxRows) × (length (now left) ≡ placeSize) × (length (now right) ≡ placeSize)
+    requires { ⌜ (i < maxNodes) × (areaSize ≤ length (now area)) × (n ≤ maxRows) × (m ≤ maxRows)
+        × (length (now left) ≡ placeSize) × (length (now right) ≡ placeSize)
         × (ascending (firstRows (now right) m) ≡ true) ⌝ }
     ensures { λ r. ⌜ ((w : ℕ) → Place w (now (left .entry)) n → Place w (now (right .entry)) m →
-        (now (area .exit) ≡ placed (now (area .entry)) i (differenceRows (relationIn w (now (left .entry)) n) (relationIn w (now (right .entry)) m)))
+        (now (area .exit) ≡ placed (now (area .entry)) i
+        (differenceRows (relationIn w (now (left .entry)) n) (relationIn w (now (right .entry)) m)))
         × (r ≡ length (differenceRows (relationIn w (now (left .entry)) n) (relationIn w (now (right .entry)) m)))) ⌝ }
 {
     let mut out = [0u32; PLACE];
@@ -43,7 +45,8 @@ fn write_difference(
 // Node i's place of an area, with so many rows, emptied.
 fn clear_place(area: &mut [u32], i: usize, count: usize)
     requires { ⌜ (i < maxNodes) × (areaSize ≤ length (now area)) × (count ≤ maxRows) ⌝ }
-    ensures { λ _. ⌜ ((w : ℕ) → Place w (placeAt (now (area .entry)) i) count → now (area .exit) ≡ placed (now (area .entry)) i []) ⌝ }
+    ensures { λ _. ⌜ ((w : ℕ) → Place w (placeAt (now (area .entry)) i) count → now (area .exit)
+        ≡ placed (now (area .entry)) i []) ⌝ }
 {
     words::clear_run(area, i * PLACE, i * PLACE + count * STRIDE);
 }
@@ -65,10 +68,13 @@ fn write_change(
     gained: &mut [u32],
     lost: &mut [u32],
 ) -> Sizes
-    requires { ⌜ (i < maxNodes) × (areaSize ≤ length (now work)) × (areaSize ≤ length (now rows)) × (areaSize ≤ length (now gained)) × (areaSize ≤ length (now lost))
-        × (n ≤ maxRows) × (m ≤ maxRows) × (ascending (firstRows (placeAt (now work) i) n) ≡ true) × (ascending (firstRows (placeAt (now rows) i) m) ≡ true) ⌝ }
+    requires { ⌜ (i < maxNodes) × (areaSize ≤ length (now work)) × (areaSize ≤ length (now rows))
+        × (areaSize ≤ length (now gained)) × (areaSize ≤ length (now lost))
+        × (n ≤ maxRows) × (m ≤ maxRows) × (ascending (firstRows (placeAt (now work) i) n) ≡ true)
+        × (ascending (firstRows (placeAt (now rows) i) m) ≡ true) ⌝ }
     ensures { λ r. ⌜ ((w : ℕ) → Place w (placeAt (now (work .entry)) i) n → Place w (placeAt (now (rows .entry)) i) m →
-        WritesNode (relationIn w (placeAt (now (rows .entry)) i) m) (relationIn w (placeAt (now (work .entry)) i) n) (now (rows .entry))
+        WritesNode (relationIn w (placeAt (now (rows .entry)) i) m) (relationIn w (placeAt (now (work .entry)) i) n)
+        (now (rows .entry))
         (now (gained .entry)) (now (lost .entry)) (now (rows .exit)) (now (gained .exit)) (now (lost .exit)) i r) ⌝ }
 {
     let at = i * PLACE;
@@ -92,13 +98,17 @@ fn write_node(
     lost: &mut [u32],
     l: usize,
 ) -> Sizes
-    requires { ⌜ (i < maxNodes) × (areaSize ≤ length (now work)) × (areaSize ≤ length (now rows)) × (areaSize ≤ length (now gained)) × (areaSize ≤ length (now lost))
-        × (n ≤ maxRows) × (m ≤ maxRows) × (g ≤ maxRows) × (l ≤ maxRows) × (ascending (firstRows (placeAt (cond changed (now work) (now rows)) i) n) ≡ true)
+    requires { ⌜ (i < maxNodes) × (areaSize ≤ length (now work)) × (areaSize ≤ length (now rows))
+        × (areaSize ≤ length (now gained)) × (areaSize ≤ length (now lost))
+        × (n ≤ maxRows) × (m ≤ maxRows) × (g ≤ maxRows) × (l ≤ maxRows)
+        × (ascending (firstRows (placeAt (cond changed (now work) (now rows)) i) n) ≡ true)
         × (ascending (firstRows (placeAt (now rows) i) m) ≡ true) × (changed ≡ false → n ≡ m) ⌝ }
     ensures { λ r. ⌜ ((w : ℕ) → Place w (placeAt (cond changed (now (work .entry)) (now (rows .entry))) i) n →
-        Place w (placeAt (now (rows .entry)) i) m → Place w (placeAt (now (gained .entry)) i) g → Place w (placeAt (now (lost .entry)) i) l →
+        Place w (placeAt (now (rows .entry)) i) m → Place w (placeAt (now (gained .entry)) i) g
+        → Place w (placeAt (now (lost .entry)) i) l →
         WritesNode (relationIn w (placeAt (now (rows .entry)) i) m)
-        (relationIn w (placeAt (cond changed (now (work .entry)) (now (rows .entry))) i) n) (now (rows .entry)) (now (gained .entry))
+        (relationIn w (placeAt (cond changed (now (work .entry)) (now (rows .entry))) i) n) (now (rows .entry))
+        (now (gained .entry))
         (now (lost .entry)) (now (rows .exit)) (now (gained .exit)) (now (lost .exit)) i r) ⌝ }
 {
     if changed {
@@ -122,11 +132,14 @@ pub fn write_nodes(
     gains: &mut [u32],
     losses: &mut [u32],
 )
-    requires { ⌜ WorkedOut net (now rows) (now gained) (now lost) (now head) (now work) (now counts) (now changed) × (now gains ≡ replicate maxNodes 0)
+    requires { ⌜ WorkedOut net (now rows) (now gained) (now lost) (now head) (now work) (now counts) (now changed)
+        × (now gains ≡ replicate maxNodes 0)
         × (now losses ≡ replicate maxNodes 0) ⌝ }
-    ensures { λ _. ⌜ ((o : WorkedOut net (now (rows .entry)) (now (gained .entry)) (now (lost .entry)) (now (head .entry)) (now (work .entry))
+    ensures { λ _. ⌜ ((o : WorkedOut net (now (rows .entry)) (now (gained .entry)) (now (lost .entry))
+        (now (head .entry)) (now (work .entry))
         (now (counts .entry)) (now (changed .entry))) →
-        WritesNodes (nodesOf net) (o .new) (now (rows .entry)) (now (gained .entry)) (now (lost .entry)) (now (head .entry)) (now (rows .exit))
+        WritesNodes (nodesOf net) (o .new) (now (rows .entry)) (now (gained .entry)) (now (lost .entry))
+        (now (head .entry)) (now (rows .exit))
         (now (gained .exit)) (now (lost .exit)) (now (gains .exit)) (now (losses .exit)) (net .count)) ⌝ }
 {
     let mut i = 0;

@@ -9,15 +9,15 @@ use lib.ListN.{getD, length, take}
 use lib.Seq.{take-all}
 use Rattle.coherence.specs.Held.{Derived, Places, givenAt, heldAt}
 use Rattle.places.specs.Places.{Fills}
-use Rattle.model.specs.Row.{Relation, sameRow, sameRows, maxRows, maxWidth}
+use Rattle.model.specs.Row.{Relation, sameRow, sameRows, maxRows, maxWidth, Wide}
 use Rattle.network.specs.declared.Slot.{Slot}
-use Rattle.rows.specs.Rows.{Wide, firstRows}
+use Rattle.rows.specs.Rows.{firstRows}
 use Rattle.rows.proofs.Checked.{bool-same, placed-rows, place-length}
 use Rattle.words.specs.Runs.{sameFirst}
 use Rattle.rows.proofs.Place.{held-wide, length-held}
 use Rattle.model.specs.Areas.{layout, placeOf, rowCount, placeSize, stride}
 use Rattle.model.specs.Network.{leftOf, rightOf}
-use Rattle.evaluation.proofs.Inside.{on-wide}
+use Rattle.model.proofs.ByKind.{on-wide}
 use Rattle.coherence.proofs.Placed.{rows-few, words-at}
 use Rattle.areas.specs.Lent.{placeAt}
 use Rattle.model.proofs.Order.{sameRow-eq, sameRow-refl}

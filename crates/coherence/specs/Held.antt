@@ -38,7 +38,8 @@ pub record Derived (slot : Slot) (ws : List ℕ) (i : ℕ) : Type 0 where
 
 -- the rows that node i's kind gives from its inputs' rows in the area
 abbrev pub givenAt : Slot → List ℕ → List ℕ → List ℕ → Relation
-givenAt slot ws head rows = evaluateOn (slotNode slot) (heldAt ws head rows (leftOf (slotNode slot))) (heldAt ws head rows (rightOf (slotNode slot)))
+givenAt slot ws head rows = evaluateOn (slotNode slot) (heldAt ws head rows (leftOf (slotNode slot)))
+    (heldAt ws head rows (rightOf (slotNode slot)))
 
 -- a network that reading accepts, and areas whose rows are of good form
 pub record Checkable (net : Network) (rows head : List ℕ) : Type 0 where
@@ -48,7 +49,8 @@ pub record Checkable (net : Network) (rows head : List ℕ) : Type 0 where
 
 -- a node, number i, is a table, or its rows are what its kind gives from its inputs' rows
 abbrev pub slotAgrees : Slot → List ℕ → List ℕ → List ℕ → ℕ → Bool
-slotAgrees slot ws head rows i = cond (model.isTable (slotNode slot)) true (sameRows (heldAt ws head rows i) (givenAt slot ws head rows))
+slotAgrees slot ws head rows i = cond (model.isTable (slotNode slot)) true
+    (sameRows (heldAt ws head rows i) (givenAt slot ws head rows))
 
 -- the nodes' rows in the area
 abbrev pub rowsHeld : Network → List ℕ → List ℕ → List Relation
@@ -56,4 +58,5 @@ rowsHeld net rows head = relationsIn layout (model.widths (nodesOf net)) (rowCou
 
 -- each derived node's rows equal its fresh evaluation on the tables
 abbrev pub freshIn : Network → List ℕ → List ℕ → Bool
-freshIn net rows head = sameRelations (rowsHeld net rows head) (evaluate (nodesOf net) (tablesOf (nodesOf net) (rowsHeld net rows head)))
+freshIn net rows head = sameRelations (rowsHeld net rows head)
+    (evaluate (nodesOf net) (tablesOf (nodesOf net) (rowsHeld net rows head)))

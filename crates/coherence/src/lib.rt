@@ -37,7 +37,8 @@ fn evaluate_held(
     out: &mut [u32],
 ) -> Made
     requires { ⌜ Places (now widths) n (now rows) (now head) × Derived slot (now widths) n × Blank (now out) ⌝ }
-    ensures { λ r. ⌜ Makes (givenAt slot (now (widths .entry)) (now (head .entry)) (now (rows .entry))) (now (out .exit)) r ⌝ }
+    ensures { λ r. ⌜ Makes (givenAt slot (now (widths .entry)) (now (head .entry)) (now (rows .entry)))
+        (now (out .exit)) r ⌝ }
 {
     let inputs = evaluation::inputs_of(slot);
     let l = inputs.left;

@@ -25,7 +25,8 @@ pub fn begin(
         × (nodeRoom ≤ length (now out)) ⌝ }
     ensures { λ r. ⌜ Says (files n b (now (net .entry)) (now (file .entry))) Begin
         (lent (now (rows .entry)) (now (gained .entry)) (now (lost .entry)) (now (head .entry)))
-        (lent (now (rows .exit)) (now (gained .exit)) (now (lost .exit)) (now (head .exit))) (now (out .entry)) (now (out .exit)) r ⌝ }
+        (lent (now (rows .exit)) (now (gained .exit)) (now (lost .exit)) (now (head .exit))) (now (out .entry))
+        (now (out .exit)) r ⌝ }
 {
     if !stages::has_input(n, b, net, file) {
         let size = lines::put_line_at(out, 0, b"no input", &[]);
@@ -59,10 +60,12 @@ fn apply(
     head: &mut [u32],
     out: &mut [u8],
 ) -> Said
-    requires { ⌜ Opened (now net) (lent (now rows) (now gained) (now lost) (now head)) × (nodeRoom ≤ length (now out)) ⌝ }
+    requires { ⌜ Opened (now net) (lent (now rows) (now gained) (now lost) (now head))
+        × (nodeRoom ≤ length (now out)) ⌝ }
     ensures { λ r. ⌜ Applies (now (net .entry)) (now (batch .entry)) next
         (lent (now (rows .entry)) (now (gained .entry)) (now (lost .entry)) (now (head .entry)))
-        (lent (now (rows .exit)) (now (gained .exit)) (now (lost .exit)) (now (head .exit))) (now (out .entry)) (now (out .exit)) r ⌝ }
+        (lent (now (rows .exit)) (now (gained .exit)) (now (lost .exit)) (now (head .exit))) (now (out .entry))
+        (now (out .exit)) r ⌝ }
 {
     let verdict = applying::apply(net, batch, rows, gained, lost, head);
     if verdict.number != 0 {
@@ -96,7 +99,8 @@ pub fn cut(
         × (nodeRoom ≤ length (now out)) ⌝ }
     ensures { λ r. ⌜ Says (files n b (now (net .entry)) (now (file .entry))) (Cut start)
         (lent (now (rows .entry)) (now (gained .entry)) (now (lost .entry)) (now (head .entry)))
-        (lent (now (rows .exit)) (now (gained .exit)) (now (lost .exit)) (now (head .exit))) (now (out .entry)) (now (out .exit)) r ⌝ }
+        (lent (now (rows .exit)) (now (gained .exit)) (now (lost .exit)) (now (head .exit))) (now (out .entry))
+        (now (out .exit)) r ⌝ }
 {
     match pieces::next_piece(file, start) {
         Piece::Batch(end) => apply(

@@ -45,7 +45,8 @@ places-are area (r ∷ rels) from h =
     ∙ ap (λ (k : ℕ). take k (drop (from * placeSize) area)) (let e : from * placeSize + placeSize - from * placeSize ≡ placeSize = omega arith in e) in
     let rest : flatMap (placeOf layout) rels ≡ take (placeSize * length rels) (drop (suc from * placeSize) area) = places-are area rels (suc from)
     (λ j b. ap (placeAt area) (let e : suc from + j ≡ from + suc j = omega arith in e) ∙ h (suc j) (suc-le-suc b)) in
-    let on : drop (suc from * placeSize) area ≡ drop placeSize (drop (from * placeSize) area) = ap (λ (k : ℕ). drop k area) (let e : suc from * placeSize ≡ from * placeSize + placeSize = omega arith in e)
+    let on : drop (suc from * placeSize) area
+    ≡ drop placeSize (drop (from * placeSize) area) = ap (λ (k : ℕ). drop k area) (let e : suc from * placeSize ≡ from * placeSize + placeSize = omega arith in e)
     ∙ sym (drop-drop placeSize (from * placeSize) area) in
     ap₂ {A = List ℕ} {B = List ℕ} {C = List ℕ} (λ x y. x ++ y) first (rest ∙ ap (take (placeSize * length rels)) on)
     ∙ sym (take-add placeSize (placeSize * length rels) (drop (from * placeSize) area))

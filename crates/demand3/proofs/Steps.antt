@@ -12,10 +12,9 @@ use Rattle.model.specs.Record.{Bytes, isAccepted, refused}
 use Rattle.model.specs.Delta.{netChanges}
 use Rattle.states.specs.Fitting.{Fitting}
 use Rattle.demand3.proofs.Holds.{Proper}
-use Rattle.model.specs.Row.{Relation, maxNodes, maxWidth}
+use Rattle.model.specs.Row.{Relation, maxNodes, maxWidth, Wide}
 use Rattle.model.specs.Station.{State, Step, advance, applyEvents, lastNumber, limit, refusedStep, step}
 use Rattle.states.proofs.Tables.{Tables, actAll-tables, fresh-asc, fresh-wide, none-over}
-use Rattle.rows.specs.Rows.{Wide}
 use Rattle.model.specs.Batch.{actAll, readBatch}
 use Rattle.states.proofs.Batches.{batch-good, batch-high}
 use Rattle.model.specs.Evaluation.{evaluate, overfull, rowsAt}

@@ -50,7 +50,8 @@ pub record Advances (nodes : List Node) (events : List Event) (before after : Ar
   pub share-no-row : (i : ℕ) (r : Row) → i < length nodes →
       (member r (changeOf nodes after i .gained) && member r (changeOf nodes after i .lost)) ≡ false
   -- "and equal the differences between fresh evaluations before and after it"
-  pub change-is : (i : ℕ) → i < length nodes → changeOf nodes after i ≡ netChange (freshOf nodes before i) (freshOf nodes after i)
+  pub change-is : (i : ℕ) → i < length nodes → changeOf nodes after i
+      ≡ netChange (freshOf nodes before i) (freshOf nodes after i)
   -- each node's rows are its fresh evaluation
   pub rows-are : (i : ℕ) → i < length nodes → rowsOf nodes after i ≡ freshOf nodes after i
   -- "the nodes listed as worked on are just those with a changed input"
@@ -61,11 +62,14 @@ pub record Advances (nodes : List Node) (events : List Event) (before after : Ar
   -- the batch number is the next one
   pub number-is : batchNumber (after .head) ≡ batchNumber (before .head) + 1
   -- "every node built only on tables without net change keeps its rows"
-  pub rows-kept : (i : ℕ) → i < length nodes → isUntouched nodes after i ≡ true → rowsOf nodes after i ≡ rowsOf nodes before i
+  pub rows-kept : (i : ℕ) → i < length nodes → isUntouched nodes after i ≡ true → rowsOf nodes after i
+      ≡ rowsOf nodes before i
   -- "and its change stamp"
-  pub stamp-kept : (i : ℕ) → i < length nodes → isUntouched nodes after i ≡ true → stampAt (after .head) i ≡ stampAt (before .head) i
+  pub stamp-kept : (i : ℕ) → i < length nodes → isUntouched nodes after i ≡ true → stampAt (after .head) i
+      ≡ stampAt (before .head) i
   -- a node with a change is stamped with the new number; other stamps remain
-  pub stamp-is : (i : ℕ) → i < length nodes → stampAt (after .head) i ≡ stampOf (batchNumber (after .head)) (changeOf nodes after i)
+  pub stamp-is : (i : ℕ) → i < length nodes → stampAt (after .head) i
+      ≡ stampOf (batchNumber (after .head)) (changeOf nodes after i)
       (stampAt (before .head) i)
 
 -- the events of a call's batch
@@ -92,7 +96,8 @@ abbrev pub Throughout : List Node → State → Areas → List Call → List Res
 Throughout nodes s a [] [] = Unit {0}
 Throughout nodes s a [] (r ∷ results) = ⊥
 Throughout nodes s a (c ∷ calls) [] = ⊥
-Throughout nodes s a (c ∷ calls) (r ∷ results) = Answers nodes s c a r × Throughout nodes (stepOf nodes s c .state) (r .areas) calls results
+Throughout nodes s a (c ∷ calls) (r ∷ results) = Answers nodes s c a r
+    × Throughout nodes (stepOf nodes s c .state) (r .areas) calls results
 
 -- ---- a list of calls
 
@@ -104,7 +109,8 @@ pub record Stands (nodes : List Node) (s : State) (a : Areas) : Type 0 where
   pub tables-only : tablesOf nodes (s .tables) ≡ s .tables
 
 -- demand 3, for a list of calls on areas that hold the state s
-pub record Demand3 (nodes : List Node) (s : State) (a : Areas) (calls : List Call) (results : List Result) : Type 0 where
+pub record Demand3 (nodes : List Node) (s : State) (a : Areas) (calls : List Call)
+    (results : List Result) : Type 0 where
   -- the verdicts are the plain station's, number and place
   pub verdicts-are : map (λ r. r .verdict) results ≡ verdicts nodes s calls
   -- reason 8 never holds

@@ -1,10 +1,10 @@
 -- A node's rows from those of its inputs: what each operator asks for, and what it leaves. Assumes nothing.
-use mathlib.Core.Bool.{_&&_, true, false, true≢false, not}
-use mathlib.Core.List.{List, [], flatMap, _∷_, _++_, map}
+use mathlib.Core.Bool.{_&&_, true}
+use mathlib.Core.List.{List, [], flatMap, _∷_}
 use mathlib.Core.Path.{refl, _≡_}
 use Prim.Native.Nat.{_+_, _<_, zero-le, ℕ, _≤_}
 use native.Mathlib.Omega.{arith}
-use lib.ListN.{length, take, getD, length-map}
+use lib.ListN.{length, take}
 use lib.Dec.{ltb}
 use borrow.Author.Tests.{eqb-true, lt-ltb, ltb-true}
 use Rattle.nodes.specs.declared.Operand.{Operand}
@@ -13,18 +13,13 @@ use Rattle.joins.specs.Joins.{JoinFits, JoinsIn}
 use Rattle.selections.specs.Selections.{OperandIn}
 use Rattle.nodes.specs.declared.Operand.the-variants.{Column, Constant}
 use Rattle.joins.specs.declared.Joining.{Joining}
-use Rattle.model.specs.Network.{columnsBelow, operandBelow, pairsBelow, isTable, fitsOn, evaluateOn, widthOn, evaluateSet}
-use Rattle.model.specs.Algebra.{Pair, agree, columnsOf, differenceRows, intersectRows, joinOne, joinRows, projectRows, unionRows, passes, selectRows}
+use Rattle.model.specs.Network.{columnsBelow, operandBelow, pairsBelow, fitsOn}
+use Rattle.model.specs.Algebra.{Pair}
 use Rattle.model.proofs.Sets.{and-both, and-first, and-second}
 use Rattle.joins.proofs.Rows.{columns-more}
-use Rattle.places.proofs.Puts.{wide-each}
 use Rattle.nodes.specs.Nodes.{operandOf, pairsOf}
-use Rattle.model.specs.Row.{Relation, Row, keep, member, maxWidth}
+use Rattle.model.specs.Row.{maxWidth}
 use Rattle.model.specs.Areas.{placeOf, stride}
-use Rattle.rows.specs.Rows.{Wide}
-use Rattle.rows.proofs.Words.{wide-keep}
-use Rattle.rows.proofs.Place.{wide-append}
-use Rattle.rows.proofs.Padding.{wide-setOf}
 use Rattle.model.specs.Network as model
 
 -- ---- rule 7, given the inputs' widths
@@ -69,7 +64,8 @@ pairs-more v w (p ∷ pairs) h g e =
     (pairs-more v w pairs h g (and-second (ltb (p .left) v && ltb (p .right) w) (pairsBelow v w pairs) e))
 
 -- a join that fits its inputs
-pub join-fits : (how : Joining) (w : ℕ) → how .split ≤ maxWidth → w ≤ maxWidth → how .p ≤ 2 → how .n ≤ maxWidth → length (how .pairs) ≡ stride → length (how .columns) ≡ stride → JoinsIn how w → JoinFits how
+pub join-fits : (how : Joining) (w : ℕ) → how .split ≤ maxWidth → w ≤ maxWidth → how .p ≤ 2 → how .n ≤ maxWidth → length (how .pairs) ≡ stride → length (how .columns) ≡ stride
+    → JoinsIn how w → JoinFits how
 join-fits how w h g p n lp lc inside =
     record {
       split = h;
@@ -85,30 +81,3 @@ join-fits how w h g p n lp lc inside =
 pub fills-none : (out : List ℕ) → Blank out → Fills [] out 0
 unfolding placeOf flatMap
 fills-none out e = record { count = refl; few = zero-le; is = e }
-
--- ---- widths
-
-wide-map : (f : Row → Row) (v : ℕ) (l : List Row) → ((r : Row) → length (f r) ≡ v) → Wide v (map f l)
-wide-map f v [] h = tt
-wide-map f v (r ∷ l) h = (h r, wide-map f v l h)
-
-wide-one : (pairs : List Pair) (columns : List ℕ) (right : Relation) (l : Row) → Wide (length columns) (joinOne pairs columns right l)
-unfolding joinOne
-wide-one pairs columns right l = wide-map (λ r. columnsOf columns (l ++ r)) (length columns) (keep (agree pairs l) right) (λ r. length-map columns (λ c. getD (l ++ r) c 0))
-
-wide-operation : (v : ℕ) (o : model.SetOperation) (l r : Relation) → Wide v l → Wide v r → Wide v (evaluateSet o l r)
-unfolding evaluateSet unionRows differenceRows intersectRows
-wide-operation v model.union l r h g = wide-setOf stride v (l ++ r) (wide-append v l r h g)
-wide-operation v model.difference l r h g = wide-keep v (λ x. not (member x r)) l h
-wide-operation v model.intersection l r h g = wide-keep v (λ x. member x r) l h
-
--- what a node's kind gives has its width
-pub on-wide : (v w : ℕ) (n : model.Node) (l r : Relation) → isTable n ≡ false → fitsOn v w n ≡ true → Wide v l → Wide w r → Wide (widthOn v n) (evaluateOn n l r)
-unfolding evaluateOn selectRows projectRows joinRows
-on-wide v w (model.table x) l r e f h g = absurd (true≢false e)
-on-wide v w (model.select i c k o) l r e f h g = wide-keep v (passes c k o) l h
-on-wide v w (model.project i columns) l r e f h g = wide-setOf stride (length columns) (map (columnsOf columns) l)
-    (wide-map (columnsOf columns) (length columns) l (λ s. length-map columns (λ c. getD s c 0)))
-on-wide v w (model.join i j pairs columns) l r e f h g = wide-setOf stride (length columns) (flatMap (joinOne pairs columns r) l)
-    (wide-each (length columns) (joinOne pairs columns r) l v h (λ s k. wide-one pairs columns r s))
-on-wide v w (model.setOperation o i j) l r e f h g = let same : v ≡ w = set-inside v w i j o f in wide-operation v o l r h (rw same g)

@@ -56,7 +56,8 @@ pub fn evaluate(slot: Slot, left: &[u32], l: Held, right: &[u32], r: Held, out: 
     requires { ⌜ Shaped slot × Place (l .width) (now left) (l .count) × Place (r .width) (now right) (r .count)
         × (fitsOn (l .width) (r .width) (slotNode slot) ≡ true) × Blank (now out) ⌝ }
     ensures { λ made. ⌜ Makes
-        (evaluateOn (slotNode slot) (relationIn (l .width) (now (left .entry)) (l .count)) (relationIn (r .width) (now (right .entry)) (r .count)))
+        (evaluateOn (slotNode slot) (relationIn (l .width) (now (left .entry)) (l .count))
+        (relationIn (r .width) (now (right .entry)) (r .count)))
         (now (out .exit)) made ⌝ }
 {
     let n = l.count;

@@ -17,9 +17,11 @@ use records::REMOVE;
 
 // Whether a record of at least a header's length names a table and has its table's length: rule 13.
 fn event_fits(bytes: &[u8], at: usize, count: usize, widths: &[usize], levels: &[usize]) -> bool
-    requires { ⌜ (isBroken (now bytes) at ≡ false) × (count ≤ length (now widths)) × (count ≤ length (now levels)) × (count ≤ maxNodes)
+    requires { ⌜ (isBroken (now bytes) at ≡ false) × (count ≤ length (now widths)) × (count ≤ length (now levels))
+        × (count ≤ maxNodes)
         × Narrow (now widths) ⌝ }
-    ensures { λ r. ⌜ r ≡ eventFitsBy count (isTableIn (now (levels .entry))) (now (widths .entry)) (now (bytes .entry)) at ⌝ }
+    ensures { λ r. ⌜ r ≡ eventFitsBy count (isTableIn (now (levels .entry))) (now (widths .entry))
+        (now (bytes .entry)) at ⌝ }
 {
     let size = records::u16_at(bytes, at);
     if size < 6 {
@@ -63,7 +65,8 @@ fn read_event(
     widths: &[usize],
     levels: &[usize],
 ) -> EventRecord
-    requires { ⌜ (at < length (now bytes)) × (count ≤ length (now widths)) × (count ≤ length (now levels)) × (count ≤ maxNodes) × Narrow (now widths) ⌝ }
+    requires { ⌜ (at < length (now bytes)) × (count ≤ length (now widths)) × (count ≤ length (now levels))
+        × (count ≤ maxNodes) × Narrow (now widths) ⌝ }
     ensures { λ r. ⌜ ReadsEvent count (now (widths .entry)) (now (levels .entry)) before (now (bytes .entry)) at r ⌝ }
 {
     if records::is_broken(bytes, at) {

@@ -8,18 +8,18 @@ use lib.Dec.{ltb, eqb}
 use lib.ListN.{length, take, getD, List·getD-append, length-map}
 use lib.Seq.{length-take-le, getD-append-add}
 use borrow.Author.Tests.{ltb-true, ltb-false}
-use Rattle.model.specs.Row.{Row, Relation, keep, keepIf, maxWidth}
+use Rattle.model.specs.Row.{Row, Relation, keep, keepIf, maxWidth, Wide}
 use Rattle.model.specs.Algebra.{columnsOf, Pair, agree, joinOne, joinRows}
 use Rattle.model.specs.Areas.{padded, stride}
 use Rattle.model.proofs.Sets.{and-first, and-second}
 use Rattle.model.specs.Network.{pairsBelow}
-use Rattle.rows.specs.Rows.{rowsFrom, firstRows, Wide}
-use Rattle.rows.proofs.Words.{wide-keep}
+use Rattle.rows.specs.Rows.{rowsFrom, firstRows}
+use Rattle.model.proofs.Widths.{wide-keep, wide-each}
 use Rattle.rows.proofs.Padding.{field-padded, keep-padded}
 use Rattle.nodes.specs.Nodes.{pairsOf}
 use Rattle.places.specs.Places.{relationIn, Place, insertAll}
 use Rattle.places.proofs.Places.{place-rows, place-wide}
-use Rattle.places.proofs.Puts.{putFrom, made-is, made-wide, wide-each}
+use Rattle.places.proofs.Puts.{putFrom, made-is, made-wide}
 use Rattle.joins.specs.Joins.{joinedField, joinedRow, JoinFits, JoinsIn, joinedWith}
 use Rattle.joins.specs.declared.Joining.{Joining}
 use Rattle.joins.proofs.Rows.{columns-same, joined-length}

@@ -6,11 +6,10 @@ use Prim.Native.Nat.{ℕ, _≤_}
 use native.Mathlib.Omega.{arith}
 use lib.ListN.{length, getD, length-map}
 use borrow.Author.Tests.{lt-ltb}
-use Rattle.model.specs.Row.{Row, setOf, maxWidth}
+use Rattle.model.specs.Row.{Row, setOf, maxWidth, Wide}
 use Rattle.model.specs.Algebra.{columnsOf, projectRows}
 use Rattle.model.specs.Areas.{padded, stride}
 use Rattle.model.specs.Network.{columnsBelow}
-use Rattle.rows.specs.Rows.{Wide}
 use Rattle.rows.proofs.Padding.{field-padded}
 use Rattle.places.specs.Places.{relationIn, Place}
 use Rattle.places.proofs.Puts.{putFrom, made-is, made-wide}
@@ -33,7 +32,8 @@ module _ (columns : List ℕ) (w : ℕ) (s : List ℕ) (n : ℕ) (pl : Place w s
   project-row : (r : Row) → length r ≡ w → projected columns (padded stride r) ≡ map (padded stride) (columnsOf columns r ∷ [])
   project-row r e =
       ap (λ (l : List ℕ). padded stride l ∷ [])
-      (columns-same w columns (joinedField stride (padded stride r) (padded stride r)) (λ c. getD r c 0) below (λ c h. rw (lt-ltb c stride (omega (arith, pl .narrow))) (field-padded stride r c (rw e h))))
+      (columns-same w columns (joinedField stride (padded stride r) (padded stride r)) (λ c. getD r c 0) below
+      (λ c h. rw (lt-ltb c stride (omega (arith, pl .narrow))) (field-padded stride r c (rw e h))))
 
   columns-wide : (r : Row) → length r ≡ w → Wide (length columns) (columnsOf columns r ∷ [])
   columns-wide r e = (length-map columns (λ c. getD r c 0), tt)

@@ -86,12 +86,14 @@ agreesFrom pairs p l r k = agree (pairsOf (p - k) (drop (2 * k) pairs)) l r
 pub pair-below : (pairs : List ℕ) (p k : ℕ) → pairsBelow stride stride (pairsOf p pairs) ≡ true → k < p → (getD pairs (2 * k) 0 < stride) × (getD pairs (2 * k + 1) 0 < stride)
 pair-below pairs zero k e h = absurd (not-suc-le-zero h)
 pair-below pairs (suc p) zero e h =
-    let b : (ltb (getD pairs 0 0) stride && ltb (getD pairs 1 0) stride) ≡ true = and-first (ltb (getD pairs 0 0) stride && ltb (getD pairs 1 0) stride) (pairsBelow stride stride (pairsOf p (drop 2 pairs))) e in (
+    let b : (ltb (getD pairs 0 0) stride && ltb (getD pairs 1 0) stride)
+    ≡ true = and-first (ltb (getD pairs 0 0) stride && ltb (getD pairs 1 0) stride) (pairsBelow stride stride (pairsOf p (drop 2 pairs))) e in (
       ltb-true (getD pairs 0 0) stride (and-first (ltb (getD pairs 0 0) stride) (ltb (getD pairs 1 0) stride) b),
       ltb-true (getD pairs 1 0) stride (and-second (ltb (getD pairs 0 0) stride) (ltb (getD pairs 1 0) stride) b),
     )
 pair-below pairs (suc p) (suc k) e h =
-    let b : (ltb (getD pairs 0 0) stride && ltb (getD pairs 1 0) stride) ≡ true = and-first (ltb (getD pairs 0 0) stride && ltb (getD pairs 1 0) stride) (pairsBelow stride stride (pairsOf p (drop 2 pairs))) e in
+    let b : (ltb (getD pairs 0 0) stride && ltb (getD pairs 1 0) stride)
+    ≡ true = and-first (ltb (getD pairs 0 0) stride && ltb (getD pairs 1 0) stride) (pairsBelow stride stride (pairsOf p (drop 2 pairs))) e in
     let ih : (getD (drop 2 pairs) (2 * k) 0 < stride) × (getD (drop 2 pairs) (2 * k + 1) 0 < stride) = pair-below (drop 2 pairs) p k
     (and-second (ltb (getD pairs 0 0) stride && ltb (getD pairs 1 0) stride) (pairsBelow stride stride (pairsOf p (drop 2 pairs))) e) (le-of-suc-le-suc h) in
     let f : 2 * suc k ≡ 2 + 2 * k = omega arith in

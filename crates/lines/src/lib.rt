@@ -36,7 +36,8 @@ fn put_digits(out: &mut [u8], at: usize, x: usize, count: usize)
 // A number in decimal from an offset on: where the bytes after it begin.
 fn put_number(out: &mut [u8], at: usize, x: usize) -> usize
     requires { ⌜ at + 20 ≤ length (now out) ⌝ }
-    ensures { λ r. ⌜ (now (out .exit) ≡ sets (now (out .entry)) at (decimal x)) × (r ≡ at + length (decimal x)) × (r ≤ at + 20) ⌝ }
+    ensures { λ r. ⌜ (now (out .exit) ≡ sets (now (out .entry)) at (decimal x)) × (r ≡ at + length (decimal x))
+        × (r ≤ at + 20) ⌝ }
 {
     let count = digit_count(x);
     put_digits(out, at, x, count);
@@ -44,9 +45,10 @@ fn put_number(out: &mut [u8], at: usize, x: usize) -> usize
 }
 
 // Some bytes from an offset on: where the bytes after them begin.
-fn put_bytes(out: &mut [u8], at: usize, text: &[u8]) -> usize
+pub fn put_bytes(out: &mut [u8], at: usize, text: &[u8]) -> usize
     requires { ⌜ at + length (now text) ≤ length (now out) ⌝ }
-    ensures { λ r. ⌜ (now (out .exit) ≡ sets (now (out .entry)) at (now (text .entry))) × (r ≡ at + length (now (text .entry))) ⌝ }
+    ensures { λ r. ⌜ (now (out .exit) ≡ sets (now (out .entry)) at (now (text .entry)))
+        × (r ≡ at + length (now (text .entry))) ⌝ }
 {
     let n = text.len();
     let mut k = 0;

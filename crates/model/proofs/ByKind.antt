@@ -1,18 +1,19 @@
 -- Laws of every node, kind by kind. Assumes nothing.
-use mathlib.Core.Bool.{Bool, _&&_, true, true≢false}
-use mathlib.Core.List.{List, [], _∷_, flatMap}
+use mathlib.Core.Bool.{Bool, _&&_, not, true, false, true≢false}
+use mathlib.Core.List.{List, [], _∷_, _++_, flatMap, map}
 use mathlib.Core.Path.{_≡_, ap, refl, sym}
 use Prim.Native.Nat.{ℕ, zero, suc, _+_, _*_, _≤_, zero-le}
 use native.Mathlib.Omega.{arith}
 use lib.Dec.{eqb, leb}
-use lib.ListN.{getD, length}
-use borrow.Author.Tests.{leb-true}
-use Rattle.model.specs.Row.{Relation, maxWidth}
-use Rattle.model.specs.Algebra.{selectRows, projectRows, joinRows, unionRows, differenceRows, intersectRows, column, constant, Operand}
+use lib.ListN.{getD, length, length-map}
+use borrow.Author.Tests.{eqb-true, leb-true}
+use Rattle.model.specs.Row.{Row, Relation, Wide, keep, member, maxWidth}
+use Rattle.model.specs.Algebra.{Pair, agree, columnsOf, joinOne, passes, selectRows, projectRows, joinRows, unionRows, differenceRows, intersectRows, column, constant, Operand}
 use Rattle.model.specs.Record.{Bytes, fieldAt, fieldsAt, lengthAt}
 use Rattle.model.specs.Network.{Item, Kind, Node, difference, hasShape, intersection, itemAt, itemFits, join, joinShape, kindOf, kinds, noKind, nodeFits, nodeItem, project}
-use Rattle.model.specs.Network.{projectShape, select, setOperation, table, union, watchItem, widthOf, within, fitsOn, SetOperation, evaluateOn, evaluateSet}
+use Rattle.model.specs.Network.{isTable, widthOn, projectShape, select, setOperation, table, union, watchItem, widthOf, within, fitsOn, SetOperation, evaluateOn, evaluateSet}
 use Rattle.model.proofs.Sets.{Ascending, and-first, and-second}
+use Rattle.model.proofs.Widths.{wide-keep, wide-append, wide-setOf, wide-each, wide-map}
 use Rattle.model.proofs.Algebra.{asc-select, asc-project, asc-join, asc-union, asc-difference, asc-intersect}
 
 -- ---- a kind's number
@@ -144,3 +145,24 @@ on-none (select i c k o) = select-none c k o
 on-none (project i columns) = refl
 on-none (join l r pairs columns) = refl
 on-none (setOperation o l r) = set-none o
+
+wide-one : (pairs : List Pair) (columns : List ℕ) (right : Relation) (l : Row) → Wide (length columns) (joinOne pairs columns right l)
+unfolding joinOne
+wide-one pairs columns right l = wide-map (λ r. columnsOf columns (l ++ r)) (length columns) (keep (agree pairs l) right) (λ r. length-map columns (λ c. getD (l ++ r) c 0))
+
+wide-operation : (v : ℕ) (o : SetOperation) (l r : Relation) → Wide v l → Wide v r → Wide v (evaluateSet o l r)
+unfolding evaluateSet unionRows differenceRows intersectRows
+wide-operation v union l r h g = wide-setOf v (l ++ r) (wide-append v l r h g)
+wide-operation v difference l r h g = wide-keep v (λ x. not (member x r)) l h
+wide-operation v intersection l r h g = wide-keep v (λ x. member x r) l h
+
+-- what a node's kind gives has its width
+pub on-wide : (v w : ℕ) (n : Node) (l r : Relation) → isTable n ≡ false → fitsOn v w n ≡ true → Wide v l → Wide w r → Wide (widthOn v n) (evaluateOn n l r)
+unfolding evaluateOn fitsOn selectRows projectRows joinRows
+on-wide v w (table x) l r e f h g = absurd (true≢false e)
+on-wide v w (select i c k o) l r e f h g = wide-keep v (passes c k o) l h
+on-wide v w (project i columns) l r e f h g = wide-setOf (length columns) (map (columnsOf columns) l)
+    (wide-map (columnsOf columns) (length columns) l (λ s. length-map columns (λ c. getD s c 0)))
+on-wide v w (join i j pairs columns) l r e f h g = wide-setOf (length columns) (flatMap (joinOne pairs columns r) l)
+    (wide-each (length columns) (joinOne pairs columns r) l v h (λ s k. wide-one pairs columns r s))
+on-wide v w (setOperation o i j) l r e f h g = let same : v ≡ w = eqb-true v w f in wide-operation v o l r h (rw same g)

@@ -4,6 +4,7 @@ pub mod Algebra
 pub mod Build
 pub mod Delta
 pub mod Folded
+pub mod Widths
 pub mod ByKind
 pub mod Inputs
 pub mod Fits

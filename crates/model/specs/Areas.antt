@@ -111,7 +111,8 @@ allZero words = allOf (λ x. eqb x 0) words
 -- the words of row j of a place that are not used: of the first rows, as many as the count, those past the width; of the others all
 unfoldable pub unusedOf : Layout → ℕ → ℕ → List ℕ → ℕ → ℕ → List ℕ
 unfolding fields
-unusedOf L w count area i j = cond (ltb j count) (fields (L .stride - w) area (rowStart L i j + w)) (fields (L .stride) area (rowStart L i j))
+unusedOf L w count area i j = cond (ltb j count) (fields (L .stride - w) area (rowStart L i j + w))
+    (fields (L .stride) area (rowStart L i j))
 
 -- "unused words 0"
 unfoldable pub unusedZero : Layout → ℕ → ℕ → List ℕ → ℕ → Bool
@@ -121,7 +122,8 @@ unusedZero L w count area i = allOf (λ j. allZero (unusedOf L w count area i j)
 -- "counts at most 64; rows strictly ascending in each place; unused words 0"
 unfoldable pub goodPlace : Layout → ℕ → ℕ → List ℕ → ℕ → Bool
 unfolding heldIn unusedZero
-goodPlace L w count area i = leb count (L .capacity) && ascending (heldIn L w count area i) && unusedZero L w count area i
+goodPlace L w count area i = leb count (L .capacity) && ascending (heldIn L w count area i)
+    && unusedZero L w count area i
 
 -- "nodes past the network's last have 0 throughout"
 unfoldable pub emptyPlace : Layout → ℕ → List ℕ → ℕ → Bool
@@ -144,7 +146,8 @@ goodStamps n head = allOf (λ i. leb (stampAt head i) (cond (ltb i n) (batchNumb
 unfoldable pub goodWorked : ℕ → List ℕ → Bool
 goodWorked n head =
     leb (workedCount head) n
-    && allOf (λ k. cond (ltb k (workedCount head)) (ltb (workedAt head k) n) (eqb (workedAt head k) 0)) (numbersBelow maxNodes)
+    && allOf (λ k. cond (ltb k (workedCount head)) (ltb (workedAt head k) n) (eqb (workedAt head k) 0))
+    (numbersBelow maxNodes)
 
 -- "Good form" (document 01's term)
 unfoldable pub goodForm : Layout → List Node → Areas → Bool
@@ -204,7 +207,8 @@ sameRelations (r ∷ l) (s ∷ m) = sameRows r s && sameRelations l m
 -- "Coherent" (document 01's term): "good form, and each derived node's rows equal its fresh evaluation"
 unfoldable pub coherent : Layout → List Node → Areas → Bool
 unfolding goodForm rowsIn tablesOf evaluate
-coherent L nodes a = goodForm L nodes a && sameRelations (rowsIn L nodes a) (evaluate nodes (tablesOf nodes (rowsIn L nodes a)))
+coherent L nodes a = goodForm L nodes a
+    && sameRelations (rowsIn L nodes a) (evaluate nodes (tablesOf nodes (rowsIn L nodes a)))
 
 -- "The areas hold the plain station's state when they are of good form, each node's rows are its fresh evaluation on the plain station's tables,
 -- and batch number, stamps, gained, lost and worked list are the plain station's, with their counts"

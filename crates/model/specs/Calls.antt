@@ -36,7 +36,8 @@ formVerdict net a = orElse (openVerdict net a) (unless (goodForm layout (readNet
 
 -- 1 to 8, then what a call answers for the network that was read; where they refuse, what it answers with that verdict
 abbrev pub afterForm : {A : Type 0} → Bytes → Areas → (Network → A) → (Verdict → A) → A
-afterForm net a answer refusal = cond (isAccepted (formVerdict net a)) (answer (readNetwork net .network)) (refusal (formVerdict net a))
+afterForm net a answer refusal = cond (isAccepted (formVerdict net a)) (answer (readNetwork net .network))
+    (refusal (formVerdict net a))
 
 -- ---- the reader: 2 to 7
 
@@ -71,7 +72,11 @@ pub record Result : Type 0 where
 -- "Opening sets all named words to 0"; a refusal writes nothing
 unfoldable pub openCall : Bytes → Areas → Result
 unfolding openVerdict cleared
-openCall net a = record { verdict = openVerdict net a; areas = cond (isAccepted (openVerdict net a)) (cleared layout a) a }
+openCall net a = record {
+  verdict = openVerdict net a;
+  areas = cond (isAccepted (openVerdict net a))
+      (cleared layout a) a;
+}
 
 -- ---- the batch call: 1 to 14
 
@@ -83,12 +88,17 @@ pub data Promise : Type 0 where
 -- the result that the plain station's step gives: its state in the areas, or the areas as they were
 unfoldable pub resultOf : List Node → Areas → Step → Result
 unfolding holding
-resultOf nodes a st = record { verdict = st .verdict; areas = cond (isAccepted (st .verdict)) (holding layout nodes (st .state) a) a }
+resultOf nodes a st = record {
+  verdict = st .verdict;
+  areas = cond (isAccepted (st .verdict))
+      (holding layout nodes (st .state) a) a;
+}
 
 -- "Something is free only for a batch on good-form areas that aren't coherent, once 9 to 13 are passed"
 unfoldable pub promiseOf : List Node → Areas → Step → Promise
 unfolding coherent resultOf
-promiseOf nodes a st = cond (coherent layout nodes a || within 9 13 (st .verdict .number)) (settled (resultOf nodes a st)) (free (length nodes))
+promiseOf nodes a st = cond (coherent layout nodes a || within 9 13 (st .verdict .number))
+    (settled (resultOf nodes a st)) (free (length nodes))
 
 -- 1 to 8, then what the plain station does from the state that the areas hold
 unfoldable pub applyPromise : Bytes → Bytes → Areas → Promise

@@ -38,6 +38,7 @@ unfoldable pub deltaUnion : Change → Change → Change
 unfolding unionRows differenceRows
 deltaUnion first second =
     record {
-      gained = unionRows (differenceRows (first .gained) (second .lost)) (differenceRows (second .gained) (first .lost));
+      gained = unionRows (differenceRows (first .gained) (second .lost))
+          (differenceRows (second .gained) (first .lost));
       lost = unionRows (differenceRows (first .lost) (second .gained)) (differenceRows (second .lost) (first .gained));
     }

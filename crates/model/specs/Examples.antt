@@ -150,7 +150,8 @@ unfoldable pub isRight : Case → Bool
 unfolding verdictsOn answerTo readNetwork after
 isRight c =
     sameRows (verdictsOn (c .network) (c .batches)) (c .verdicts)
-    && allOf (λ q. sameRows (answerTo (q .question) (nodesIn (c .network)) (after (c .network) (c .batches))) (q .answer)) (c .asks)
+    && allOf (λ q. sameRows (answerTo (q .question) (nodesIn (c .network)) (after (c .network) (c .batches)))
+    (q .answer)) (c .asks)
 
 -- the starred examples, in document 01's order
 unfoldable pub examples : List Case
@@ -161,7 +162,8 @@ examples =
     -- "Worked on: 1 2 4", then "1 2", then "4", then "1 2 4"
     ∷ case networkN (batch1 ∷ []) (passes ∷ passes ∷ []) (ask workedIs ((1 ∷ 2 ∷ 4 ∷ []) ∷ []) ∷ [])
     ∷ case networkN (batch1 ∷ batch2 ∷ []) (passes ∷ passes ∷ passes ∷ []) (ask workedIs ((1 ∷ 2 ∷ []) ∷ []) ∷ [])
-    ∷ case networkN (batch1 ∷ batch2 ∷ batch3 ∷ []) (passes ∷ passes ∷ passes ∷ passes ∷ []) (ask workedIs ((4 ∷ []) ∷ []) ∷ [])
+    ∷ case networkN (batch1 ∷ batch2 ∷ batch3 ∷ []) (passes ∷ passes ∷ passes ∷ passes ∷ [])
+    (ask workedIs ((4 ∷ []) ∷ []) ∷ [])
     ∷ case networkN (batch1 ∷ batch2 ∷ batch3 ∷ batch4 ∷ []) (passes ∷ passes ∷ passes ∷ passes ∷ passes ∷ [])
     (ask workedIs ((1 ∷ 2 ∷ 4 ∷ []) ∷ []) ∷ [])
     -- "put then remove of a new row nets to nothing", beside a put that acts
@@ -191,7 +193,8 @@ examples =
     networkS
     (put 0 (7 ∷ []) ∷ [])
     (passes ∷ passes ∷ [])
-    (ask (rowsOf 0) ((7 ∷ []) ∷ []) ∷ ask (rowsOf 2) [] ∷ ask (gainedOf 2) [] ∷ ask workedIs ((2 ∷ 3 ∷ 4 ∷ []) ∷ []) ∷ [])
+    (ask (rowsOf 0) ((7 ∷ []) ∷ []) ∷ ask (rowsOf 2) [] ∷ ask (gainedOf 2) [] ∷ ask workedIs
+    ((2 ∷ 3 ∷ 4 ∷ []) ∷ []) ∷ [])
     -- "a node of one row joined with itself on the pair (0,0) gives one row"
     ∷ case
     networkS
@@ -199,13 +202,15 @@ examples =
     (passes ∷ passes ∷ [])
     (ask (rowsOf 0) ((7 ∷ []) ∷ []) ∷ ask (rowsOf 3) ((7 ∷ []) ∷ []) ∷ ask (gainedOf 3) ((7 ∷ []) ∷ []) ∷ [])
     -- "64 rows accepted, 65 refused by 14": the 64 remain
-    ∷ case networkS (puts 1 64 ∷ puts 65 1 ∷ []) (passes ∷ passes ∷ (14 ∷ 0 ∷ []) ∷ []) (ask (rowsOf 0) (map (λ x. x ∷ []) (countFrom 1 64)) ∷ [])
+    ∷ case networkS (puts 1 64 ∷ puts 65 1 ∷ []) (passes ∷ passes ∷ (14 ∷ 0 ∷ []) ∷ [])
+    (ask (rowsOf 0) (map (λ x. x ∷ []) (countFrom 1 64)) ∷ [])
     -- "A union whose left loses a row that its right gains doesn't change": left and right do
     ∷ case
     networkS
     (put 0 (7 ∷ []) ∷ (remove 0 (7 ∷ []) ++ put 1 (7 ∷ [])) ∷ [])
     (passes ∷ passes ∷ passes ∷ [])
-    (ask (lostOf 0) ((7 ∷ []) ∷ []) ∷ ask (gainedOf 1) ((7 ∷ []) ∷ []) ∷ ask (gainedOf 4) [] ∷ ask (lostOf 4) [] ∷ ask (rowsOf 4)
+    (ask (lostOf 0) ((7 ∷ []) ∷ []) ∷ ask (gainedOf 1) ((7 ∷ []) ∷ []) ∷ ask (gainedOf 4) [] ∷ ask (lostOf 4) [] ∷ ask
+    (rowsOf 4)
     ((7 ∷ []) ∷ []) ∷ [])
     ∷ []
 

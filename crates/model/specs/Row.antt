@@ -1,9 +1,11 @@
 -- Rows, their order, and relations: document 01, "Rows, nodes, levels".
 -- A relation, a set of rows of one width, is written as the strictly ascending list of its rows, so that each set has exactly one form.
+use mathlib.Core.Path.{_≡_}
 use mathlib.Core.Bool.{Bool, true, false, not, _&&_, _||_}
 use mathlib.Core.List.{List, [], _∷_}
 use Prim.Native.Nat.{ℕ, zero, suc, compare, Ordering, Ordering·lt, Ordering·eq, Ordering·gt}
 use lib.Dec.{isEq}
+use lib.ListN.{length}
 
 -- "A row has 1 to 4 fields", each an unsigned 32-bit number
 abbrev pub Row : Type 0
@@ -24,6 +26,11 @@ maxRows = 64
 -- "A network has 1 to 32 nodes"
 abbrev pub maxNodes : ℕ
 maxNodes = 32
+
+-- "rows of one width": every row has w fields
+abbrev pub Wide : ℕ → List Row → Type 0
+Wide w [] = Unit {0}
+Wide w (r ∷ l) = (length r ≡ w) × Wide w l
 
 -- ---- the order of rows
 

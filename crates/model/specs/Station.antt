@@ -46,7 +46,8 @@ hasChangedInput nodes changes i = someOf (λ j. isChanged (changeAt changes j)) 
 -- the nodes of one level with an input that gained or lost rows, ascending
 unfoldable pub workedAtLevel : List Node → List Change → ℕ → List ℕ
 unfolding levels
-workedAtLevel nodes changes level = keep (λ i. eqb (getD (levels nodes) i 0) level && hasChangedInput nodes changes i) (numbersBelow (length nodes))
+workedAtLevel nodes changes level = keep (λ i. eqb (getD (levels nodes) i 0) level && hasChangedInput nodes changes i)
+    (numbersBelow (length nodes))
 
 -- "The worked list is the derived nodes with an input that gained or lost rows, by level, then number":
 -- a table has no input, and a level is below the number of nodes
@@ -89,7 +90,8 @@ limit nodes s copy (i ∷ over) = refusedStep (refused 14 i) s
 -- the events of a batch that 9 to 13 let pass "act in order on a copy of the tables"
 unfoldable pub applyEvents : List Node → State → List Event → Step
 unfolding limit evaluate actAll
-applyEvents nodes s events = limit nodes s (actAll events (s .tables)) (overfull 0 (evaluate nodes (actAll events (s .tables))))
+applyEvents nodes s events = limit nodes s (actAll events (s .tables))
+    (overfull 0 (evaluate nodes (actAll events (s .tables))))
 
 -- one batch: 9, else 10 to 13, else 14, else accepted
 unfoldable pub step : List Node → State → Bytes → Step
@@ -97,7 +99,8 @@ unfolding readBatch applyEvents
 step nodes s batch =
     let reading : BatchReading = readBatch nodes batch in
     let result : Step = applyEvents nodes s (reading .events) in
-    cond (eqb (s .number) lastNumber) (refusedStep (refused 9 0) s) (cond (isAccepted (reading .verdict)) result (refusedStep (reading .verdict) s))
+    cond (eqb (s .number) lastNumber) (refusedStep (refused 9 0) s)
+    (cond (isAccepted (reading .verdict)) result (refusedStep (reading .verdict) s))
 
 -- ---- a list of calls, refused ones included
 

@@ -111,7 +111,8 @@ batchLines net s = line batchWord (s .number ∷ []) ++ flatMap changeLine (watc
 -- what a batch prints
 unfoldable pub stepLines : Network → Step → Bytes
 unfolding batchLines refusedLine
-stepLines net st = cond (isAccepted (st .verdict)) (batchLines net (st .state)) (refusedLine (st .verdict .number) (st .verdict .place))
+stepLines net st = cond (isAccepted (st .verdict)) (batchLines net (st .state))
+    (refusedLine (st .verdict .number) (st .verdict .place))
 
 -- ---- the program
 
@@ -119,7 +120,8 @@ stepLines net st = cond (isAccepted (st .verdict)) (batchLines net (st .state)) 
 unfoldable pub runPieces : Network → State → List Piece → Bytes
 unfolding step stepLines refusedLine line
 runPieces net s [] = []
-runPieces net s (batch b ∷ rest) = stepLines net (step (net .nodes) s b) ++ runPieces net (step (net .nodes) s b .state) rest
+runPieces net s (batch b ∷ rest) = stepLines net (step (net .nodes) s b) ++ runPieces net
+    (step (net .nodes) s b .state) rest
 runPieces net s (broken at ∷ rest) = refusedLine 10 at
 runPieces net s (unfinished ∷ rest) = line unfinishedWord []
 
@@ -145,4 +147,5 @@ unfoldable pub programOutput : File → File → Bytes
 unfolding runFiles line
 programOutput missing b = line noInputWords []
 programOutput (file n) missing = line noInputWords []
-programOutput (file n) (file b) = cond (leb (length n) maxFile && leb (length b) maxFile) (runFiles n b) (line noInputWords [])
+programOutput (file n) (file b) = cond (leb (length n) maxFile && leb (length b) maxFile) (runFiles n b)
+    (line noInputWords [])

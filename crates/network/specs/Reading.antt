@@ -99,7 +99,8 @@ pub record Extends (net : Network) (item : Item) (r : Network) : Type 0 where
 -- a node's width, whatever its lists, from the widths of the nodes before it
 abbrev pub WidthIs : Node → List ℕ → ℕ → Type 0
 WidthIs n ws w =
-    (columns : List ℕ) (pairs : List Pair) → length columns ≡ listsOf n .columns → w ≡ model.widthOf (withLists n columns pairs) ws
+    (columns : List ℕ) (pairs : List Pair) → length columns ≡ listsOf n .columns → w
+    ≡ model.widthOf (withLists n columns pairs) ws
 
 -- a node's level, whatever its lists, from the levels of the nodes before it
 abbrev pub LevelIs : Node → List ℕ → ℕ → Type 0

@@ -115,7 +115,8 @@ fn greater(a: usize, b: usize) -> usize
 
 // A node's level, from the levels of the nodes before it.
 fn level_of(node: Node, levels: &[usize]) -> usize
-    requires { ⌜ InputsBelow node (length (now levels)) × ((i : ℕ) → getD (now levels) i 0 ≤ i) × (length (now levels) ≤ maxNodes) ⌝ }
+    requires { ⌜ InputsBelow node (length (now levels)) × ((i : ℕ) → getD (now levels) i 0 ≤ i)
+        × (length (now levels) ≤ maxNodes) ⌝ }
     ensures { λ r. ⌜ LevelIs node (now (levels .entry)) r ⌝ }
 {
     let parts = nodes::parts_of(node);

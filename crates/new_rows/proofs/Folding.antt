@@ -7,8 +7,8 @@ use mathlib.Core.Path.{_≡_, ap, _∙_, sym, ap₂}
 use native.Mathlib.Omega.{arith}
 use lib.Seq.{paste, take-take, take-at}
 use native.Mathlib.Nat.{zero-mul, zero-add}
-use Rattle.model.specs.Row.{Row, Relation, maxNodes, maxRows}
-use Rattle.rows.specs.Rows.{words, stored, firstRows, Wide}
+use Rattle.model.specs.Row.{Row, Relation, maxNodes, maxRows, Wide}
+use Rattle.rows.specs.Rows.{words, stored, firstRows}
 use Rattle.rows.proofs.Words.{drop-zeros, words-rows, length-words, wide-rows, length-rows}
 use Rattle.model.specs.Record.{Bytes, offsets}
 use Rattle.places.specs.Places.{Place, relationIn, Fills}
@@ -26,7 +26,8 @@ long-stored : (l : List Row) → length (words l) ≤ placeSize → stored l (re
 unfolding stored
 long-stored l h =
     let e : foldedSize - length (words l) ≡ placeSize - length (words l) + placeSize = omega arith in
-    ap (λ (z : List ℕ). words l ++ z) (drop-zeros (length (words l)) foldedSize ∙ ap (λ (n : ℕ). replicate {A = ℕ} n 0) e ∙ sym (replicate-append-replicate {A = ℕ} (placeSize - length (words l)) placeSize 0))
+    ap (λ (z : List ℕ). words l ++ z)
+    (drop-zeros (length (words l)) foldedSize ∙ ap (λ (n : ℕ). replicate {A = ℕ} n 0) e ∙ sym (replicate-append-replicate {A = ℕ} (placeSize - length (words l)) placeSize 0))
     ∙ sym (append-assoc (words l) (replicate (placeSize - length (words l)) 0) (replicate placeSize 0))
     ∙ ap (λ (z : List ℕ). words l ++ z ++ replicate placeSize 0) (sym (drop-zeros (length (words l)) placeSize))
 
@@ -84,6 +85,7 @@ module _ (bs : Bytes) (t w : ℕ) (rows : List ℕ) (n : ℕ) (inside : t < maxN
         let stands : out ≡ stored (map (padded stride) after) (replicate foldedSize 0) = s .is ∙ ap (λ (l : List Row). stored l (replicate foldedSize 0)) after-is in
         let back : stored (map (padded stride) after) (replicate placeSize 0) ≡ placeOf layout after = stored-blank w after (p .narrow) wide-after small in
         let taken : take placeSize out ≡ placeOf layout after =
-        ap (take placeSize) (stands ∙ long-stored (map (padded stride) after) (rw words-size (omega arith))) ∙ take-at (stored (map (padded stride) after) (replicate placeSize 0)) (replicate placeSize 0) placeSize
+        ap (take placeSize) (stands ∙ long-stored (map (padded stride) after) (rw words-size (omega arith))) ∙ take-at (stored (map (padded stride) after) (replicate placeSize 0))
+        (replicate placeSize 0) placeSize
         (ap length back ∙ place-length w after (p .narrow) wide-after small) ∙ back in
         record { count = count-is; few = h; is = e ∙ append-nil (take placeSize out) ∙ taken }

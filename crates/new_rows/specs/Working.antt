@@ -29,7 +29,8 @@ pub record Working : Type 0 where
   pub changed : List Bool
 
 abbrev pub working : List ℕ → List ℕ → List ℕ → List ℕ → List Bool → Working
-working widths rows work counts changed = record { widths = widths; rows = rows; work = work; counts = counts; changed = changed }
+working widths rows work counts changed = record
+    { widths = widths; rows = rows; work = work; counts = counts; changed = changed }
 
 -- each of these has its size
 pub record Sized (m : Working) : Type 0 where

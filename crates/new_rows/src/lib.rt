@@ -41,10 +41,12 @@ fn work_table(
     n: usize,
     out: &mut [u32],
 ) -> Made
-    requires { ⌜ Foldable (now bytes) table width × (table < maxNodes) × (areaSize ≤ length (now rows)) × Place width (placeAt (now rows) table) n
+    requires { ⌜ Foldable (now bytes) table width × (table < maxNodes) × (areaSize ≤ length (now rows))
+        × Place width (placeAt (now rows) table) n
         × Blank (now out) ⌝ }
     ensures { λ r. ⌜ Makes
-        (foldRows (now (bytes .entry)) table width (offsets (now (bytes .entry))) (relationIn width (placeAt (now (rows .entry)) table) n))
+        (foldRows (now (bytes .entry)) table width (offsets (now (bytes .entry)))
+        (relationIn width (placeAt (now (rows .entry)) table) n))
         (now (out .exit)) r ⌝ }
 {
     let mut words = [0u32; FOLDED];
@@ -68,16 +70,21 @@ fn work_derived<'a>(
     changed: &[bool],
     out: &mut [u32],
 ) -> Made
-    requires { ⌜ Sized (working (now widths) (now rows) (now work) (now counts) (now changed)) × Shaped slot × (leftOf (slotNode slot) < maxNodes)
-        × (rightOf (slotNode slot) < maxNodes) × Present (working (now widths) (now rows) (now work) (now counts) (now changed)) (leftOf (slotNode slot))
+    requires { ⌜ Sized (working (now widths) (now rows) (now work) (now counts) (now changed)) × Shaped slot
+        × (leftOf (slotNode slot) < maxNodes)
+        × (rightOf (slotNode slot) < maxNodes)
+        × Present (working (now widths) (now rows) (now work) (now counts) (now changed)) (leftOf (slotNode slot))
         × Present (working (now widths) (now rows) (now work) (now counts) (now changed)) (rightOf (slotNode slot))
-        × (fitsOn (getD (now widths) (leftOf (slotNode slot)) 0) (getD (now widths) (rightOf (slotNode slot)) 0) (slotNode slot) ≡ true)
+        × (fitsOn (getD (now widths) (leftOf (slotNode slot)) 0) (getD (now widths) (rightOf (slotNode slot)) 0)
+        (slotNode slot) ≡ true)
         × Blank (now out) ⌝ }
     ensures { λ r. ⌜ Makes
         (evaluateOn (slotNode slot)
-        (presentRows (working (now (widths .entry)) (now (rows .entry)) (now (work .entry)) (now (counts .entry)) (now (changed .entry)))
+        (presentRows (working (now (widths .entry)) (now (rows .entry)) (now (work .entry)) (now (counts .entry))
+        (now (changed .entry)))
         (leftOf (slotNode slot)))
-        (presentRows (working (now (widths .entry)) (now (rows .entry)) (now (work .entry)) (now (counts .entry)) (now (changed .entry)))
+        (presentRows (working (now (widths .entry)) (now (rows .entry)) (now (work .entry)) (now (counts .entry))
+        (now (changed .entry)))
         (rightOf (slotNode slot)))) (now (out .exit)) r ⌝ }
 {
     let inputs = evaluation::inputs_of(slot);
@@ -110,11 +117,13 @@ pub fn work_rows<'a>(
     changed: &[bool],
     out: &mut [u32],
 ) -> Made
-    requires { ⌜ Workable slot level (now bytes) (now head) (working (now widths) (now rows) (now work) (now counts) (now changed)) i
+    requires { ⌜ Workable slot level (now bytes) (now head)
+        (working (now widths) (now rows) (now work) (now counts) (now changed)) i
         × Blank (now out) ⌝ }
     ensures { λ r. ⌜ Makes
         (workedRows slot level (now (bytes .entry)) (now (head .entry))
-        (working (now (widths .entry)) (now (rows .entry)) (now (work .entry)) (now (counts .entry)) (now (changed .entry))) i) (now (out .exit)) r ⌝ }
+        (working (now (widths .entry)) (now (rows .entry)) (now (work .entry)) (now (counts .entry))
+        (now (changed .entry))) i) (now (out .exit)) r ⌝ }
 {
     if level == 0 {
         return work_table(

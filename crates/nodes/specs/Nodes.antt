@@ -115,7 +115,8 @@ numberOf (Refused k) = k
 
 -- the part of rule 7 that both kinds of select share
 unfoldable pub selectFits : List ℕ → Bytes → ℕ → Bool
-selectFits ws bs at = ltb (fieldAt bs at 0) (length ws) && ltb (fieldAt bs at 1) (getD ws (fieldAt bs at 0) 0) && ltb (fieldAt bs at 2) 6
+selectFits ws bs at = ltb (fieldAt bs at 0) (length ws) && ltb (fieldAt bs at 1) (getD ws (fieldAt bs at 0) 0)
+    && ltb (fieldAt bs at 2) 6
 
 -- no width is above 4
 abbrev pub Narrow : List ℕ → Type 0
@@ -123,7 +124,8 @@ Narrow ws = (i : ℕ) → getD ws i 0 ≤ maxWidth
 
 -- rules 6 and 7 on a record of a kind
 unfoldable pub bodyFault : List ℕ → List ℕ → ℕ → Bytes → ℕ → ℕ
-bodyFault ws signs kind bs at = firstBroken (rule 6 (not (hasShape kind bs at)) ∷ rule 7 (not (itemFits ws signs (itemAt kind bs at))) ∷ [])
+bodyFault ws signs kind bs at = firstBroken
+    (rule 6 (not (hasShape kind bs at)) ∷ rule 7 (not (itemFits ws signs (itemAt kind bs at))) ∷ [])
 
 -- a node's lists stand inside its record, and a slot has room for them
 pub record ListsFit (l : ListSizes) (bs : Bytes) (at : ℕ) : Type 0 where

@@ -137,7 +137,8 @@ fn select_fits(bytes: &[u8], at: usize, count: usize, widths: &[usize]) -> bool
 
 fn read_select_constant(bytes: &[u8], at: usize, count: usize, widths: &[usize]) -> Record
     requires { ⌜ (isBroken (now bytes) at ≡ false) × (count ≤ length (now widths)) ⌝ }
-    ensures { λ r. ⌜ ((signs : List ℕ) → ReadsBody (take count (now (widths .entry))) signs 2 (now (bytes .entry)) at r) ⌝ }
+    ensures { λ r. ⌜ ((signs : List ℕ)
+        → ReadsBody (take count (now (widths .entry))) signs 2 (now (bytes .entry)) at r) ⌝ }
 {
     if records::u16_at(bytes, at) != 14 {
         return Record::Refused(6);
@@ -160,7 +161,8 @@ fn read_select_constant(bytes: &[u8], at: usize, count: usize, widths: &[usize])
 
 fn read_select_column(bytes: &[u8], at: usize, count: usize, widths: &[usize]) -> Record
     requires { ⌜ (isBroken (now bytes) at ≡ false) × (count ≤ length (now widths)) ⌝ }
-    ensures { λ r. ⌜ ((signs : List ℕ) → ReadsBody (take count (now (widths .entry))) signs 3 (now (bytes .entry)) at r) ⌝ }
+    ensures { λ r. ⌜ ((signs : List ℕ)
+        → ReadsBody (take count (now (widths .entry))) signs 3 (now (bytes .entry)) at r) ⌝ }
 {
     if records::u16_at(bytes, at) != 12 {
         return Record::Refused(6);
@@ -205,7 +207,8 @@ fn project_shape(bytes: &[u8], at: usize) -> bool
 
 fn read_project(bytes: &[u8], at: usize, count: usize, widths: &[usize]) -> Record
     requires { ⌜ (isBroken (now bytes) at ≡ false) × (count ≤ length (now widths)) ⌝ }
-    ensures { λ r. ⌜ ((signs : List ℕ) → ReadsBody (take count (now (widths .entry))) signs 4 (now (bytes .entry)) at r) ⌝ }
+    ensures { λ r. ⌜ ((signs : List ℕ)
+        → ReadsBody (take count (now (widths .entry))) signs 4 (now (bytes .entry)) at r) ⌝ }
 {
     if !project_shape(bytes, at) {
         return Record::Refused(6);
@@ -249,7 +252,8 @@ fn join_shape(bytes: &[u8], at: usize) -> bool
 
 fn read_join(bytes: &[u8], at: usize, count: usize, widths: &[usize]) -> Record
     requires { ⌜ (isBroken (now bytes) at ≡ false) × (count ≤ length (now widths)) × Narrow (now widths) ⌝ }
-    ensures { λ r. ⌜ ((signs : List ℕ) → ReadsBody (take count (now (widths .entry))) signs 5 (now (bytes .entry)) at r) ⌝ }
+    ensures { λ r. ⌜ ((signs : List ℕ)
+        → ReadsBody (take count (now (widths .entry))) signs 5 (now (bytes .entry)) at r) ⌝ }
 {
     if !join_shape(bytes, at) {
         return Record::Refused(6);
@@ -348,8 +352,10 @@ pub fn read_record<'a>(
     widths: &'a [usize],
     signs: &'a [usize],
 ) -> Record
-    requires { ⌜ (at ≤ length (now bytes)) × (count ≤ length (now widths)) × (count ≤ length (now signs)) × Narrow (now widths) ⌝ }
-    ensures { λ r. ⌜ ReadsRecord (take count (now (widths .entry))) (take count (now (signs .entry))) (now (bytes .entry)) at r ⌝ }
+    requires { ⌜ (at ≤ length (now bytes)) × (count ≤ length (now widths)) × (count ≤ length (now signs))
+        × Narrow (now widths) ⌝ }
+    ensures { λ r. ⌜ ReadsRecord (take count (now (widths .entry))) (take count (now (signs .entry)))
+        (now (bytes .entry)) at r ⌝ }
 {
     if records::is_broken(bytes, at) {
         return Record::Refused(3);
@@ -383,7 +389,8 @@ fn set_operation(kind: usize) -> SetOperation
 fn read_node(kind: usize, bytes: &[u8], at: usize, count: usize, widths: &[usize]) -> Record
     requires { ⌜ (1 ≤ kind) × (kind ≤ 9) × (kind ≡ 9 → ⊥)
         × (isBroken (now bytes) at ≡ false) × (count ≤ length (now widths)) × Narrow (now widths) ⌝ }
-    ensures { λ r. ⌜ ((signs : List ℕ) → ReadsBody (take count (now (widths .entry))) signs kind (now (bytes .entry)) at r) ⌝ }
+    ensures { λ r. ⌜ ((signs : List ℕ)
+        → ReadsBody (take count (now (widths .entry))) signs kind (now (bytes .entry)) at r) ⌝ }
 {
     match kind {
         1 => read_table(bytes, at),

@@ -9,11 +9,12 @@ use lib.Dec.{leb}
 use lib.ListN.{length, getD, take, drop, replicate, length-append, length-replicate, length-drop}
 use lib.Seq.{take-all, paste, length-paste}
 use borrow.Author.Tests.{leb-true}
-use Rattle.model.specs.Row.{Row, Relation, ascending, keep, keepIf, maxRows, maxWidth}
+use Rattle.model.specs.Row.{Row, Relation, ascending, keep, keepIf, maxRows, maxWidth, Wide}
 use Rattle.model.specs.Areas.{layout, fields, unusedZero, goodPlace, padded, placeOf, placeSize, stride}
 use Rattle.model.proofs.Sets.{and-first, and-second}
-use Rattle.rows.specs.Rows.{rowAt, rowsFrom, firstRows, words, stored, Wide}
-use Rattle.rows.proofs.Words.{length-row, length-words, rows-snoc, wide-keep, wide-rows, stored-push, paste-sets, fields-part, drop-zeros}
+use Rattle.rows.specs.Rows.{rowAt, rowsFrom, firstRows, words, stored}
+use Rattle.rows.proofs.Words.{length-row, length-words, rows-snoc, wide-rows, stored-push, paste-sets, fields-part, drop-zeros}
+use Rattle.model.proofs.Widths.{wide-keep}
 use Rattle.model.proofs.Parts.{keep-append}
 use Rattle.rows.proofs.Place.{held-wide, length-held, length-map-padded, place-words, words-map}
 use Rattle.rows.proofs.Padding.{ascending-padded, keep-padded}
@@ -82,7 +83,8 @@ module _ (p : Row → Bool) (s : List ℕ) where
       let same : keep p (rowsFrom stride s 0 (i + 1)) ≡ keep p (rowsFrom stride s 0 i) = kept-snoc i false e ∙ append-nil (keep p (rowsFrom stride s 0 i)) in
       record { count = rw same (k .count); is = rw same (k .is); few = omega (arith, k .few); size = k .size }
 
-  kept-yes : (i : ℕ) (out : List ℕ) (m : ℕ) → p (rowAt stride s i) ≡ true → i < maxRows → i * stride + stride ≤ length s → Kept p s i out m → Kept p s (i + 1) (paste out (m * stride) (drop (i * stride) s) stride) (m + 1)
+  kept-yes : (i : ℕ) (out : List ℕ) (m : ℕ) → p (rowAt stride s i) ≡ true → i < maxRows → i * stride + stride ≤ length s → Kept p s i out m
+      → Kept p s (i + 1) (paste out (m * stride) (drop (i * stride) s) stride) (m + 1)
   unfolding rowAt stored
   kept-yes i out m e h f k =
       let old : List Row = keep p (rowsFrom stride s 0 i) in

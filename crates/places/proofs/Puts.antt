@@ -6,13 +6,14 @@ use Prim.Native.Nat.{ℕ, zero, suc, _+_, _-_, _*_, _≤_, _<_, zero-le}
 use native.Mathlib.Nat.{le-refl, le-trans}
 use native.Mathlib.Omega.{arith}
 use lib.ListN.{length, drop, replicate, length-append, length-replicate, length-drop}
-use Rattle.model.specs.Row.{Row, Relation, ascending, insertRow, setOf, maxRows, maxWidth}
+use Rattle.model.specs.Row.{Row, Relation, ascending, insertRow, setOf, maxRows, maxWidth, Wide}
 use Rattle.model.specs.Areas.{padded, placeSize, stride}
 use Rattle.model.proofs.Sets.{Ascending, ascending-true, asc-insert, setOf-ascending, insert-more}
-use Rattle.rows.specs.Rows.{rowAt, rowsFrom, firstRows, words, stored, Wide}
-use Rattle.rows.proofs.Words.{wide-rows, wide-insert, length-words, rows-cons, rows-none, rows-stored}
-use Rattle.rows.proofs.Padding.{wide-setOf, map-append, setOf-padded}
-use Rattle.rows.proofs.Place.{wide-append, length-map-padded}
+use Rattle.rows.specs.Rows.{rowAt, rowsFrom, firstRows, words, stored}
+use Rattle.rows.proofs.Words.{wide-rows, length-words, rows-cons, rows-none, rows-stored}
+use Rattle.model.proofs.Widths.{wide-insert, wide-each, wide-setOf}
+use Rattle.rows.proofs.Padding.{map-append, setOf-padded}
+use Rattle.rows.proofs.Place.{length-map-padded}
 use Rattle.places.specs.Places.{relationIn, Place, Blank, Fills, Stands, Stored, insertAll}
 use Rattle.places.specs.declared.Made.{Made}
 use Rattle.places.specs.declared.Made.the-variants.{Rows, Over}
@@ -66,11 +67,6 @@ insert-append (r ∷ a) b c = ap (insertRow r) (insert-append a b c)
 all-more : (a b : List Row) → length b ≤ length (insertAll a b)
 all-more [] b = le-refl (length b)
 all-more (r ∷ a) b = le-trans (all-more a b) (insert-more r (insertAll a b))
-
-pub wide-each : (v : ℕ) (f : Row → List Row) (l : List Row) (w : ℕ) → Wide w l → ((r : Row) → length r ≡ w → Wide v (f r)) → Wide v (flatMap f l)
-unfolding flatMap
-wide-each v f [] w h g = tt
-wide-each v f (r ∷ l) w h g = wide-append v (f r) (flatMap f l) (g r (h .0)) (wide-each v f l w (h .1) g)
 
 module _ (f : Row → List Row) (b : List Row) (s : List ℕ) (n : ℕ) (wf : (r : Row) → length r ≡ stride → Wide stride (f r)) (wb : Wide stride b) (asc : Ascending b) where
   put-wide : (i : ℕ) → Wide stride (putFrom f b s n i)
@@ -157,7 +153,7 @@ each-padded f g w (r ∷ rel) h e =
 module _ (f g : Row → List Row) (w v : ℕ) (s : List ℕ) (n : ℕ) (pl : Place w s n) (e : (r : Row) → length r ≡ w → f (padded stride r) ≡ map (padded stride) (g r))
     (wg : (r : Row) → length r ≡ w → Wide v (g r)) where
   pub made-wide : Wide v (setOf (flatMap g (relationIn w s n)))
-  made-wide = wide-setOf stride v (flatMap g (relationIn w s n)) (wide-each v g (relationIn w s n) w (place-wide w s n pl) wg)
+  made-wide = wide-setOf v (flatMap g (relationIn w s n)) (wide-each v g (relationIn w s n) w (place-wide w s n pl) wg)
 
   pub made-is : putFrom f [] s n 0 ≡ map (padded stride) (setOf (flatMap g (relationIn w s n)))
   made-is =

@@ -23,7 +23,8 @@ pub record Turn : Type 0 where
 -- each step meets its contract from where the one before left; after the last the program is over
 abbrev pub Runs : Files → Stage → Areas → List Turn → Type 0
 Runs f s a [] = isOver s ≡ true
-Runs f s a (t ∷ turns) = (isOver s ≡ false) × Says f s a (t .areas) (t .before) (t .out) (t .said) × Runs f (t .said .stage) (t .areas) turns
+Runs f s a (t ∷ turns) = (isOver s ≡ false) × Says f s a (t .areas) (t .before) (t .out) (t .said)
+    × Runs f (t .said .stage) (t .areas) turns
 
 -- what a run hands out: of each step the bytes that it wrote
 abbrev pub handedOut : List Turn → Bytes
@@ -35,7 +36,8 @@ outputOf f = programOutput (fileOf (f .found-net) (f .net)) (fileOf (f .found-ba
 
 -- every run on long enough areas hands out that output
 abbrev pub Prints : Type 0
-Prints = (f : Files) (a : Areas) (turns : List Turn) → longEnough layout a ≡ true → Runs f Begin a turns → handedOut turns ≡ outputOf f
+Prints = (f : Files) (a : Areas) (turns : List Turn) → longEnough layout a ≡ true → Runs f Begin a turns
+    → handedOut turns ≡ outputOf f
 
 -- at most so many steps are left: all nodes' turns for each byte that is left of the file
 abbrev pub left : Files → Stage → ℕ

@@ -28,7 +28,8 @@ pub fn step(
         × (nodeRoom ≤ length (now out)) ⌝ }
     ensures { λ r. ⌜ Says (files n b (now (net .entry)) (now (file .entry))) stage
         (lent (now (rows .entry)) (now (gained .entry)) (now (lost .entry)) (now (head .entry)))
-        (lent (now (rows .exit)) (now (gained .exit)) (now (lost .exit)) (now (head .exit))) (now (out .entry)) (now (out .exit)) r ⌝ }
+        (lent (now (rows .exit)) (now (gained .exit)) (now (lost .exit)) (now (head .exit))) (now (out .entry))
+        (now (out .exit)) r ⌝ }
 {
     match stage {
         Stage::Begin => cutting::begin(n, b, net, file, rows, gained, lost, head, out),

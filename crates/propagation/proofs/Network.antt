@@ -17,7 +17,7 @@ use Rattle.working.specs.Worked.{Worked, WorkedTo, nextRows, WorksNode}
 use Rattle.worklist.specs.Listed.{inputChanged}
 use Rattle.propagation.specs.declared.Propagated.the-variants.{All, Over}
 use Rattle.network.specs.Reading.{nodesOf, Built, noSlot, slotNode}
-use Rattle.model.specs.Row.{Relation, ascending, sameRows, place, maxNodes, maxRows}
+use Rattle.model.specs.Row.{Relation, ascending, sameRows, place, maxNodes, maxRows, Wide}
 use Rattle.coherence.specs.Held.{rowsHeld, Places, heldAt, Derived}
 use Rattle.coherence.proofs.Coherent.{nodes-count, rows-held, width-is, rows-length, slot-node, level-derived, level-table, narrow-widths}
 use Rattle.model.proofs.Fits.{length-widths}
@@ -34,7 +34,6 @@ use Rattle.states.proofs.Tables.{Tables, actAll-tables, all-under, first-over}
 use Rattle.model.specs.Batch.{readBatch}
 use Rattle.states.proofs.Batches.{batch-good}
 use Rattle.states.proofs.Fitted.{tables-fit, only-length}
-use Rattle.rows.specs.Rows.{Wide}
 use Rattle.propagation.proofs.News.{new-wide, new-asc, new-table, new-derived, new-length}
 use Rattle.model.proofs.Sets.{Ascending, ascending-true}
 use Rattle.working.proofs.Differ.{fills-place}

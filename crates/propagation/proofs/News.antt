@@ -7,7 +7,7 @@ use Prim.Native.Nat.{ℕ, _<_, _≤_, zero, suc}
 use lib.Seq.{length-take-le, getD-take, ext-getD}
 use native.Mathlib.Omega.{arith}
 use native.Mathlib.Nat.{not-suc-le-zero, le-refl}
-use Rattle.model.specs.Row.{Relation}
+use Rattle.model.specs.Row.{Relation, Wide}
 use Rattle.model.proofs.Sets.{Ascending, ascending-holds}
 use Rattle.model.specs.Network.{Node, AllFit, nodeAt, isTable, widths, leftOf, rightOf, evaluateOn}
 use Rattle.propagation.specs.Propagated.{propagated, nextOf, changedIn}
@@ -16,10 +16,8 @@ use Rattle.model.specs.Evaluation.{rowsAt, evaluate}
 use Rattle.evaluation.proofs.Fresh.{givenBy, inputs-before, width-at, columns-fit, fresh-derived, fresh-table}
 use Rattle.states.specs.Fitting.{Fitting}
 use Rattle.states.proofs.Tables.{Tables}
-use Rattle.model.proofs.ByKind.{on-asc}
-use Rattle.rows.specs.Rows.{Wide}
+use Rattle.model.proofs.ByKind.{on-asc, on-wide}
 use Rattle.model.proofs.Fits.{length-widths}
-use Rattle.evaluation.proofs.Inside.{on-wide}
 use Rattle.working.proofs.Differ.{same-flag}
 
 module _ (nodes : List Node) (fit : AllFit nodes) (old copy : List Relation) where

@@ -30,7 +30,8 @@ changedIn old new j = not (sameRows (rowsAt new j) (rowsAt old j))
 abbrev pub nextOf : List Relation → List Relation → Node → List Relation → Relation
 nextOf old copy n done =
     cond (isTable n) (rowsAt copy (length done))
-    (cond (changedIn old done (leftOf n) || changedIn old done (rightOf n)) (evaluateOn n (rowsAt done (leftOf n)) (rowsAt done (rightOf n)))
+    (cond (changedIn old done (leftOf n) || changedIn old done (rightOf n))
+    (evaluateOn n (rowsAt done (leftOf n)) (rowsAt done (rightOf n)))
     (rowsAt old (length done)))
 
 -- every node's rows, by number, from the old ones and the tables after the events
@@ -40,7 +41,8 @@ propagated nodes old copy = build (nextOf old copy) nodes
 
 -- the tables that a batch leaves, from those in the rows area
 abbrev pub tablesAfter : Network → List ℕ → List ℕ → Bytes → List Relation
-tablesAfter net rows head bs = actAll (readBatch (nodesOf net) bs .events) (tablesOf (nodesOf net) (rowsHeld net rows head))
+tablesAfter net rows head bs = actAll (readBatch (nodesOf net) bs .events)
+    (tablesOf (nodesOf net) (rowsHeld net rows head))
 
 -- the nodes' rows after a batch, from those in the rows area
 abbrev pub newRows : Network → List ℕ → List ℕ → Bytes → List Relation

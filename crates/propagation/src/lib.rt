@@ -43,9 +43,11 @@ pub fn propagate(
     counts: &mut [u32],
     changed: &mut [bool],
 ) -> Propagated
-    requires { ⌜ Ready net (now rows) (now head) (now bytes) × (length (now work) ≡ areaSize) × (now counts ≡ replicate maxNodes 0)
+    requires { ⌜ Ready net (now rows) (now head) (now bytes) × (length (now work) ≡ areaSize)
+        × (now counts ≡ replicate maxNodes 0)
         × (now changed ≡ replicate maxNodes false) ⌝ }
-    ensures { λ r. ⌜ Propagates (now (head .entry)) (newRows net (now (rows .entry)) (now (head .entry)) (now (bytes .entry))) (net .count)
+    ensures { λ r. ⌜ Propagates (now (head .entry))
+        (newRows net (now (rows .entry)) (now (head .entry)) (now (bytes .entry))) (net .count)
         (working (net .widths) (now (rows .entry)) (now (work .exit)) (now (counts .exit)) (now (changed .exit))) r ⌝ }
 {
     let count = net.count;

@@ -29,9 +29,11 @@ pub record Replays (net file : Bytes) (a after : Areas) : Type 0 where
   -- by calls that met their contracts
   pub reaches : Reaches net (openCall net a .areas) (callsOf (pieces file)) after
   -- demand 3 holds of them: verdicts, words, and every call of the list
-  pub demand : Demand3 (nodesIn net) (opened (nodesIn net)) (openCall net a .areas) (callsOf (pieces file)) (reaches .results)
+  pub demand : Demand3 (nodesIn net) (opened (nodesIn net)) (openCall net a .areas) (callsOf (pieces file))
+      (reaches .results)
   -- the plain station's last state is in every named word; the words past them are as they were before opening
-  pub words : after ≡ holding layout (nodesIn net) (stateAfter (nodesIn net) (opened (nodesIn net)) (callsOf (pieces file))) a
+  pub words : after ≡ holding layout (nodesIn net)
+      (stateAfter (nodesIn net) (opened (nodesIn net)) (callsOf (pieces file))) a
 
 -- opening, then every marked batch of the file; where opening refuses, nothing is written
 pub record Replayed (net file : Bytes) (a : Areas) (r : Result) : Type 0 where

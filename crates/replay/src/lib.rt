@@ -16,8 +16,10 @@ fn replay_batches(
     lost: &mut [u32],
     head: &mut [u32],
 )
-    ensures { λ _. ⌜ Reaches (now (net .entry)) (lent (now (rows .entry)) (now (gained .entry)) (now (lost .entry)) (now (head .entry)))
-        (callsOf (pieces (now (file .entry)))) (lent (now (rows .exit)) (now (gained .exit)) (now (lost .exit)) (now (head .exit))) ⌝ }
+    ensures { λ _. ⌜ Reaches (now (net .entry))
+        (lent (now (rows .entry)) (now (gained .entry)) (now (lost .entry)) (now (head .entry)))
+        (callsOf (pieces (now (file .entry))))
+        (lent (now (rows .exit)) (now (gained .exit)) (now (lost .exit)) (now (head .exit))) ⌝ }
 {
     let mut start = 0;
     while start < file.len() {

@@ -6,8 +6,7 @@ use Prim.Native.Nat.{_*_, _+_, _<_, suc, zero, zero-le, ℕ, _≤_}
 use native.Mathlib.Nat.{add-comm, add-zero, mul-le-mul-right, suc-mul, zero-mul}
 use native.Mathlib.Omega.{arith}
 use lib.ListN.{getD, length, length-append}
-use Rattle.model.specs.Row.{Relation, Row, countFrom, numbersBelow, maxRows, maxWidth}
-use Rattle.rows.specs.Rows.{Wide}
+use Rattle.model.specs.Row.{Relation, Row, countFrom, numbersBelow, maxRows, maxWidth, Wide}
 use Rattle.rows.proofs.Words.{length-fields}
 use Rattle.reports.specs.Written.{allowedOf, recordsOf, reportSize}
 use Rattle.model.specs.Record.{bytes16, bytes32}

@@ -25,4 +25,5 @@ allowedOf allowed kind node rows = cond allowed (recordsOf kind node rows) []
 -- how many bytes a node's report takes: its watch's sign, its width, how many rows it gained and lost
 abbrev pub reportSize : ℕ → ℕ → ℕ → ℕ → ℕ
 reportSize sign w gained lost =
-    cond (model.allows sign model.wasGained) (gained * (6 + 4 * w)) 0 + cond (model.allows sign model.wasLost) (lost * (6 + 4 * w)) 0
+    cond (model.allows sign model.wasGained) (gained * (6 + 4 * w)) 0 + cond (model.allows sign model.wasLost)
+    (lost * (6 + 4 * w)) 0

@@ -46,7 +46,8 @@ fn put32(out: &mut [u8], at: usize, x: usize)
 // The fields of a row, each in 4 bytes.
 fn put_fields(out: &mut [u8], at: usize, words: &[u32], from: usize, w: usize)
     requires { ⌜ (w ≤ maxWidth) × (at + 4 * w ≤ length (now out)) × (from + w ≤ length (now words)) ⌝ }
-    ensures { λ _. ⌜ now (out .exit) ≡ sets (now (out .entry)) at (flatMap bytes32 (fields w (now (words .entry)) from)) ⌝ }
+    ensures { λ _. ⌜ now (out .exit)
+        ≡ sets (now (out .entry)) at (flatMap bytes32 (fields w (now (words .entry)) from)) ⌝ }
 {
     let mut k = 0;
     while k < w {
@@ -66,7 +67,8 @@ fn put_record(
     w: usize,
 )
     requires { ⌜ (w ≤ maxWidth) × (at + (6 + 4 * w) ≤ length (now out)) × (from + w ≤ length (now words)) ⌝ }
-    ensures { λ _. ⌜ now (out .exit) ≡ sets (now (out .entry)) at (changeRecord kind node (fields w (now (words .entry)) from)) ⌝ }
+    ensures { λ _. ⌜ now (out .exit)
+        ≡ sets (now (out .entry)) at (changeRecord kind node (fields w (now (words .entry)) from)) ⌝ }
 {
     put16(out, at, 6 + 4 * w);
     put16(out, at + 2, kind);
@@ -84,8 +86,10 @@ fn put_records(
     n: usize,
     w: usize,
 )
-    requires { ⌜ (w ≤ maxWidth) × (n ≤ maxRows) × (node < maxNodes) × (areaSize ≤ length (now area)) × (at + n * (6 + 4 * w) ≤ length (now out)) ⌝ }
-    ensures { λ _. ⌜ now (out .exit) ≡ sets (now (out .entry)) at (recordsOf kind node (heldIn layout w n (now (area .entry)) node)) ⌝ }
+    requires { ⌜ (w ≤ maxWidth) × (n ≤ maxRows) × (node < maxNodes) × (areaSize ≤ length (now area))
+        × (at + n * (6 + 4 * w) ≤ length (now out)) ⌝ }
+    ensures { λ _. ⌜ now (out .exit)
+        ≡ sets (now (out .entry)) at (recordsOf kind node (heldIn layout w n (now (area .entry)) node)) ⌝ }
 {
     let size = 6 + 4 * w;
     let mut j = 0;
@@ -138,8 +142,10 @@ fn put_allowed(
     n: usize,
     w: usize,
 )
-    requires { ⌜ (w ≤ maxWidth) × (n ≤ maxRows) × (node < maxNodes) × (areaSize ≤ length (now area)) × (at + cond allowed (n * (6 + 4 * w)) 0 ≤ length (now out)) ⌝ }
-    ensures { λ _. ⌜ now (out .exit) ≡ sets (now (out .entry)) at (allowedOf allowed kind node (heldIn layout w n (now (area .entry)) node)) ⌝ }
+    requires { ⌜ (w ≤ maxWidth) × (n ≤ maxRows) × (node < maxNodes) × (areaSize ≤ length (now area))
+        × (at + cond allowed (n * (6 + 4 * w)) 0 ≤ length (now out)) ⌝ }
+    ensures { λ _. ⌜ now (out .exit)
+        ≡ sets (now (out .entry)) at (allowedOf allowed kind node (heldIn layout w n (now (area .entry)) node)) ⌝ }
 {
     if allowed {
         put_records(out, at, kind, node, area, n, w);
@@ -166,11 +172,16 @@ pub fn put_report(
     lost: &[u32],
     l: usize,
 )
-    requires { ⌜ (w ≤ maxWidth) × (g ≤ maxRows) × (l ≤ maxRows) × (node < maxNodes) × (areaSize ≤ length (now gained)) × (areaSize ≤ length (now lost))
+    requires { ⌜ (w ≤ maxWidth) × (g ≤ maxRows) × (l ≤ maxRows) × (node < maxNodes) × (areaSize ≤ length (now gained))
+        × (areaSize ≤ length (now lost))
         × (reportSize sign w g l ≤ length (now out)) ⌝ }
     ensures { λ _. ⌜ now (out .exit)
         ≡ writtenTo (now (out .entry))
-        (reportBytes sign node (record { gained = heldIn layout w g (now (gained .entry)) node; lost = heldIn layout w l (now (lost .entry)) node }))
+        (reportBytes sign node (record {
+          gained = heldIn layout w g
+              (now (gained .entry)) node;
+          lost = heldIn layout w l (now (lost .entry)) node;
+        }))
         ⌝ }
 {
     let more = allows(sign, Direction::Gained);

@@ -9,8 +9,8 @@ use lib.ListN.{drop, length, length-drop, replicate, take, take-append-drop, len
 use lib.Seq.{drop-at, length-take-le, slice, take-all}
 use lib.Dec.{leb}
 use borrow.Author.Tests.{le-leb}
-use Rattle.model.specs.Row.{Relation, Row, allOf, ascending, maxRows, maxWidth}
-use Rattle.rows.specs.Rows.{Wide, firstRows, goodRows, words}
+use Rattle.model.specs.Row.{Relation, Row, allOf, ascending, maxRows, maxWidth, Wide}
+use Rattle.rows.specs.Rows.{firstRows, goodRows, words}
 use Rattle.rows.proofs.Words.{length-rows, length-words, rows-words, wide-rows, words-rows}
 use Rattle.model.specs.Areas.{allZero, goodPlace, heldIn, layout, padded, placeOf, unusedZero, placeSize, stride}
 use Rattle.model.proofs.Sets.{and-both, and-first, and-second}
@@ -60,7 +60,8 @@ place-split rel = rw (words-map (padded stride) rel)
 
 pub place-length : (w : ℕ) (rel : Relation) → w ≤ maxWidth → Wide w rel → length rel ≤ maxRows → length (placeOf layout rel) ≡ placeSize
 place-length w rel h a f =
-    let size : length (words (map (padded stride) rel)) ≡ length rel * stride = length-words stride (map (padded stride) rel) (wide-padded w stride rel h a) ∙ ap (λ (k : ℕ). k * stride) (length-map-padded stride rel) in
+    let size : length (words (map (padded stride) rel))
+    ≡ length rel * stride = length-words stride (map (padded stride) rel) (wide-padded w stride rel h a) ∙ ap (λ (k : ℕ). k * stride) (length-map-padded stride rel) in
     ap length (place-split rel) ∙ length-append (words (map (padded stride) rel)) (replicate (placeSize - length (words (map (padded stride) rel))) 0) ∙ rw (length-replicate, size) (omega arith)
 
 pub placed-rows : (w : ℕ) (rel : Relation) → w ≤ maxWidth → Wide w rel → length rel ≤ maxRows → firstRows (placeOf layout rel) (length rel) ≡ map (padded stride) rel
@@ -71,7 +72,8 @@ placed-rows w rel h a f =
 
 pub rest-zero : (w : ℕ) (rel : Relation) → w ≤ maxWidth → Wide w rel → length rel ≤ maxRows → drop (length rel * stride) (placeOf layout rel) ≡ replicate (placeSize - length rel * stride) 0
 rest-zero w rel h a f =
-    let size : length (words (map (padded stride) rel)) ≡ length rel * stride = length-words stride (map (padded stride) rel) (wide-padded w stride rel h a) ∙ ap (λ (k : ℕ). k * stride) (length-map-padded stride rel) in
+    let size : length (words (map (padded stride) rel))
+    ≡ length rel * stride = length-words stride (map (padded stride) rel) (wide-padded w stride rel h a) ∙ ap (λ (k : ℕ). k * stride) (length-map-padded stride rel) in
     ap (drop (length rel * stride)) (place-split rel)
     ∙ drop-at (words (map (padded stride) rel)) (replicate (placeSize - length (words (map (padded stride) rel))) 0) (length rel * stride) size
     ∙ ap (λ (k : ℕ). replicate (placeSize - k) 0) size

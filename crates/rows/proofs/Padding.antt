@@ -7,13 +7,11 @@ use native.Mathlib.Omega.{arith}
 use lib.Dec.{isEq}
 use lib.ListN.{length, length-append, getD, set, take, replicate, List·getD-append}
 use lib.Seq.{set-at, take-at}
-use Rattle.model.specs.Row.{Row, Relation, andThen, order, isLess, sameRow, belowFirst, ascending, member, place, insertRow, keepIf, keep, setOf, deleteRow}
+use Rattle.model.specs.Row.{Row, Relation, andThen, order, isLess, sameRow, belowFirst, ascending, member, place, insertRow, keepIf, keep, setOf, deleteRow, Wide}
 use Rattle.model.specs.Algebra.{unionRows, differenceRows, intersectRows}
 use Rattle.model.specs.Areas.{padded}
 use Rattle.model.proofs.Order.{order-refl}
-use Rattle.rows.specs.Rows.{Wide}
-use Rattle.rows.proofs.Words.{wide-insert}
-use Rattle.rows.proofs.Place.{wide-append}
+use Rattle.model.proofs.Widths.{wide-setOf, wide-append}
 
 -- one number more, at the place of the first zero
 pub padded-more : (n : ℕ) (l : List ℕ) (x i : ℕ) → length l ≡ i → i < n → set (padded n l) i x ≡ padded n (l ++ (x ∷ []))
@@ -73,13 +71,9 @@ module _ (n : ℕ) where
     insert-padded r [] e h = refl
     insert-padded r (s ∷ l) e h = rw (order-padded r s (e ∙ sym (h .0)), insert-padded r l e (h .1)) (place-padded (order r s) r s l (insertRow r l))
 
-    pub wide-setOf : (l : List Row) → Wide w l → Wide w (setOf l)
-    wide-setOf [] h = tt
-    wide-setOf (r ∷ l) h = wide-insert w r (setOf l) (h .0) (wide-setOf l (h .1))
-
     pub setOf-padded : (l : List Row) → Wide w l → setOf (map (padded n) l) ≡ map (padded n) (setOf l)
     setOf-padded [] h = refl
-    setOf-padded (r ∷ l) h = ap (insertRow (padded n r)) (setOf-padded l (h .1)) ∙ insert-padded r (setOf l) (h .0) (wide-setOf l (h .1))
+    setOf-padded (r ∷ l) h = ap (insertRow (padded n r)) (setOf-padded l (h .1)) ∙ insert-padded r (setOf l) (h .0) (wide-setOf w l (h .1))
 
     -- rows kept by a test that says the same of each padded row
     pub keep-padded : (p q : Row → Bool) (l : Relation) → Wide w l → ((r : Row) → length r ≡ w → p (padded n r) ≡ q r) → keep p (map (padded n) l) ≡ map (padded n) (keep q l)

@@ -10,10 +10,10 @@ use lib.Dec.{eqb, ltb}
 use lib.ListN.{length, getD, take, drop, replicate, length-append, length-replicate, getD-replicate, List·getD-append}
 use lib.Seq.{take-at, drop-at, length-take-le, getD-take, getD-drop, getD-append-add}
 use borrow.Author.Tests.{eqb-true, lt-ltb, le-ltb, ltb-true, ltb-false}
-use Rattle.model.specs.Row.{Row, Relation, allOf, countFrom, numbersBelow}
+use Rattle.model.specs.Row.{Row, Relation, allOf, countFrom, numbersBelow, Wide}
 use Rattle.model.specs.Areas.{Layout, placeWords, fields, rowStart, heldIn, allZero, unusedOf, unusedZero, padded, placeOf}
 use Rattle.model.proofs.Sets.{and-first, and-second, and-both}
-use Rattle.rows.specs.Rows.{rowAt, rowsFrom, words, Wide}
+use Rattle.rows.specs.Rows.{rowAt, rowsFrom, words}
 use Rattle.rows.proofs.Words.{length-fields, words-append, words-rows, words-zeros, length-words, rows-words, rows-part}
 use Rattle.rows.proofs.Search.{row-at}
 
@@ -114,10 +114,6 @@ words-map f (r ∷ l) = ap (λ (t : List ℕ). f r ++ t) (words-map f l)
 pub wide-zeros : (w k : ℕ) → Wide w (replicate k (replicate w 0))
 wide-zeros w zero = tt
 wide-zeros w (suc k) = (length-replicate w 0, wide-zeros w k)
-
-pub wide-append : (w : ℕ) (a b : List Row) → Wide w a → Wide w b → Wide w (a ++ b)
-wide-append w [] b ha hb = hb
-wide-append w (r ∷ a) b ha hb = (ha .0, wide-append w a b (ha .1) hb)
 
 pub length-padded : (n : ℕ) (r : Row) → length r ≤ n → length (padded n r) ≡ n
 length-padded n r h = length-append r (replicate (n - length r) 0) ∙ rw length-replicate (omega arith)

@@ -11,10 +11,11 @@ use lib.Seq.{drop-at}
 use borrow.Author.Tests.{leb-false, leb-true}
 use Rattle.model.proofs.Sets.{Ascending, insert-more, insert-new, insert-present, delete-absent, delete-present}
 use Rattle.rows.specs.declared.Inserted.the-variants.{Full, New, Present}
-use Rattle.rows.specs.Rows.{Inserts, Standing, insertAnswer, stored, words, Removes, Wide}
-use Rattle.model.specs.Row.{Row, insertRow, member, deleteRow, sameRow}
+use Rattle.rows.specs.Rows.{Inserts, Standing, insertAnswer, stored, words, Removes}
+use Rattle.model.specs.Row.{Wide, Row, insertRow, member, deleteRow, sameRow}
 use Rattle.model.specs.Areas.{stride}
-use Rattle.rows.proofs.Words.{length-words, stored-stored, wide-insert, drop-zeros, wide-keep, words-append}
+use Rattle.rows.proofs.Words.{length-words, stored-stored, drop-zeros, words-append}
+use Rattle.model.proofs.Widths.{wide-insert, wide-keep}
 
 new-says : (t u : Bool) → New ≡ cond t Present (cond u Full New) → (t ≡ false) × (u ≡ false)
 new-says true u e = let z : _≡_ {A = ℕ} 0 1 = cc in absurd (omega arith)
@@ -61,14 +62,16 @@ module _ (most size : ℕ) (r : Row) (l : List Row) (before after : List ℕ) (n
 -- ---- one row taken out
 
 -- rows with a row of zeros behind them, over rows that were one more
-taken-words : (size : ℕ) (d l : List Row) → Wide stride d → Wide stride l → suc (length d) ≡ length l → length l * stride ≤ size → stored (d ++ (replicate stride 0 ∷ [])) (stored l (replicate size 0))
+taken-words : (size : ℕ) (d l : List Row) → Wide stride d → Wide stride l → suc (length d) ≡ length l → length l * stride ≤ size
+    → stored (d ++ (replicate stride 0 ∷ [])) (stored l (replicate size 0))
     ≡ stored d (replicate size 0)
 unfolding stored
 taken-words size d l wd wl e h =
     let z : Row = replicate stride 0 in
     let ld : length (words d) ≡ length d * stride = length-words stride d wd in
     let ll : length (words l) ≡ length l * stride = length-words stride l wl in
-    let both : words (d ++ (replicate stride 0 ∷ [])) ≡ words d ++ replicate stride 0 = words-append d (replicate stride 0 ∷ []) ∙ ap (λ (x : List ℕ). words d ++ x) (append-nil (replicate stride 0)) in
+    let both : words (d ++ (replicate stride 0 ∷ []))
+    ≡ words d ++ replicate stride 0 = words-append d (replicate stride 0 ∷ []) ∙ ap (λ (x : List ℕ). words d ++ x) (append-nil (replicate stride 0)) in
     let size-is : length (words (d ++ (replicate stride 0 ∷ []))) ≡ length (words l) = ap length both ∙ length-append (words d) (replicate stride 0) ∙ rw (ld, ll) (omega (arith, e)) in
     let rest : drop (length (words (d ++ (replicate stride 0 ∷ [])))) (words l ++ drop (length (words l)) (replicate size 0)) ≡ replicate (size - length (words l)) 0 =
     ap (λ (k : ℕ). drop k (words l ++ drop (length (words l)) (replicate size 0))) size-is ∙ drop-at (words l) (drop (length (words l)) (replicate size 0)) (length (words l)) refl

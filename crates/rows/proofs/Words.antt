@@ -1,20 +1,18 @@
 -- Rows in a list of words, for rows of any number of words. Assumes nothing.
 use mathlib.Core.Path.{_≡_, refl, sym, ap, ap₂, _∙_}
-use mathlib.Core.Bool.{Bool, true, false}
 use mathlib.Core.List.{List, [], _∷_, _++_, append-assoc, append-nil}
-use Prim.Native.Nat.{ℕ, zero, suc, _+_, _-_, _*_, _≤_, _<_, compare, Ordering, Ordering·lt, Ordering·eq, Ordering·gt}
+use Prim.Native.Nat.{ℕ, zero, suc, _+_, _-_, _*_, _≤_, _<_, compare, Ordering·lt, Ordering·eq, Ordering·gt}
 use native.Mathlib.Nat.{suc-mul, zero-mul, add-zero, suc-add, mul-le-mul-right}
 use native.Mathlib.Numerals.{add-one, towards-suc}
 use native.Mathlib.Omega.{arith}
 use lib.ListN.{length-drop, replicate, length-replicate, replicate-append-replicate, length, getD, set, take, drop, length-append, take-append-drop, List·getD-append}
 use lib.Seq.{paste, take-all, drop-append-le, getD-append-add, getD-drop, take-nil, drop-nil, take-take, length-slice, take-append-le, slice, slice-empty, slice-cons, take-suc, getD-take}
 use lib.Seq.{append-snoc, set-at, sets, sets-eq, take-add, drop-drop, take-append-add, drop-append-add, length-take-le, drop-cons, take-at, drop-at}
-use Rattle.model.specs.Row.{Row, andThen, order, keep, keepIf, place, insertRow}
+use Rattle.model.specs.Row.{Row, andThen, order, Wide}
 use Rattle.model.specs.Areas.{fields}
 use Rattle.model.proofs.Order.{lt-compare, gt-compare, eq-compare}
 use Rattle.rows.specs.Rows.{rowAt, rowsFrom, words, stored}
 pub use Rattle.model.proofs.Parts.{keep-append}
-pub use Rattle.rows.specs.Rows.{Wide}
 
 -- ---- comparing field by field
 
@@ -204,14 +202,6 @@ rows-snoc w s j (suc n) =
     let f : j + suc n ≡ suc j + n = omega arith in
     rw (e, f, rows-snoc w s (suc j) n)
 
-pub wide-keep : (w : ℕ) (p : Row → Bool) (l : List Row) → Wide w l → Wide w (keep p l)
-wide-keep w p [] h = tt
-wide-keep w p (x ∷ l) h = go (p x) (wide-keep w p l (h .1))
-  where
-    go : (t : Bool) → Wide w (keep p l) → Wide w (keepIf t x (keep p l))
-    go true m = (h .0, m)
-    go false m = m
-
 pub stored-push : (w : ℕ) (l : List Row) (r : Row) (b : List ℕ) (n : ℕ) → Wide w l → length r ≡ w → n ≡ length l → n * w + w ≤ length b →
     sets (stored l b) (n * w) r ≡ stored (l ++ (r ∷ [])) b
 unfolding stored
@@ -263,15 +253,6 @@ pub fields-ext : (w : ℕ) (s t : List ℕ) (at : ℕ) → ((k : ℕ) → at ≤
 unfolding fields
 fields-ext zero s t at h = refl
 fields-ext (suc w) s t at h = λ i. h at (omega arith) (omega arith) i ∷ fields-ext w s t (suc at) (λ k a b. h k (omega arith) (omega arith)) i
-
-pub wide-insert : (w : ℕ) (r : Row) (l : List Row) → length r ≡ w → Wide w l → Wide w (insertRow r l)
-wide-insert w r [] h a = (h, tt)
-wide-insert w r (x ∷ l) h a = go (order r x) (wide-insert w r l h (a .1))
-  where
-    go : (o : Ordering) → Wide w (insertRow r l) → Wide w (place o r x l (insertRow r l))
-    go Ordering·lt m = (h, a)
-    go Ordering·eq m = a
-    go Ordering·gt m = (a .0, m)
 
 -- ---- one storing after another
 

@@ -32,11 +32,6 @@ abbrev pub words : List Row → List ℕ
 words [] = []
 words (r ∷ l) = r ++ words l
 
--- every row has w fields
-abbrev pub Wide : ℕ → List Row → Type 0
-Wide w [] = Unit {0}
-Wide w (r ∷ l) = (length r ≡ w) × Wide w l
-
 -- s with the rows' words at its front
 unfoldable pub stored : List Row → List ℕ → List ℕ
 stored l s = words l ++ drop (length (words l)) s

@@ -64,7 +64,8 @@ fn compare_rows(a: &[u32], i: usize, b: &[u32], j: usize) -> Order
 
 // Where row at of src stands among the first n rows, which ascend, or where it belongs.
 pub fn find(words: &[u32], n: usize, src: &[u32], at: usize) -> Found
-    requires { ⌜ (n * stride ≤ length (now words)) × (at * stride + stride ≤ length (now src)) × (ascending (firstRows (now words) n) ≡ true) ⌝ }
+    requires { ⌜ (n * stride ≤ length (now words)) × (at * stride + stride ≤ length (now src))
+        × (ascending (firstRows (now words) n) ≡ true) ⌝ }
     ensures { λ r. ⌜ r ≡ locate (rowAt stride (now (src .entry)) at) (firstRows (now (words .entry)) n) ⌝ }
 {
     let mut low = 0;
@@ -90,7 +91,8 @@ pub fn find(words: &[u32], n: usize, src: &[u32], at: usize) -> Found
 fn open_gap(words: &mut [u32], from: usize, to: usize)
     requires { ⌜ (from ≤ to) × (to + stride ≤ length (now words)) ⌝ }
     ensures { λ _. ⌜ now (words .exit)
-        ≡ take (from + stride) (now (words .entry)) ++ (slice from to (now (words .entry)) ++ drop (to + stride) (now (words .entry))) ⌝ }
+        ≡ take (from + stride) (now (words .entry))
+        ++ (slice from to (now (words .entry)) ++ drop (to + stride) (now (words .entry))) ⌝ }
 {
     let mut k = to;
     while from < k {
@@ -103,7 +105,8 @@ fn open_gap(words: &mut [u32], from: usize, to: usize)
 fn close_gap(words: &mut [u32], from: usize, to: usize)
     requires { ⌜ (from + stride ≤ to) × (to ≤ length (now words)) ⌝ }
     ensures { λ _. ⌜ now (words .exit)
-        ≡ take from (now (words .entry)) ++ (slice (from + stride) to (now (words .entry)) ++ drop (to - stride) (now (words .entry))) ⌝ }
+        ≡ take from (now (words .entry))
+        ++ (slice (from + stride) to (now (words .entry)) ++ drop (to - stride) (now (words .entry))) ⌝ }
 {
     let end = to - STRIDE;
     let mut k = from;
@@ -117,7 +120,8 @@ fn close_gap(words: &mut [u32], from: usize, to: usize)
 pub fn insert(words: &mut [u32], n: usize, src: &[u32], at: usize, capacity: usize) -> Inserted
     requires { ⌜ (n ≤ capacity) × (capacity * stride ≤ length (now words)) × (at * stride + stride ≤ length (now src))
         × (ascending (firstRows (now words) n) ≡ true) ⌝ }
-    ensures { λ r. ⌜ Inserts capacity (rowAt stride (now (src .entry)) at) (firstRows (now (words .entry)) n) (now (words .entry))
+    ensures { λ r. ⌜ Inserts capacity (rowAt stride (now (src .entry)) at) (firstRows (now (words .entry)) n)
+        (now (words .entry))
         (now (words .exit)) r ⌝ }
 {
     match find(words, n, src, at) {
@@ -135,8 +139,10 @@ pub fn insert(words: &mut [u32], n: usize, src: &[u32], at: usize, capacity: usi
 
 // Row at of src taken out of the first n rows, which ascend, and the place that becomes unused cleared: whether it was there.
 pub fn remove(words: &mut [u32], n: usize, src: &[u32], at: usize) -> bool
-    requires { ⌜ (n * stride ≤ length (now words)) × (at * stride + stride ≤ length (now src)) × (ascending (firstRows (now words) n) ≡ true) ⌝ }
-    ensures { λ r. ⌜ Removes (rowAt stride (now (src .entry)) at) (firstRows (now (words .entry)) n) (now (words .entry)) (now (words .exit)) r ⌝ }
+    requires { ⌜ (n * stride ≤ length (now words)) × (at * stride + stride ≤ length (now src))
+        × (ascending (firstRows (now words) n) ≡ true) ⌝ }
+    ensures { λ r. ⌜ Removes (rowAt stride (now (src .entry)) at) (firstRows (now (words .entry)) n)
+        (now (words .entry)) (now (words .exit)) r ⌝ }
 {
     match find(words, n, src, at) {
         Found::Missing(_) => false,
@@ -152,7 +158,8 @@ pub fn remove(words: &mut [u32], n: usize, src: &[u32], at: usize) -> bool
 // Whether row j of n has zeros past the width and is below the row after it, if there is one.
 fn good_row(words: &[u32], n: usize, j: usize, width: usize) -> bool
     requires { ⌜ (j < n) × (n * stride ≤ length (now words)) × (width ≤ stride) ⌝ }
-    ensures { λ r. ⌜ r ≡ goodRow width (rowAt stride (now (words .entry)) j) (rowsFrom stride (now (words .entry)) (j + 1) (n - (j + 1))) ⌝ }
+    ensures { λ r. ⌜ r ≡ goodRow width (rowAt stride (now (words .entry)) j)
+        (rowsFrom stride (now (words .entry)) (j + 1) (n - (j + 1))) ⌝ }
 {
     let at = j * STRIDE;
     let next = at + STRIDE;

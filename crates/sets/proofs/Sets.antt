@@ -10,10 +10,10 @@ use lib.Seq.{paste, length-take-le}
 use Rattle.model.proofs.Sets.{ascending-holds}
 use Rattle.model.specs.Algebra.{differenceRows, intersectRows, unionRows}
 use Rattle.model.specs.Areas.{padded, placeSize, stride}
-use Rattle.model.specs.Row.{Row, member, maxRows}
-use Rattle.rows.proofs.Padding.{member-padded, union-padded, wide-setOf}
-use Rattle.rows.proofs.Place.{wide-append}
-use Rattle.rows.specs.Rows.{Wide, rowsFrom, firstRows, words, stored}
+use Rattle.model.specs.Row.{Row, member, maxRows, Wide}
+use Rattle.rows.proofs.Padding.{member-padded, union-padded}
+use Rattle.model.proofs.Widths.{wide-setOf, wide-append}
+use Rattle.rows.specs.Rows.{rowsFrom, firstRows, words, stored}
 use Rattle.rows.proofs.Words.{length-rows, words-rows}
 use Rattle.places.proofs.Places.{place-rows, place-wide, rows-ascend, kept-fills}
 use Rattle.places.specs.Places.{relationIn, Place, Fills, Stands, insertAll, Kept}
@@ -60,7 +60,8 @@ pub wide-alone : (r : Row) → length r ≡ stride → Wide stride (alone r)
 wide-alone r e = (e, tt)
 
 -- the right rows copied
-pub union-start : (right : List ℕ) (m : ℕ) (out : List ℕ) → m ≤ maxRows → m * stride ≤ length right → out ≡ paste (replicate placeSize 0) 0 (drop 0 right) (m * stride) → Stands (firstRows right m) out m
+pub union-start : (right : List ℕ) (m : ℕ) (out : List ℕ) → m ≤ maxRows → m * stride ≤ length right → out ≡ paste (replicate placeSize 0) 0 (drop 0 right) (m * stride)
+    → Stands (firstRows right m) out m
 unfolding stored
 union-start right m out few long e =
     let same : words (firstRows right m) ≡ take (m * stride) right = words-rows stride right 0 m (omega (arith, zero-mul stride)) in
@@ -80,4 +81,4 @@ module _ (left : List ℕ) (n : ℕ) (right : List ℕ) (m w : ℕ) (pl : Place 
 
   pub union-wide : Wide w (unionRows (relationIn w left n) (relationIn w right m))
   unfolding unionRows
-  union-wide = wide-setOf stride w (relationIn w left n ++ relationIn w right m) (wide-append w (relationIn w left n) (relationIn w right m) (place-wide w left n pl) (place-wide w right m pr))
+  union-wide = wide-setOf w (relationIn w left n ++ relationIn w right m) (wide-append w (relationIn w left n) (relationIn w right m) (place-wide w left n pl) (place-wide w right m pr))

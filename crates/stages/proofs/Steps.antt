@@ -44,7 +44,8 @@ pub put-nothing : (text before : Bytes) → text ≡ [] → Put text 13696 0 bef
 put-nothing text before e = record { bytes = ap (sets before 0) (sym e); next = omega (arith, ap length e); short = omega arith }
 
 -- areas of the named words are long enough
-pub long-is : (rows gained lost head : List ℕ) → areaSize ≤ length rows → areaSize ≤ length gained → areaSize ≤ length lost → headWords ≤ length head → longEnough layout (lent rows gained lost head) ≡ true
+pub long-is : (rows gained lost head : List ℕ) → areaSize ≤ length rows → areaSize ≤ length gained → areaSize ≤ length lost → headWords ≤ length head
+    → longEnough layout (lent rows gained lost head) ≡ true
 unfolding longEnough
 long-is rows gained lost head r g l h = rw (le-leb areaSize (length rows) r, le-leb areaSize (length gained) g, le-leb areaSize (length lost) l, le-leb headWords (length head) h) refl
 

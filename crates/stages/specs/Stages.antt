@@ -104,7 +104,8 @@ pieceStage net a start (unfinished ∷ rest) = End
 
 -- what it prints
 abbrev pub textAt : Files → Stage → Areas → Bytes
-textAt f Begin a = cond (hasInput f) (cond (isAccepted (readNetwork (f .net) .verdict)) [] (refusal (readNetwork (f .net) .verdict)))
+textAt f Begin a = cond (hasInput f)
+    (cond (isAccepted (readNetwork (f .net) .verdict)) [] (refusal (readNetwork (f .net) .verdict)))
     (line noInputWords [])
 textAt f (Cut start) a = pieceText (f .net) a (piecesOn (f .batches) start)
 textAt f (Tell node next) a = nodeLines (readNetwork (f .net) .network) (stateOf (f .net) a .changes) node

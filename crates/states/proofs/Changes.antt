@@ -9,10 +9,9 @@ use lib.ListN.{getD, length, length-map}
 use Rattle.model.proofs.Sets.{Ascending, ascending-holds, ascending-true, member-keep, ext, sameRows-refl, sameRows-eq}
 use Rattle.model.specs.Delta.{Change, changeAt, isChanged, netChange, netChanges, noChange}
 use Rattle.states.specs.Fitting.{Fitting}
-use Rattle.model.specs.Row.{Relation, Row, keep, keepIf, member, sameRow, isEmpty, sameRows, maxRows}
+use Rattle.model.specs.Row.{Relation, Row, keep, keepIf, member, sameRow, isEmpty, sameRows, maxRows, Wide}
 use Rattle.model.specs.Station.{stampOf}
-use Rattle.rows.specs.Rows.{Wide}
-use Rattle.rows.proofs.Words.{wide-keep}
+use Rattle.model.proofs.Widths.{wide-keep}
 use Rattle.model.proofs.Algebra.{asc-difference}
 use Rattle.model.specs.Algebra.{differenceRows}
 use Rattle.model.proofs.Order.{sameRow-refl}

@@ -11,16 +11,15 @@ use borrow.Author.Tests.{leb-true, lt-ltb, le-ltb}
 use Rattle.model.specs.Network.{Node, isTable, widths, nodeAt}
 use Rattle.rows.proofs.Place.{all-below, held-wide, length-held, place-words}
 use Rattle.model.specs.Areas.{emptyPlace, goodArea, goodPlace, heldIn, layout, relationsIn, tablesOf, unusedZero, Areas, goodForm, rowCount, gainedCount, lostCount, goodStamps, goodWorked}
+use Rattle.model.specs.Areas.{areaSize, placeSize}
 use Rattle.states.specs.Fitting.{Fitting}
 use Rattle.states.proofs.Written.{place-none}
-use Rattle.model.specs.Row.{Relation, ascending, maxNodes, maxRows, maxWidth}
+use Rattle.model.specs.Row.{Relation, ascending, maxNodes, maxRows, maxWidth, Wide}
 use Rattle.model.proofs.Sets.{and-first, and-second, Ascending, ascending-holds}
 use Rattle.model.specs.Delta.{Change}
 use Rattle.states.proofs.Tables.{Tables}
 use Rattle.model.proofs.Fits.{length-widths}
-use Rattle.model.specs.Areas.{areaSize, placeSize}
 use Rattle.evaluation.proofs.Fresh.{tables-at}
-use Rattle.rows.specs.Rows.{Wide}
 use Rattle.places.specs.Places.{Place, relationIn}
 use Rattle.areas.specs.Lent.{placeAt}
 use Rattle.areas.proofs.Pasted.{place-long}

@@ -20,7 +20,8 @@ padded-zero n l k h g =
     let e : length l + (k - length l) ≡ k = omega arith in
     ap (λ (m : ℕ). getD (padded n l) m 0) (sym e) ∙ getD-append-add l (replicate (n - length l) 0) (k - length l) 0 ∙ getD-replicate {A = ℕ} (n - length l) (k - length l) 0 0 (omega arith)
 
-module _ (a p q r s b t rest : List ℕ) (la : length a ≡ 1) (lp : length p ≡ maxNodes) (lq : length q ≡ maxNodes) (lr : length r ≡ maxNodes) (ls : length s ≡ maxNodes) (lb : length b ≡ 1) (lt : length t ≡ maxNodes) where
+module _ (a p q r s b t rest : List ℕ) (la : length a ≡ 1) (lp : length p ≡ maxNodes) (lq : length q ≡ maxNodes) (lr : length r ≡ maxNodes) (ls : length s ≡ maxNodes) (lb : length b ≡ 1)
+    (lt : length t ≡ maxNodes) where
   l2 : length (a ++ p) ≡ 33
   l2 = omega (arith, length-append a p)
 
@@ -79,7 +80,8 @@ module _ (a p q r s b t rest : List ℕ) (la : length a ≡ 1) (lp : length p �
   word-t k h = in7 (130 + k) (omega arith) ∙ at-right (a ++ p ++ q ++ r ++ s ++ b) t 130 k l6
 
 -- the words of a head
-pub head-size : (rels : List Relation) (s : State) → length rels ≤ maxNodes → length (s .stamps) ≤ maxNodes → length (s .changes) ≤ maxNodes → length (s .worked) ≤ maxNodes → length (headOf rels s) ≡ headWords
+pub head-size : (rels : List Relation) (s : State) → length rels ≤ maxNodes → length (s .stamps) ≤ maxNodes → length (s .changes) ≤ maxNodes → length (s .worked) ≤ maxNodes
+    → length (headOf rels s) ≡ headWords
 unfolding headOf
 head-size rels s a b c d =
     head-length (s .number ∷ []) (padded maxNodes (map length rels)) (padded maxNodes (s .stamps)) (padded maxNodes (map (λ x. length (x .gained)) (s .changes)))

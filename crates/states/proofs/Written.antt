@@ -41,7 +41,8 @@ flat-place (r ∷ rels) t zero h k =
     ap (take placeSize) (append-assoc (placeOf layout r) (flatMap (placeOf layout) rels) t) ∙ take-at (placeOf layout r) (flatMap (placeOf layout) rels ++ t) placeSize (h 0 (suc-le-suc zero-le))
 flat-place (r ∷ rels) t (suc i) h k =
     let e : placeSize * suc i ≡ placeSize + placeSize * i = omega arith in
-    let one : drop placeSize (placeOf layout r ++ (flatMap (placeOf layout) rels ++ t)) ≡ flatMap (placeOf layout) rels ++ t = drop-at (placeOf layout r) (flatMap (placeOf layout) rels ++ t) placeSize
+    let one : drop placeSize (placeOf layout r ++ (flatMap (placeOf layout) rels ++ t))
+    ≡ flatMap (placeOf layout) rels ++ t = drop-at (placeOf layout r) (flatMap (placeOf layout) rels ++ t) placeSize
     (h 0 (suc-le-suc zero-le)) in
     ap₂ {A = ℕ} {B = List ℕ} {C = List ℕ} (λ n l. take placeSize (drop n l)) e (append-assoc (placeOf layout r) (flatMap (placeOf layout) rels) t)
     ∙ ap (take placeSize) (sym (drop-drop (placeSize * i) placeSize (placeOf layout r ++ (flatMap (placeOf layout) rels ++ t))) ∙ ap (drop (placeSize * i)) one)
@@ -70,7 +71,8 @@ unfolding flatMap
 flat-none zero = refl
 flat-none (suc n) =
     let e : placeSize + placeSize * n ≡ placeSize * suc n = omega arith in
-    ap₂ {A = List ℕ} {B = List ℕ} {C = List ℕ} (λ a b. a ++ b) (sym place-none) (flat-none n) ∙ replicate-append-replicate {A = ℕ} placeSize (placeSize * n) 0 ∙ ap (λ (k : ℕ). replicate {A = ℕ} k 0) e
+    ap₂ {A = List ℕ} {B = List ℕ} {C = List ℕ} (λ a b. a ++ b) (sym place-none) (flat-none n) ∙ replicate-append-replicate {A = ℕ} placeSize (placeSize * n) 0 ∙ ap
+    (λ (k : ℕ). replicate {A = ℕ} k 0) e
 
 module _ (ws : List ℕ) (rels : List Relation) (f : Fitting ws rels) where
   pub sized : Sized rels

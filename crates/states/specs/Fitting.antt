@@ -4,8 +4,7 @@ use mathlib.Core.Bool.{true}
 use mathlib.Core.List.{List, []}
 use Prim.Native.Nat.{ℕ, _≤_, _<_}
 use lib.ListN.{getD, length}
-use Rattle.model.specs.Row.{Relation, ascending, maxNodes, maxRows, maxWidth}
-use Rattle.rows.specs.Rows.{Wide}
+use Rattle.model.specs.Row.{Relation, ascending, maxNodes, maxRows, maxWidth, Wide}
 
 -- relations that fit into an area: one for each width
 pub record Fitting (ws : List ℕ) (rels : List Relation) : Type 0 where

@@ -190,7 +190,8 @@ fn run(
     head: &mut [u32],
     out: &mut [u8],
 ) -> Ran
-    requires { ⌜ (longEnough layout (lent (now rows) (now gained) (now lost) (now head)) ≡ true) × (length (now file) ≤ 65537)
+    requires { ⌜ (longEnough layout (lent (now rows) (now gained) (now lost) (now head)) ≡ true)
+        × (length (now file) ≤ 65537)
         × (length (now out) ≡ nodeRoom) ⌝ }
     ensures { λ r. ⌜ Told (files n b (now (net .entry)) (now (file .entry))) r ⌝ }
 {

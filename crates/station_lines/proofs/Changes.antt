@@ -35,7 +35,8 @@ numbers-more node k words from numbers x h e f =
     ∙ ap (λ (l : List ℕ). padded (1 + maxWidth) (node ∷ l)) (sym (fields-split k 1 words from))
 
 -- the numbers of a line, without the zeros
-pub numbers-taken : (node w : ℕ) (words : List ℕ) (from : ℕ) (numbers : List ℕ) → w ≤ maxWidth → numbers ≡ padded (1 + maxWidth) (node ∷ fields w words from) → take (w + 1) numbers ≡ node ∷ fields w words from
+pub numbers-taken : (node w : ℕ) (words : List ℕ) (from : ℕ) (numbers : List ℕ) → w ≤ maxWidth → numbers ≡ padded (1 + maxWidth) (node ∷ fields w words from) → take (w + 1) numbers
+    ≡ node ∷ fields w words from
 numbers-taken node w words from numbers h e = ap (take (w + 1)) e ∙ take-padded (1 + maxWidth) (w + 1) (node ∷ fields w words from) (omega (arith, length-fields w words from))
 
 -- one row more
@@ -64,7 +65,8 @@ lines-none sign node w area out at = (refl, omega arith)
 -- gained lines, then lost ones
 pub node-lines : (sign node : ℕ) (change : Change) (more less : Bool) (out first second : List ℕ) (at to r g l : ℕ) → more ≡ allows sign wasGained → less ≡ allows sign wasLost →
     first ≡ sets out at (cond more (changeLines 43 node (change .gained)) []) → to ≡ at + length (cond more (changeLines 43 node (change .gained)) []) → to ≤ at + changeRoom * g →
-    second ≡ sets first to (cond less (changeLines 45 node (change .lost)) []) → r ≡ to + length (cond less (changeLines 45 node (change .lost)) []) → r ≤ to + changeRoom * l → g ≤ maxRows → l ≤ maxRows →
+    second ≡ sets first to (cond less (changeLines 45 node (change .lost)) []) → r ≡ to + length (cond less (changeLines 45 node (change .lost)) []) → r ≤ to + changeRoom * l → g ≤ maxRows
+    → l ≤ maxRows →
     Put (flatMap changeLine (changesOf sign node change)) nodeRoom at out second r
 unfolding changeLines changeLine
 node-lines sign node change more less out first second at to r g l em el e1 e2 e3 f1 f2 f3 fg fl =

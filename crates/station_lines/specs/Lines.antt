@@ -50,4 +50,5 @@ changeLines sign node rows = flatMap (λ r. line (sign ∷ []) (node ∷ r)) row
 
 -- a node's lines, from the areas
 abbrev pub linesIn : Network → List ℕ → List ℕ → List ℕ → ℕ → Bytes
-linesIn net gained lost head node = nodeLines (networkOf net) (changesIn layout (nodesOf net) (lent [] gained lost head)) node
+linesIn net gained lost head node = nodeLines (networkOf net)
+    (changesIn layout (nodesOf net) (lent [] gained lost head)) node

@@ -65,7 +65,8 @@ fn put_change(
     w: usize,
 ) -> usize
     requires { ⌜ (w ≤ maxWidth) × (from + w ≤ length (now words)) × (at + changeRoom ≤ length (now out)) ⌝ }
-    ensures { λ r. ⌜ (now (out .exit) ≡ sets (now (out .entry)) at (line (sign ∷ []) (node ∷ fields w (now (words .entry)) from)))
+    ensures { λ r. ⌜ (now (out .exit)
+        ≡ sets (now (out .entry)) at (line (sign ∷ []) (node ∷ fields w (now (words .entry)) from)))
         × (r ≡ at + length (line (sign ∷ []) (node ∷ fields w (now (words .entry)) from))) × (r ≤ at + changeRoom) ⌝ }
 {
     let numbers = change_numbers(node, words, from, w);
@@ -82,9 +83,12 @@ fn put_changes(
     n: usize,
     w: usize,
 ) -> usize
-    requires { ⌜ (w ≤ maxWidth) × (n ≤ maxRows) × (node < maxNodes) × (areaSize ≤ length (now area)) × (at + changeRoom * n ≤ length (now out)) ⌝ }
-    ensures { λ r. ⌜ (now (out .exit) ≡ sets (now (out .entry)) at (changeLines sign node (heldIn layout w n (now (area .entry)) node)))
-        × (r ≡ at + length (changeLines sign node (heldIn layout w n (now (area .entry)) node))) × (r ≤ at + changeRoom * n) ⌝ }
+    requires { ⌜ (w ≤ maxWidth) × (n ≤ maxRows) × (node < maxNodes) × (areaSize ≤ length (now area))
+        × (at + changeRoom * n ≤ length (now out)) ⌝ }
+    ensures { λ r. ⌜ (now (out .exit)
+        ≡ sets (now (out .entry)) at (changeLines sign node (heldIn layout w n (now (area .entry)) node)))
+        × (r ≡ at + length (changeLines sign node (heldIn layout w n (now (area .entry)) node)))
+        × (r ≤ at + changeRoom * n) ⌝ }
 {
     let mut to = at;
     let mut j = 0;
@@ -106,7 +110,8 @@ fn put_allowed(
     n: usize,
     w: usize,
 ) -> usize
-    requires { ⌜ (w ≤ maxWidth) × (n ≤ maxRows) × (node < maxNodes) × (areaSize ≤ length (now area)) × (at + changeRoom * n ≤ length (now out)) ⌝ }
+    requires { ⌜ (w ≤ maxWidth) × (n ≤ maxRows) × (node < maxNodes) × (areaSize ≤ length (now area))
+        × (at + changeRoom * n ≤ length (now out)) ⌝ }
     ensures { λ r. ⌜ (now (out .exit) ≡ sets (now (out .entry)) at (cond allowed (changeLines sign node
         (heldIn layout w n (now (area .entry)) node)) [])) × (r ≡ at + length (cond allowed (changeLines sign node
         (heldIn layout w n (now (area .entry)) node)) [])) × (r ≤ at + changeRoom * n) ⌝ }
@@ -129,10 +134,15 @@ fn put_node(
     lost: &[u32],
     l: usize,
 ) -> usize
-    requires { ⌜ (w ≤ maxWidth) × (g ≤ maxRows) × (l ≤ maxRows) × (node < maxNodes) × (areaSize ≤ length (now gained)) × (areaSize ≤ length (now lost))
+    requires { ⌜ (w ≤ maxWidth) × (g ≤ maxRows) × (l ≤ maxRows) × (node < maxNodes) × (areaSize ≤ length (now gained))
+        × (areaSize ≤ length (now lost))
         × (at + nodeRoom ≤ length (now out)) ⌝ }
     ensures { λ r. ⌜ Put (flatMap changeLine (changesOf sign node
-        (record { gained = heldIn layout w g (now (gained .entry)) node; lost = heldIn layout w l (now (lost .entry)) node }))) nodeRoom at
+        (record {
+          gained = heldIn layout w g (now (gained .entry)) node;
+          lost = heldIn layout w l
+              (now (lost .entry)) node;
+        }))) nodeRoom at
         (now (out .entry)) (now (out .exit)) r ⌝ }
 {
     let more = reports::allows(sign, Direction::Gained);
@@ -153,7 +163,8 @@ pub fn put_watched(
 ) -> usize
     requires { ⌜ Built network × Changes network (now gained) (now lost) (now head) × (node < network .count)
         × (at + nodeRoom ≤ length (now out)) ⌝ }
-    ensures { λ r. ⌜ Put (linesIn network (now (gained .entry)) (now (lost .entry)) (now (head .entry)) node) nodeRoom at
+    ensures { λ r. ⌜ Put (linesIn network (now (gained .entry)) (now (lost .entry)) (now (head .entry)) node) nodeRoom
+        at
         (now (out .entry)) (now (out .exit)) r ⌝ }
 {
     let sign = network.signs[node];

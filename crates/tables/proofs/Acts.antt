@@ -9,9 +9,8 @@ use lib.ListN.{getD, length, length-append, set, length-set}
 use borrow.Author.Tests.{leb-false, leb-true, eqb-true, eqb-false}
 use lib.Seq.{getD-set-same, getD-set-other}
 use Rattle.model.specs.Record.{Bytes, fieldAt, kindAt, firstBroken, rule, isBroken, lengthAt, isAccepted, refused, offsets}
-use Rattle.model.specs.Row.{Relation, insertRow, deleteRow, sameRow, maxRows, maxWidth}
-use Rattle.rows.specs.Rows.{Wide}
-use Rattle.rows.proofs.Words.{wide-insert, wide-keep}
+use Rattle.model.specs.Row.{Relation, insertRow, deleteRow, sameRow, maxRows, maxWidth, Wide}
+use Rattle.model.proofs.Widths.{wide-insert, wide-keep}
 use Rattle.model.specs.Batch.{rowIn, eventFault, eventFits, readEvents, eventAt, act, eventOf, put, remove, actAll, readBatch, Event}
 use Rattle.model.proofs.Events.{length-row-in}
 use Rattle.model.specs.Areas.{padded, stride}

@@ -9,13 +9,14 @@ use lib.Seq.{take-all}
 use lib.Dec.{eqb}
 use borrow.Author.Tests.{eq-eqb, ne-eqb}
 use Rattle.model.specs.Record.{Bytes, u32, kindAt, fieldAt, isBroken, lengthAt, offsets}
-use Rattle.rows.proofs.Words.{fields-part, length-words, rows-stored, wide-insert, wide-keep, wide-rows}
-use Rattle.rows.specs.Rows.{Wide, words, rowAt, firstRows, stored}
+use Rattle.rows.proofs.Words.{fields-part, length-words, rows-stored, wide-rows}
+use Rattle.model.proofs.Widths.{wide-insert, wide-keep}
+use Rattle.model.specs.Row.{Wide, Row, deleteRow, insertRow, member, ascending, keep, sameRow, maxNodes, maxRows, maxWidth}
+use Rattle.rows.specs.Rows.{words, rowAt, firstRows, stored}
 use Rattle.rows.proofs.Place.{length-padded}
 use Rattle.model.specs.Areas.{padded, foldedSize, stride}
 use Rattle.rows.proofs.Padding.{padded-more}
 use Rattle.model.specs.Batch.{rowIn, foldedRows}
-use Rattle.model.specs.Row.{Row, deleteRow, insertRow, member, ascending, keep, sameRow, maxNodes, maxRows, maxWidth}
 use Rattle.tables.specs.Fold.{Stands, actOn, Events, Foldable, Table, foldAt}
 use Rattle.model.proofs.Sets.{Ascending, asc-delete, asc-insert, ascending-holds, ascending-true}
 use Rattle.records.proofs.Header.{Whole, whole}
@@ -32,7 +33,8 @@ row-more bs at (suc k) =
 -- one field more of an event's row
 pub row-filled : (bs : Bytes) (at k : ℕ) (row : List ℕ) (x : ℕ) → k < stride → row ≡ padded stride (rowIn bs at k) → x ≡ u32 bs (at + stride * k) → set row k x ≡ padded stride (rowIn bs at (k + 1))
 row-filled bs at k row x h e f =
-    ap₂ {A = List ℕ} {B = ℕ} {C = List ℕ} (λ r y. set r k y) e f ∙ padded-more stride (rowIn bs at k) (u32 bs (at + stride * k)) k (length-row-in bs at k) h ∙ ap (padded stride) (sym (row-more bs at k))
+    ap₂ {A = List ℕ} {B = ℕ} {C = List ℕ} (λ r y. set r k y) e f ∙ padded-more stride (rowIn bs at k) (u32 bs (at + stride * k)) k (length-row-in bs at k) h ∙ ap (padded stride)
+    (sym (row-more bs at k))
 
 -- an event's row in words is its own row
 pub event-row-at : (bs : Bytes) (at w : ℕ) (row : List ℕ) → w ≤ maxWidth → row ≡ padded stride (rowIn bs at w) → rowAt stride row 0 ≡ padded stride (rowIn bs at w)

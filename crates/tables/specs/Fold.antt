@@ -22,12 +22,14 @@ pub record Table (words : List ℕ) (n : ℕ) : Type 0 where
 
 -- the event at an offset on some rows, its own row of a width, in the form of those rows
 abbrev pub actIn : (Row → Row) → Bytes → ℕ → ℕ → List Row → List Row
-actIn form bs at w rows = cond (eqb (kindAt bs at) 32) (insertRow (form (rowIn bs (at + 6) w)) rows) (deleteRow (form (rowIn bs (at + 6) w)) rows)
+actIn form bs at w rows = cond (eqb (kindAt bs at) 32) (insertRow (form (rowIn bs (at + 6) w)) rows)
+    (deleteRow (form (rowIn bs (at + 6) w)) rows)
 
 -- the events at some offsets, those on one table, in order
 abbrev pub foldIn : (Row → Row) → Bytes → ℕ → ℕ → List ℕ → List Row → List Row
 foldIn form bs t w [] rows = rows
-foldIn form bs t w (at ∷ ats) rows = foldIn form bs t w ats (cond (eqb (fieldAt bs at 0) t) (actIn form bs at w rows) rows)
+foldIn form bs t w (at ∷ ats) rows = foldIn form bs t w ats
+    (cond (eqb (fieldAt bs at 0) t) (actIn form bs at w rows) rows)
 
 -- on rows in words, each with zeros up to the stride
 abbrev pub actOn : Bytes → ℕ → ℕ → List Row → List Row
@@ -43,7 +45,8 @@ foldRows bs t w ats rel = foldIn (λ r. r) bs t w ats rel
 -- records that can be folded: whole, and with a row of the width where they are on the table
 abbrev pub Events : Bytes → ℕ → ℕ → List ℕ → Type 0
 Events bs t w [] = Unit {0}
-Events bs t w (at ∷ ats) = (isBroken bs at ≡ false) × (at + 6 ≤ length bs) × (fieldAt bs at 0 ≡ t → at + 6 + 4 * w ≤ length bs) × Events bs t w ats
+Events bs t w (at ∷ ats) = (isBroken bs at ≡ false) × (at + 6 ≤ length bs)
+    × (fieldAt bs at 0 ≡ t → at + 6 + 4 * w ≤ length bs) × Events bs t w ats
 
 -- a batch that can be folded
 pub record Foldable (bs : Bytes) (t w : ℕ) : Type 0 where

@@ -37,8 +37,10 @@ fn event_row(bytes: &[u8], at: usize, width: usize) -> [u32; STRIDE]
 
 // The event at an offset on the first n rows: how many rows there are afterwards.
 fn act(words: &mut [u32], n: usize, bytes: &[u8], at: usize, width: usize) -> usize
-    requires { ⌜ (width ≤ maxWidth) × (at + 6 + 4 * width ≤ length (now bytes)) × Table (now words) n × (n < foldedRows) × (length (now words) ≡ foldedSize) ⌝ }
-    ensures { λ r. ⌜ Stands (actOn (now (bytes .entry)) at width (firstRows (now (words .entry)) n)) (now (words .exit)) r × (r ≤ n + 1) ⌝ }
+    requires { ⌜ (width ≤ maxWidth) × (at + 6 + 4 * width ≤ length (now bytes)) × Table (now words) n
+        × (n < foldedRows) × (length (now words) ≡ foldedSize) ⌝ }
+    ensures { λ r. ⌜ Stands (actOn (now (bytes .entry)) at width (firstRows (now (words .entry)) n))
+        (now (words .exit)) r × (r ≤ n + 1) ⌝ }
 {
     let row = event_row(bytes, at, width);
     if records::u16_at(bytes, at + 2) == PUT {
@@ -63,10 +65,12 @@ fn fold_one(
     table: usize,
     width: usize,
 ) -> usize
-    requires { ⌜ (width ≤ maxWidth) × (at + 6 ≤ length (now bytes)) × (fieldAt (now bytes) at 0 ≡ table → at + 6 + 4 * width ≤ length (now bytes))
+    requires { ⌜ (width ≤ maxWidth) × (at + 6 ≤ length (now bytes))
+        × (fieldAt (now bytes) at 0 ≡ table → at + 6 + 4 * width ≤ length (now bytes))
         × Table (now words) n × (n < foldedRows) × (length (now words) ≡ foldedSize) ⌝ }
     ensures { λ r. ⌜ Stands
-        (cond (eqb (fieldAt (now (bytes .entry)) at 0) table) (actOn (now (bytes .entry)) at width (firstRows (now (words .entry)) n))
+        (cond (eqb (fieldAt (now (bytes .entry)) at 0) table)
+        (actOn (now (bytes .entry)) at width (firstRows (now (words .entry)) n))
         (firstRows (now (words .entry)) n)) (now (words .exit)) r × (r ≤ n + 1) ⌝ }
 {
     if records::field_at(bytes, at, 0) == table {
@@ -77,8 +81,10 @@ fn fold_one(
 
 // The events of a table, in order, on its rows: how many there are afterwards.
 pub fn fold(words: &mut [u32], n: usize, bytes: &[u8], table: usize, width: usize) -> usize
-    requires { ⌜ Foldable (now bytes) table width × Table (now words) n × (n ≤ maxRows) × (length (now words) ≡ foldedSize) ⌝ }
-    ensures { λ r. ⌜ Stands (foldAt (now (bytes .entry)) table width (offsets (now (bytes .entry))) (firstRows (now (words .entry)) n))
+    requires { ⌜ Foldable (now bytes) table width × Table (now words) n × (n ≤ maxRows)
+        × (length (now words) ≡ foldedSize) ⌝ }
+    ensures { λ r. ⌜ Stands (foldAt (now (bytes .entry)) table width (offsets (now (bytes .entry)))
+        (firstRows (now (words .entry)) n))
         (now (words .exit)) r ⌝ }
 {
     let mut count = n;

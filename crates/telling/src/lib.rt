@@ -21,7 +21,8 @@ use stages::Stage;
 // Whether a node has neither gained nor lost rows.
 fn is_unchanged(head: &[u32], node: usize) -> bool
     requires { ⌜ (headWords ≤ length (now head)) × (node < maxNodes) ⌝ }
-    ensures { λ r. ⌜ r ≡ (eqb (gainedCount (now (head .entry)) node) 0 && eqb (lostCount (now (head .entry)) node) 0) ⌝ }
+    ensures { λ r. ⌜ r ≡ (eqb (gainedCount (now (head .entry)) node) 0
+        && eqb (lostCount (now (head .entry)) node) 0) ⌝ }
 {
     if head[GAINED_COUNTS + node] != 0 {
         return false;
@@ -39,9 +40,11 @@ fn node_lines(
     head: &[u32],
     out: &mut [u8],
 ) -> usize
-    requires { ⌜ Opened (now net) (lent (now rows) (now gained) (now lost) (now head)) × (node < maxNodes) × (nodeRoom ≤ length (now out)) ⌝ }
+    requires { ⌜ Opened (now net) (lent (now rows) (now gained) (now lost) (now head)) × (node < maxNodes)
+        × (nodeRoom ≤ length (now out)) ⌝ }
     ensures { λ r. ⌜ Put (nodeLines (readNetwork (now (net .entry)) .network)
-        (stateOf (now (net .entry)) (lent (now (rows .entry)) (now (gained .entry)) (now (lost .entry)) (now (head .entry))) .changes)
+        (stateOf (now (net .entry)) (lent (now (rows .entry)) (now (gained .entry)) (now (lost .entry))
+        (now (head .entry))) .changes)
         node) nodeRoom 0 (now (out .entry)) (now (out .exit)) r ⌝ }
 {
     if is_unchanged(head, node) {
@@ -69,11 +72,13 @@ pub fn tell(
     head: &[u32],
     out: &mut [u8],
 ) -> Said
-    requires { ⌜ Ready (files n b (now net) (now file)) (Tell node next) (lent (now rows) (now gained) (now lost) (now head))
+    requires { ⌜ Ready (files n b (now net) (now file)) (Tell node next)
+        (lent (now rows) (now gained) (now lost) (now head))
         × (nodeRoom ≤ length (now out)) ⌝ }
     ensures { λ r. ⌜ Says (files n b (now (net .entry)) (now (file .entry))) (Tell node next)
         (lent (now (rows .entry)) (now (gained .entry)) (now (lost .entry)) (now (head .entry)))
-        (lent (now (rows .entry)) (now (gained .entry)) (now (lost .entry)) (now (head .entry))) (now (out .entry)) (now (out .exit)) r ⌝ }
+        (lent (now (rows .entry)) (now (gained .entry)) (now (lost .entry)) (now (head .entry))) (now (out .entry))
+        (now (out .exit)) r ⌝ }
 {
     let size = node_lines(net, node, rows, gained, lost, head, out);
     if node + 1 < MAX_NODES {

@@ -78,12 +78,17 @@ pub record Tells (net : Bytes) (node : ℕ) (a : Areas) (out out-after text text
 
 -- what an operation does, by its kind
 abbrev pub Does : Kind → Bytes → Bytes → ℕ → Areas → Areas → Bytes → Bytes → Bytes → Bytes → ℕ → Type 0
-Does Name net part node a after out out-after text text-after r = Writes part text text-after r × (after ≡ a) × (out-after ≡ out)
-Does Network net part node a after out out-after text text-after r = Opens part openWord a after text text-after r × (out-after ≡ out)
-Does Batch net part node a after out out-after text text-after r = Applies net part a after text text-after r × (out-after ≡ out)
-Does Report net part node a after out out-after text text-after r = Tells net node a out out-after text text-after r × (after ≡ a)
+Does Name net part node a after out out-after text text-after r = Writes part text text-after r × (after ≡ a)
+    × (out-after ≡ out)
+Does Network net part node a after out out-after text text-after r = Opens part openWord a after text text-after r
+    × (out-after ≡ out)
+Does Batch net part node a after out out-after text text-after r = Applies net part a after text text-after r
+    × (out-after ≡ out)
+Does Report net part node a after out out-after text text-after r = Tells net node a out out-after text text-after r
+    × (after ≡ a)
 
 -- it is run
-pub record Runs (k : Kind) (net part : Bytes) (node : ℕ) (a after : Areas) (out out-after text text-after : Bytes) (r : ℕ) : Type 0 where
+pub record Runs (k : Kind) (net part : Bytes) (node : ℕ) (a after : Areas) (out out-after text text-after : Bytes)
+    (r : ℕ) : Type 0 where
   pub does : Does k net part node a after out out-after text text-after r
   pub fits : r ≤ length text

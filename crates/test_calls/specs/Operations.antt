@@ -22,7 +22,8 @@ use Rattle.test_calls.specs.declared.Kind.the-variants.{ShortRows, Short
 -- by number; one past the last is a report into few bytes
 abbrev pub kinds : List Kind
 kinds =
-    Small ∷ Name ∷ Network ∷ Word ∷ Open ∷ Check ∷ Report ∷ Values ∷ ShortRows ∷ ShortGained ∷ ShortLost ∷ ShortHead ∷ []
+    Small ∷ Name ∷ Network ∷ Word ∷ Open ∷ Check ∷ Report ∷ Values ∷ ShortRows ∷ ShortGained ∷ ShortLost ∷ ShortHead
+    ∷ []
 
 abbrev pub kindOf : ℕ → Kind
 kindOf number = getD kinds number Small
@@ -105,7 +106,8 @@ outAfter ShortHead op net a out = out
 outAfter Small op net a out = out
 
 -- it is run
-pub record Runs (k : Kind) (op : Operation) (net part : Bytes) (a after : Areas) (out out-after text text-after : Bytes) (r : ℕ) : Type 0 where
+pub record Runs (k : Kind) (op : Operation) (net part : Bytes) (a after : Areas)
+    (out out-after text text-after : Bytes) (r : ℕ) : Type 0 where
   pub wrote : Put (textOf k op net part a out) (length text) 0 text text-after r
   pub areas : after ≡ areasAfter k op net a
   pub bytes : out-after ≡ outAfter k op net a out

@@ -70,7 +70,8 @@ fn store_word(
     head: &mut [u32],
 )
     ensures { λ _. ⌜ lent (now (rows .exit)) (now (gained .exit)) (now (lost .exit)) (now (head .exit))
-        ≡ stored (op .area) (op .index) (op .value) (lent (now (rows .entry)) (now (gained .entry)) (now (lost .entry)) (now (head .entry))) ⌝ }
+        ≡ stored (op .area) (op .index) (op .value)
+        (lent (now (rows .entry)) (now (gained .entry)) (now (lost .entry)) (now (head .entry))) ⌝ }
 {
     let area = op.area;
     match area {

@@ -32,6 +32,7 @@ pub record Opens (net word : Bytes) (a after : Areas) (text text-after : Bytes) 
   pub areas : after ≡ openCall net a .areas
 
 -- a report is made, and the line of its verdict and size is written
-pub record Reports (net word : Bytes) (node : ℕ) (a : Areas) (out out-after text text-after : Bytes) (r : ℕ) : Type 0 where
+pub record Reports (net word : Bytes) (node : ℕ) (a : Areas) (out out-after text text-after : Bytes)
+    (r : ℕ) : Type 0 where
   pub wrote : PutLine (reportLine word (reportCall net node a out)) word 3 0 text text-after r
   pub bytes : out-after ≡ reportCall net node a out .out

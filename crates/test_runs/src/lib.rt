@@ -44,7 +44,8 @@ pub fn check_line(
 ) -> usize
     requires { ⌜ length (now word) + 63 < length (now text) ⌝ }
     ensures { λ r. ⌜ PutLine (checkLine (now (word .entry)) (checkCall (now (net .entry))
-        (lent (now (rows .entry)) (now (gained .entry)) (now (lost .entry)) (now (head .entry))))) (now (word .entry)) 3 0
+        (lent (now (rows .entry)) (now (gained .entry)) (now (lost .entry)) (now (head .entry)))))
+        (now (word .entry)) 3 0
         (now (text .entry)) (now (text .exit)) r ⌝ }
 {
     let v = checking::check(net, rows, gained, lost, head);

@@ -55,7 +55,8 @@ pub record Inside (at size : ℕ) (v : Vector) : Type 0 where
 -- the vectors from an offset on, at most so many
 unfoldable pub vectorsFrom : ℕ → Bytes → ℕ → List Vector
 vectorsFrom zero packed at = []
-vectorsFrom (suc n) packed at = cond (leb (length packed) at) [] (vectorAt packed at ∷ vectorsFrom n packed (vectorAt packed at .next))
+vectorsFrom (suc n) packed at = cond (leb (length packed) at) []
+    (vectorAt packed at ∷ vectorsFrom n packed (vectorAt packed at .next))
 
 -- ---- texts
 

@@ -108,8 +108,10 @@ fn prints(
     head: &mut [u32],
     out: &mut [u8],
 ) -> bool
-    requires { ⌜ (longEnough layout (lent (now rows) (now gained) (now lost) (now head)) ≡ true) × (nodeRoom ≤ length (now out)) ⌝ }
-    ensures { λ r. ⌜ r ≡ sameRow (programOutput (fileOf n (now (net .entry))) (fileOf b (now (file .entry)))) (now (text .entry)) ⌝ }
+    requires { ⌜ (longEnough layout (lent (now rows) (now gained) (now lost) (now head)) ≡ true)
+        × (nodeRoom ≤ length (now out)) ⌝ }
+    ensures { λ r. ⌜ r ≡ sameRow (programOutput (fileOf n (now (net .entry))) (fileOf b (now (file .entry))))
+        (now (text .entry)) ⌝ }
 {
     let end = text.len();
     let mut at = 0;
@@ -136,7 +138,8 @@ fn comes_out(
     head: &mut [u32],
     out: &mut [u8],
 ) -> bool
-    requires { ⌜ (v .from ≤ v .file) × (v .file ≤ v .text) × (v .text ≤ v .next) × (v .next ≤ length (now packed)) × (longEnough layout
+    requires { ⌜ (v .from ≤ v .file) × (v .file ≤ v .text) × (v .text ≤ v .next) × (v .next ≤ length (now packed))
+        × (longEnough layout
         (lent (now rows) (now gained) (now lost) (now head)) ≡ true) × (nodeRoom ≤ length (now out)) ⌝ }
     ensures { λ r. ⌜ r ≡ comesOut (now (packed .entry)) v ⌝ }
 {
@@ -185,7 +188,8 @@ fn run_vectors(
     head: &mut [u32],
     out: &mut [u8],
 ) -> Tally
-    requires { ⌜ (length (now packed) ≤ 409600) × (longEnough layout (lent (now rows) (now gained) (now lost) (now head)) ≡ true)
+    requires { ⌜ (length (now packed) ≤ 409600)
+        × (longEnough layout (lent (now rows) (now gained) (now lost) (now head)) ≡ true)
         × (nodeRoom ≤ length (now out)) ⌝ }
     ensures { λ r. ⌜ Counted (now (packed .entry)) r ⌝ }
 {
@@ -210,7 +214,8 @@ fn run_file(
     head: &mut [u32],
     out: &mut [u8],
 ) -> Tally
-    requires { ⌜ (longEnough layout (lent (now rows) (now gained) (now lost) (now head)) ≡ true) × (nodeRoom ≤ length (now out)) ⌝ }
+    requires { ⌜ (longEnough layout (lent (now rows) (now gained) (now lost) (now head)) ≡ true)
+        × (nodeRoom ≤ length (now out)) ⌝ }
     ensures { λ r. ⌜ (r .good ≤ r .all) × (r .all ≤ 409600) ⌝ }
 {
     let mut packed = [0u8; PACKED];

@@ -45,7 +45,8 @@ over-one done h at x d fits =
     ∙ ap (λ (k : ℕ). done ++ (x ∷ []) ++ drop k h) (let e : suc (length done) ≡ length (done ++ (x ∷ [])) = omega (arith, length-append done (x ∷ [])) in e)
 
 -- all of the head's words
-pub head-written : (h counts stamps gains losses entries h1 h2 h3 h4 h5 : List ℕ) (number k : ℕ) → headWords ≤ length h → length counts ≡ maxNodes → length stamps ≡ maxNodes → length gains ≡ maxNodes →
+pub head-written : (h counts stamps gains losses entries h1 h2 h3 h4 h5 : List ℕ) (number k : ℕ) → headWords ≤ length h → length counts ≡ maxNodes → length stamps ≡ maxNodes → length gains
+    ≡ maxNodes →
     length losses ≡ maxNodes → length entries ≡ maxNodes →
     h1 ≡ paste (set h 0 number) 1 (drop 0 counts) maxNodes → h2 ≡ paste h1 33 (drop 0 stamps) maxNodes → h3 ≡ paste h2 65 (drop 0 gains) maxNodes → h4 ≡ paste h3 97 (drop 0 losses) maxNodes →
     h5 ≡ paste (set h4 129 k) 130 (drop 0 entries) maxNodes →

@@ -122,7 +122,8 @@ module _ (net : Network) (rows gained lost head work counts : List ℕ) (changed
       (gained-fit net rows gained lost head work counts changed o) (longs .1) (parts .1) (w .gained-are) in
       let l : lost′ ≡ over (areaOf layout (lostOf old (o .new))) lost = area-are (lostOf old (o .new)) lost lost′ (lostCount head) (lost-fit net rows gained lost head work counts changed o)
       (longs .2) (parts .2) (w .lost-are) in
-      let list : listTo (net .levels) listed (net .count) (net .count) ≡ workedList (nodesOf net) (netChanges old (o .new)) = worked-are net b fit (netChanges old (o .new)) changed (flag-is net rows gained lost head work counts changed o) listed fl in
+      let list : listTo (net .levels) listed (net .count) (net .count)
+      ≡ workedList (nodesOf net) (netChanges old (o .new)) = worked-are net b fit (netChanges old (o .new)) changed (flag-is net rows gained lost head work counts changed o) listed fl in
       let words : headFrom number counts stamps gains losses k entries
       ≡ headOf (o .new) (advanceRows (nodesOf net) (stateIn layout (nodesOf net) (lent rows gained lost head)) copy old (o .new)) =
       λ j.

@@ -12,4 +12,5 @@ stampsFrom head changed number n = map (λ j. cond (getD changed j false) number
 
 -- the head's words one after the other
 abbrev pub headFrom : ℕ → List ℕ → List ℕ → List ℕ → List ℕ → ℕ → List ℕ → List ℕ
-headFrom number counts stamps gains losses k entries = (number ∷ []) ++ counts ++ stamps ++ gains ++ losses ++ (k ∷ []) ++ entries
+headFrom number counts stamps gains losses k entries =
+    (number ∷ []) ++ counts ++ stamps ++ gains ++ losses ++ (k ∷ []) ++ entries

@@ -55,10 +55,12 @@ fn write_head(
     k: usize,
     entries: &[u32],
 )
-    requires { ⌜ (headWords ≤ length (now head)) × (length (now counts) ≡ maxNodes) × (length (now stamps) ≡ maxNodes) × (length (now gains) ≡ maxNodes)
+    requires { ⌜ (headWords ≤ length (now head)) × (length (now counts) ≡ maxNodes) × (length (now stamps) ≡ maxNodes)
+        × (length (now gains) ≡ maxNodes)
         × (length (now losses) ≡ maxNodes) × (k ≤ maxNodes) × (length (now entries) ≡ maxNodes) ⌝ }
     ensures { λ _. ⌜ now (head .exit)
-        ≡ over (headFrom number (now (counts .entry)) (now (stamps .entry)) (now (gains .entry)) (now (losses .entry)) k (now (entries .entry)))
+        ≡ over (headFrom number (now (counts .entry)) (now (stamps .entry)) (now (gains .entry))
+        (now (losses .entry)) k (now (entries .entry)))
         (now (head .entry)) ⌝ }
 {
     head[0] = number;
@@ -81,15 +83,19 @@ pub fn write_state(
     lost: &mut [u32],
     head: &mut [u32],
 )
-    requires { ⌜ WorkedOut net (now rows) (now gained) (now lost) (now head) (now work) (now counts) (now changed) × AllFit (nodesOf net)
+    requires { ⌜ WorkedOut net (now rows) (now gained) (now lost) (now head) (now work) (now counts) (now changed)
+        × AllFit (nodesOf net)
         × (batchNumber (now head) ≡ 4294967295 → ⊥) ⌝ }
-    ensures { λ _. ⌜ ((o : WorkedOut net (now (rows .entry)) (now (gained .entry)) (now (lost .entry)) (now (head .entry)) (now (work .entry))
+    ensures { λ _. ⌜ ((o : WorkedOut net (now (rows .entry)) (now (gained .entry)) (now (lost .entry))
+        (now (head .entry)) (now (work .entry))
         (now (counts .entry)) (now (changed .entry))) (copy : List Relation) →
         lent (now (rows .exit)) (now (gained .exit)) (now (lost .exit)) (now (head .exit))
         ≡ holdingRows layout (o .new)
         (advanceRows (nodesOf net)
-        (stateIn layout (nodesOf net) (lent (now (rows .entry)) (now (gained .entry)) (now (lost .entry)) (now (head .entry)))) copy
-        (rowsIn layout (nodesOf net) (lent (now (rows .entry)) (now (gained .entry)) (now (lost .entry)) (now (head .entry)))) (o .new))
+        (stateIn layout (nodesOf net) (lent (now (rows .entry)) (now (gained .entry)) (now (lost .entry))
+        (now (head .entry)))) copy
+        (rowsIn layout (nodesOf net) (lent (now (rows .entry)) (now (gained .entry)) (now (lost .entry))
+        (now (head .entry)))) (o .new))
         (lent (now (rows .entry)) (now (gained .entry)) (now (lost .entry)) (now (head .entry)))) ⌝ }
 {
     let number = head[0] + 1;

@@ -10,11 +10,10 @@ use native.Mathlib.Omega.{arith}
 use lib.Dec.{leb}
 use borrow.Author.Tests.{le-leb}
 use Rattle.places.specs.Places.{Place, relationIn, Fills}
-use Rattle.model.specs.Row.{Relation, sameRows, ascending, place, maxNodes, maxRows, maxWidth}
+use Rattle.model.specs.Row.{Relation, sameRows, ascending, place, maxNodes, maxRows, maxWidth, Wide}
 use Rattle.coherence.proofs.Agree.{sizes-differ, places-decide}
 use Rattle.places.proofs.Places.{place-count, place-wide, place-few, place-is}
 use Rattle.words.specs.Runs.{sameFirst}
-use Rattle.rows.specs.Rows.{Wide}
 use Rattle.model.proofs.Sets.{Ascending, and-both, ascending-true, sameRows-eq}
 use Rattle.model.specs.Areas.{goodPlace, placeOf, layout, heldIn, unusedZero, areaSize, placeSize}
 use Rattle.rows.proofs.Checked.{place-length}

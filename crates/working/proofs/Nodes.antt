@@ -15,7 +15,7 @@ use Rattle.working.specs.Worked.{mustWork, WorksNode, nextRows, Puts}
 use Rattle.places.specs.Places.{Place, Fills, relationIn}
 use Rattle.areas.specs.Lent.{placeAt}
 use Rattle.model.specs.Areas.{rowCount, layout, placeOf}
-use Rattle.rows.specs.Rows.{Wide}
+use Rattle.model.specs.Row.{Wide, place, sameRows, Relation}
 use Rattle.places.proofs.Places.{place-wide, place-ascending, place-few, place-is}
 use Rattle.model.proofs.Sets.{Ascending, ascending-holds, sameRows-refl}
 use Rattle.tables.specs.Fold.{foldRows}
@@ -23,10 +23,8 @@ use Rattle.model.specs.Network.{evaluateOn, leftOf, rightOf, widths}
 use Rattle.network.specs.Reading.{slotNode}
 use Rattle.tables.proofs.Acts.{fold-wide, fold-asc}
 use Rattle.coherence.specs.Held.{Derived}
-use Rattle.evaluation.proofs.Inside.{on-wide}
-use Rattle.model.proofs.ByKind.{on-asc}
+use Rattle.model.proofs.ByKind.{on-wide, on-asc}
 use Rattle.rows.proofs.Place.{length-held}
-use Rattle.model.specs.Row.{place, sameRows, Relation}
 use Rattle.working.proofs.Differ.{fills-place}
 
 module _ (slot : Slot) (level : ℕ) (bs : Bytes) (head : List ℕ) (m : Working) (i : ℕ) (can : Workable slot level bs head m i) where

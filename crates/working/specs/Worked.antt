@@ -22,7 +22,8 @@ mustWork slot level changed = eqb level 0 || inputChanged slot changed
 
 -- node i's new rows
 abbrev pub nextRows : Slot → ℕ → Bytes → List ℕ → Working → ℕ → Relation
-nextRows slot level bs head m i = cond (mustWork slot level (m .changed)) (workedRows slot level bs head m i) (oldRows head m i)
+nextRows slot level bs head m i = cond (mustWork slot level (m .changed)) (workedRows slot level bs head m i)
+    (oldRows head m i)
 
 -- node i's new rows are there, with their count, and whether they are others than the old ones
 pub record Worked (head : List ℕ) (m : Working) (new : Relation) (i : ℕ) : Type 0 where

@@ -19,7 +19,8 @@ use places::Made;
 
 // Whether node i, of a level, must be worked: it is a table, or an input changed.
 fn must_work(slot: Slot, level: usize, changed: &[bool]) -> bool
-    requires { ⌜ ((level ≡ 0 → ⊥) → (leftOf (slotNode slot) < length (now changed)) × (rightOf (slotNode slot) < length (now changed))) ⌝ }
+    requires { ⌜ ((level ≡ 0 → ⊥) → (leftOf (slotNode slot) < length (now changed))
+        × (rightOf (slotNode slot) < length (now changed))) ⌝ }
     ensures { λ r. ⌜ r ≡ mustWork slot level (now (changed .entry)) ⌝ }
 {
     if level == 0 {
@@ -52,7 +53,8 @@ fn put_node(
     counts: &mut [u32],
     changed: &mut [bool],
 )
-    requires { ⌜ (i < maxNodes) × (n ≤ maxRows) × (areaSize ≤ length (now rows)) × (length (now out) ≡ placeSize) × (length (now work) ≡ areaSize) × (length (now counts) ≡ maxNodes)
+    requires { ⌜ (i < maxNodes) × (n ≤ maxRows) × (areaSize ≤ length (now rows)) × (length (now out) ≡ placeSize)
+        × (length (now work) ≡ areaSize) × (length (now counts) ≡ maxNodes)
         × (length (now changed) ≡ maxNodes) × (getD (now changed) i false ≡ false) ⌝ }
     ensures { λ _. ⌜ ((w : ℕ) (ws : List ℕ) → Place w (now (out .entry)) n → Place w (placeAt (now (rows .entry)) i) m →
         Puts (relationIn w (placeAt (now (rows .entry)) i) m) (relationIn w (now (out .entry)) n) (now (out .entry)) n
@@ -81,12 +83,16 @@ pub fn work_node(
     counts: &mut [u32],
     changed: &mut [bool],
 ) -> bool
-    requires { ⌜ Workable slot level (now bytes) (now head) (working (now widths) (now rows) (now work) (now counts) (now changed)) i ⌝ }
+    requires { ⌜ Workable slot level (now bytes) (now head)
+        (working (now widths) (now rows) (now work) (now counts) (now changed)) i ⌝ }
     ensures { λ r. ⌜ WorksNode (now (head .entry))
         (nextRows slot level (now (bytes .entry)) (now (head .entry))
-        (working (now (widths .entry)) (now (rows .entry)) (now (work .entry)) (now (counts .entry)) (now (changed .entry))) i)
-        (working (now (widths .entry)) (now (rows .entry)) (now (work .entry)) (now (counts .entry)) (now (changed .entry)))
-        (working (now (widths .entry)) (now (rows .entry)) (now (work .exit)) (now (counts .exit)) (now (changed .exit))) i r ⌝ }
+        (working (now (widths .entry)) (now (rows .entry)) (now (work .entry)) (now (counts .entry))
+        (now (changed .entry))) i)
+        (working (now (widths .entry)) (now (rows .entry)) (now (work .entry)) (now (counts .entry))
+        (now (changed .entry)))
+        (working (now (widths .entry)) (now (rows .entry)) (now (work .exit)) (now (counts .exit))
+        (now (changed .exit))) i r ⌝ }
 {
     let n = head[ROW_COUNTS + i];
     if !must_work(slot, level, changed) {

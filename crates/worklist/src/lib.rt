@@ -31,7 +31,8 @@ pub fn input_changed(slot: Slot, changed: &[bool]) -> bool
 
 // Whether node i is derived and has an input that changed.
 fn is_listed(slot: Slot, level: usize, changed: &[bool]) -> bool
-    requires { ⌜ ((level ≡ 0 → ⊥) → (leftOf (slotNode slot) < length (now changed)) × (rightOf (slotNode slot) < length (now changed))) ⌝ }
+    requires { ⌜ ((level ≡ 0 → ⊥) → (leftOf (slotNode slot) < length (now changed))
+        × (rightOf (slotNode slot) < length (now changed))) ⌝ }
     ensures { λ r. ⌜ r ≡ cond (eqb level 0) false (inputChanged slot (now (changed .entry))) ⌝ }
 {
     if level == 0 {
@@ -65,7 +66,8 @@ fn list_node(
     entries: &mut [u32],
     k: usize,
 ) -> usize
-    requires { ⌜ (i < length (now levels)) × (i < length (now listed)) × (i < maxNodes) × (length (now entries) ≡ maxNodes)
+    requires { ⌜ (i < length (now levels)) × (i < length (now listed)) × (i < maxNodes)
+        × (length (now entries) ≡ maxNodes)
         × (k + length (keepIf (isOfLevel (now levels) (now listed) level i) i []) ≤ maxNodes) ⌝ }
     ensures { λ r. ⌜ (now (entries .exit)
         ≡ sets (now (entries .entry)) k (keepIf (isOfLevel (now (levels .entry)) (now (listed .entry)) level i) i []))
@@ -90,9 +92,11 @@ fn list_level(
     entries: &mut [u32],
     k: usize,
 ) -> usize
-    requires { ⌜ (n ≤ length (now levels)) × (n ≤ length (now listed)) × (n ≤ maxNodes) × (length (now entries) ≡ maxNodes)
+    requires { ⌜ (n ≤ length (now levels)) × (n ≤ length (now listed)) × (n ≤ maxNodes)
+        × (length (now entries) ≡ maxNodes)
         × (k + length (levelList (now levels) (now listed) n level) ≤ maxNodes) ⌝ }
-    ensures { λ r. ⌜ (now (entries .exit) ≡ sets (now (entries .entry)) k (levelList (now (levels .entry)) (now (listed .entry)) n level))
+    ensures { λ r. ⌜ (now (entries .exit)
+        ≡ sets (now (entries .entry)) k (levelList (now (levels .entry)) (now (listed .entry)) n level))
         × (r ≡ k + length (levelList (now (levels .entry)) (now (listed .entry)) n level)) ⌝ }
 {
     let mut end = k;
@@ -106,7 +110,8 @@ fn list_level(
 
 // The listed nodes by level, then number, put in an array of zeros: how many.
 pub fn list_worked(levels: &[usize], listed: &[bool], n: usize, entries: &mut [u32]) -> usize
-    requires { ⌜ (n ≤ length (now levels)) × (n ≤ length (now listed)) × (n ≤ maxNodes) × (now entries ≡ replicate maxNodes 0) ⌝ }
+    requires { ⌜ (n ≤ length (now levels)) × (n ≤ length (now listed)) × (n ≤ maxNodes)
+        × (now entries ≡ replicate maxNodes 0) ⌝ }
     ensures { λ r. ⌜ (now (entries .exit) ≡ padded maxNodes (listTo (now (levels .entry)) (now (listed .entry)) n n))
         × (r ≡ length (listTo (now (levels .entry)) (now (listed .entry)) n n)) × (r ≤ maxNodes) ⌝ }
 {

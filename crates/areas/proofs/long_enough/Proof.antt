@@ -12,7 +12,8 @@ use Rattle.areas.proofs.long_enough.Lts as lts
 
 returns : tie.Need-returns
 unfolding longEnough
-returns c = let a = c .before .args in long-first (leb areaSize (length (a .rows .now))) (leb areaSize (length (a .gained .now))) (leb areaSize (length (a .lost .now))) (leb headWords (length (a .head .now)))
+returns c = let a = c .before .args in long-first (leb areaSize (length (a .rows .now))) (leb areaSize (length (a .gained .now))) (leb areaSize (length (a .lost .now)))
+    (leb headWords (length (a .head .now)))
     (lt-leb areaSize (length (a .rows .now)) (c .if1 .taken))
 
 returns-2 : tie.Need-returns-2

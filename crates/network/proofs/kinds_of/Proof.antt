@@ -52,7 +52,8 @@ loop-again c =
       kinds-more s (c .before .before .before .loop .i) (c .parts-of .result .kind) (c .before .before .before .loop .kinds)
           (omega (arith, c .before .before .before .before .pre .sound .few, c .before .before .before .before .pre .slots-length))
           (omega (arith, c .before .before .before .before .pre .sound .few)) (c .before .before .before .loop .inv .2)
-          (c .parts-of .ensures .kind (take (listsOf (getD s (c .before .before .before .loop .i) noSlot .node) .columns) (getD s (c .before .before .before .loop .i) noSlot .columns)) (pairsOf (listsOf (getD s (c .before .before .before .loop .i) noSlot .node) .pairs) (getD s (c .before .before .before .loop .i) noSlot .pairs))),
+          (c .parts-of .ensures .kind (take (listsOf (getD s (c .before .before .before .loop .i) noSlot .node) .columns) (getD s (c .before .before .before .loop .i) noSlot .columns))
+          (pairsOf (listsOf (getD s (c .before .before .before .loop .i) noSlot .node) .pairs) (getD s (c .before .before .before .loop .i) noSlot .pairs))),
     )
 
 returns : tie.Need-returns Inv-loop μ-loop

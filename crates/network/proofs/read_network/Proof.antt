@@ -105,7 +105,11 @@ width-of-requires c κs = let a =
     (c .before .before .before .before .before .before .before .before .before .before .before .before .before .before .before .before .before .before .loop .at)
     (c .before .before .before .before .before .before .before .before .before .before .before .before .before .before .before .before .before .before .loop .inv .built) fits room in let g =
     rw (c .before .before .before .before .before .item .given .1) at f in let b =
-    c .before .before .before .before .before .before .before .before .before .before .before .before .before .before .before .before .before .before .loop .inv .built in fits-inputs (c .before .before .before .before .before .before .before .before .before .before .before .before .before .before .before .before .before .before .loop .net) (c .before .before .before .before .before .item .given .0 .0) (a .bytes .now) (c .before .before .before .before .before .before .before .before .before .before .before .before .before .before .before .before .before .before .loop .at) b (g .1) _ (rw (b .widths-length) (omega (arith, g .0)))
+    c .before .before .before .before .before .before .before .before .before .before .before .before .before .before .before .before .before .before .loop .inv .built in fits-inputs
+    (c .before .before .before .before .before .before .before .before .before .before .before .before .before .before .before .before .before .before .loop .net)
+    (c .before .before .before .before .before .item .given .0 .0) (a .bytes .now)
+    (c .before .before .before .before .before .before .before .before .before .before .before .before .before .before .before .before .before .before .loop .at) b (g .1) _
+    (rw (b .widths-length) (omega (arith, g .0)))
 
 level-of-requires : tie.Need-level-of-requires Inv-loop μ-loop
 level-of-requires c κs = let a =
@@ -122,7 +126,10 @@ level-of-requires c κs = let a =
     .loop .inv .built) fits room in let g = rw (c .before .before .before .before .before .before .before .before .before .item .given .1) at f in let b =
     c .before .before .before .before .before .before .before .before .before .before .before .before .before .before .before .before .before .before .before .before .before .before .loop
     .inv .built in (
-      fits-inputs (c .before .before .before .before .before .before .before .before .before .before .before .before .before .before .before .before .before .before .before .before .before .before .loop .net) (c .before .before .before .before .before .before .before .before .before .item .given .0 .0) (a .bytes .now) (c .before .before .before .before .before .before .before .before .before .before .before .before .before .before .before .before .before .before .before .before .before .before .loop .at) b (g .1) _ (rw (b .levels-length) (omega (arith, g .0))),
+      fits-inputs (c .before .before .before .before .before .before .before .before .before .before .before .before .before .before .before .before .before .before .before .before .before
+          .before .loop .net) (c .before .before .before .before .before .before .before .before .before .item .given .0 .0) (a .bytes .now)
+          (c .before .before .before .before .before .before .before .before .before .before .before .before .before .before .before .before .before .before .before .before .before .before
+          .loop .at) b (g .1) _ (rw (b .levels-length) (omega (arith, g .0))),
       b .low,
       rw (b .levels-length) (omega arith),
     )
@@ -295,8 +302,10 @@ loop-again c = let a =
     .before .before .loop .net) (c .before .before .before .before .before .before .before .before .slot-at .result) (c .before .before .before .before .width-of .result)
     (c .level-of .result)
     (next-slot (c .before .before .before .before .before .before .before .before .before .before .before .before .before .before .before .before .before .before .before .before .before
-    .before .before .loop .net) (c .before .before .before .before .before .before .before .before .before .before .item .given .0 .0) (a .bytes .now) (c .before .before .before .before .before .before .before .before .before .before .before .before .before .before .before .before .before .before .before .before .before .before .before
-    .loop .at) b (g .1) (c .before .before .before .before .before .before .before .before .slot-at .result) (c .before .before .before .before .width-of .result) (c .level-of .result) (g .0) (c .before .before .before .before .before .before .before .before .slot-at .ensures .0) (c .before .before .before .before .before .before .before .before .slot-at .ensures .1)
+    .before .before .loop .net) (c .before .before .before .before .before .before .before .before .before .before .item .given .0 .0) (a .bytes .now)
+    (c .before .before .before .before .before .before .before .before .before .before .before .before .before .before .before .before .before .before .before .before .before .before .before
+    .loop .at) b (g .1) (c .before .before .before .before .before .before .before .before .slot-at .result) (c .before .before .before .before .width-of .result) (c .level-of .result)
+    (g .0) (c .before .before .before .before .before .before .before .before .slot-at .ensures .0) (c .before .before .before .before .before .before .before .before .slot-at .ensures .1)
     (c .before .before .before .before .width-of .ensures) (c .level-of .ensures))))))
     (ap (λ (n : ℕ). c .before .before .before .before .before .before .before .before .before .before .before .before .before .before .before .before .before .before .before .before .before
     .before .before .loop .at + n) (c .before .before .before .before .before .before .before .before .before .before .before .before .u16-at .ensures .is))

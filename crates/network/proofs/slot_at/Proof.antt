@@ -29,7 +29,8 @@ returns c =
     let s = c .before .before .before .before .before .before .before in
     let a = s .args in
     let e = c .before .before .before .before .before .parts-of .ensures .lists in
-    slot-is (a .node) (a .bytes .now) (a .at) (c .columns-of .result) (c .before .before .before .pairs-of .result) (s .pre) (rw e at (c .columns-of .ensures)) (rw e at (c .before .before .before .pairs-of .ensures))
+    slot-is (a .node) (a .bytes .now) (a .at) (c .columns-of .result) (c .before .before .before .pairs-of .result) (s .pre) (rw e at (c .columns-of .ensures))
+    (rw e at (c .before .before .before .pairs-of .ensures))
 
 pub slot-at-spec : {M : Type 1} → statement M
 slot-at-spec =

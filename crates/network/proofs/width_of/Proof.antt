@@ -17,7 +17,8 @@ shared-slice-read-result : tie.Need-shared-slice-read-result
 shared-slice-read-result c = let p = c .before .before .before .before .before .before .pre in omega (arith, c .before .before .before .before .parts-of .ensures .left (p .0) (p .1), p .2)
 
 returns : tie.Need-returns
-returns c = let a = c .before .before .before .before .before .before .args in width-first (a .node) (c .before .before .before .before .parts-of .result) (c .before .before .before .before .parts-of .ensures) (a .widths .now) (c .before .before .if1 .taken)
+returns c = let a = c .before .before .before .before .before .before .args in width-first (a .node) (c .before .before .before .before .parts-of .result)
+    (c .before .before .before .before .parts-of .ensures) (a .widths .now) (c .before .before .if1 .taken)
 
 returns-2 : tie.Need-returns-2
 returns-2 c = let a = c .before .before .before .before .args in width-own (a .node) (c .before .before .parts-of .result) (c .before .before .parts-of .ensures) (a .widths .now) (c .if1 .left)

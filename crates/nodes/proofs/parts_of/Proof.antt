@@ -119,7 +119,15 @@ returns-2 : tie.Need-returns-2
 returns-2 c =
     let g = c .before .before .before .before .before .before .node2 .given in
     rw (g .1, c .made2 .ensures, c .before .listed2 .ensures, c .before .before .wide2 .ensures, c .before .before .before .uses2 .ensures, c .before .before .before .before .select-kind .ensures)
-    (record { lists = refl; kind = λ columns pairs. select-same (g .0 .1 .1 .1 .0) (g .0 .0) (g .0 .1 .0) (g .0 .1 .1 .0); derived = λ columns pairs. refl; left = λ columns pairs. refl; right = λ columns pairs. refl; width = λ columns pairs v e. refl })
+    (record {
+      lists = refl;
+      kind = λ columns pairs. select-same (g .0 .1 .1 .1 .0) (g .0 .0) (g .0 .1 .0)
+          (g .0 .1 .1 .0);
+      derived = λ columns pairs. refl;
+      left = λ columns pairs. refl;
+      right = λ columns pairs. refl;
+      width = λ columns pairs v e. refl;
+    })
 
 returns-3 : tie.Need-returns-3
 returns-3 c =
@@ -137,7 +145,15 @@ returns-5 : tie.Need-returns-5
 returns-5 c =
     let g = c .before .before .before .before .before .before .node5 .given in
     rw (g .1, c .made5 .ensures, c .before .listed5 .ensures, c .before .before .wide5 .ensures, c .before .before .before .uses5 .ensures, c .before .before .before .before .set-kind .ensures)
-    (record { lists = refl; kind = λ columns pairs. set-same (g .0 .0) (g .0 .1 .0) (g .0 .1 .1 .0); derived = λ columns pairs. refl; left = λ columns pairs. refl; right = λ columns pairs. refl; width = λ columns pairs v e. refl })
+    (record {
+      lists = refl;
+      kind = λ columns pairs. set-same (g .0 .0) (g .0 .1 .0)
+          (g .0 .1 .1 .0);
+      derived = λ columns pairs. refl;
+      left = λ columns pairs. refl;
+      right = λ columns pairs. refl;
+      width = λ columns pairs v e. refl;
+    })
 
 pub parts-of-spec : {M : Type 1} → statement M
 parts-of-spec =
