@@ -16,6 +16,7 @@ use Rattle.model.proofs.Sets.{and-first, and-second, and-both}
 use Rattle.rows.specs.Rows.{rowAt, rowsFrom, words}
 use Rattle.rows.proofs.Words.{length-fields, words-append, words-rows, words-zeros, length-words, rows-words, rows-part}
 use Rattle.rows.proofs.Search.{row-at}
+use Rattle.model.proofs.Widths.{wide-append}
 
 -- ---- every number below another
 
