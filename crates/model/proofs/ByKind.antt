@@ -10,7 +10,7 @@ use borrow.Author.Tests.{eqb-true, leb-true}
 use Rattle.model.specs.Row.{Row, Relation, Wide, keep, member, maxWidth}
 use Rattle.model.specs.Algebra.{Pair, agree, columnsOf, joinOne, passes, selectRows, projectRows, joinRows, unionRows, differenceRows, intersectRows, column, constant, Operand}
 use Rattle.model.specs.Record.{Bytes, fieldAt, fieldsAt, lengthAt}
-use Rattle.model.specs.Network.{Item, Kind, Node, difference, hasShape, intersection, itemAt, itemFits, join, joinShape, kindOf, kinds, noKind, nodeFits, nodeItem, project}
+use Rattle.model.specs.Network.{maxPairs, Item, Kind, Node, difference, hasShape, intersection, itemAt, itemFits, join, joinShape, kindOf, kinds, noKind, nodeFits, nodeItem, project}
 use Rattle.model.specs.Network.{isTable, widthOn, projectShape, select, setOperation, table, union, watchItem, widthOf, within, fitsOn, SetOperation, evaluateOn, evaluateSet}
 use Rattle.model.proofs.Sets.{Ascending, and-first, and-second}
 use Rattle.model.proofs.Widths.{wide-keep, wide-append, wide-setOf, wide-each, wide-map}
@@ -28,7 +28,7 @@ kind-most (setOperation union l r) = omega arith
 kind-most (setOperation difference l r) = omega arith
 kind-most (setOperation intersection l r) = omega arith
 
--- ---- what a record of a kind brings is at most 4 fields wide, if the nodes before it are
+-- ---- what a record of a kind brings is no wider than the largest width, if the nodes before it are
 
 -- the width of the node that an item brings, 0 if it brings a watch
 abbrev pub widthIs : Item → List ℕ → ℕ
@@ -38,7 +38,7 @@ widthIs (watchItem w) ws = 0
 -- so it is of a kind
 abbrev BringsNarrow : Kind → Type 0
 BringsNarrow kind =
-    (ws signs : List ℕ) (bs : Bytes) (at : ℕ) → kind .shape bs at ≡ true → itemFits ws signs (kind .item bs at) ≡ true → ((i : ℕ) → getD ws i 0 ≤ 4) → widthIs (kind .item bs at) ws ≤ 4
+    (ws signs : List ℕ) (bs : Bytes) (at : ℕ) → kind .shape bs at ≡ true → itemFits ws signs (kind .item bs at) ≡ true → ((i : ℕ) → getD ws i 0 ≤ maxWidth) → widthIs (kind .item bs at) ws ≤ maxWidth
 
 -- so it is of each kind of a list
 abbrev AllNarrow : List Kind → Type 0
@@ -57,33 +57,33 @@ length-fields-at : (bs : Bytes) (at k n : ℕ) → length (fieldsAt bs at k n) �
 length-fields-at bs at k zero = refl
 length-fields-at bs at k (suc n) = ap suc (length-fields-at bs at (suc k) n)
 
-project-four : (bs : Bytes) (at : ℕ) → projectShape bs at ≡ true → fieldAt bs at 1 ≤ 4
+project-narrow : (bs : Bytes) (at : ℕ) → projectShape bs at ≡ true → fieldAt bs at 1 ≤ maxWidth
 unfolding projectShape
-project-four bs at e =
+project-narrow bs at e =
     let f : (leb 8 (lengthAt bs at) && within 1 maxWidth (fieldAt bs at 1)) ≡ true = and-first (leb 8 (lengthAt bs at) && within 1 maxWidth (fieldAt bs at 1))
     (eqb (lengthAt bs at) (8 + 2 * fieldAt bs at 1)) e in
-    leb-true (fieldAt bs at 1) 4 (and-second (leb 1 (fieldAt bs at 1)) (leb (fieldAt bs at 1) maxWidth) (and-second (leb 8 (lengthAt bs at)) (within 1 maxWidth (fieldAt bs at 1)) f))
+    leb-true (fieldAt bs at 1) maxWidth (and-second (leb 1 (fieldAt bs at 1)) (leb (fieldAt bs at 1) maxWidth) (and-second (leb 8 (lengthAt bs at)) (within 1 maxWidth (fieldAt bs at 1)) f))
 
-join-four : (bs : Bytes) (at : ℕ) → joinShape bs at ≡ true → fieldAt bs at (3 + 2 * fieldAt bs at 2) ≤ 4
+join-narrow : (bs : Bytes) (at : ℕ) → joinShape bs at ≡ true → fieldAt bs at (3 + 2 * fieldAt bs at 2) ≤ maxWidth
 unfolding joinShape
-join-four bs at e =
+join-narrow bs at e =
     let c : ℕ = fieldAt bs at (3 + 2 * fieldAt bs at 2) in
-    let front : Bool = leb 10 (lengthAt bs at) && leb (fieldAt bs at 2) 2 && leb (12 + 4 * fieldAt bs at 2) (lengthAt bs at) in
+    let front : Bool = leb 10 (lengthAt bs at) && leb (fieldAt bs at 2) maxPairs && leb (12 + 4 * fieldAt bs at 2) (lengthAt bs at) in
     let f : (front && within 1 maxWidth c) ≡ true = and-first (front && within 1 maxWidth c) (eqb (lengthAt bs at) (12 + 4 * fieldAt bs at 2 + 2 * c)) e in
-    leb-true c 4 (and-second (leb 1 c) (leb c maxWidth) (and-second front (within 1 maxWidth c) f))
+    leb-true c maxWidth (and-second (leb 1 c) (leb c maxWidth) (and-second front (within 1 maxWidth c) f))
 
 kinds-narrow : AllNarrow kinds
 unfolding itemFits nodeFits fitsOn
 kinds-narrow = (
-  λ ws signs bs at h f narrow. leb-true (fieldAt bs at 0) 4 (and-second (leb 1 (fieldAt bs at 0)) (leb (fieldAt bs at 0) maxWidth) f),
+  λ ws signs bs at h f narrow. leb-true (fieldAt bs at 0) maxWidth (and-second (leb 1 (fieldAt bs at 0)) (leb (fieldAt bs at 0) maxWidth) f),
   (
     λ ws signs bs at h f narrow. narrow (fieldAt bs at 0),
     (
       λ ws signs bs at h f narrow. narrow (fieldAt bs at 0),
       (
-        λ ws signs bs at h f narrow. rw (length-fields-at bs at 2 (fieldAt bs at 1)) (project-four bs at h),
+        λ ws signs bs at h f narrow. rw (length-fields-at bs at 2 (fieldAt bs at 1)) (project-narrow bs at h),
         (
-          λ ws signs bs at h f narrow. rw (length-fields-at bs at (4 + 2 * fieldAt bs at 2) (fieldAt bs at (3 + 2 * fieldAt bs at 2))) (join-four bs at h),
+          λ ws signs bs at h f narrow. rw (length-fields-at bs at (4 + 2 * fieldAt bs at 2) (fieldAt bs at (3 + 2 * fieldAt bs at 2))) (join-narrow bs at h),
           (
             λ ws signs bs at h f narrow. narrow (fieldAt bs at 0),
             (
@@ -104,8 +104,8 @@ kinds-narrow = (
 )
 
 -- so it is of the kind of any number
-pub item-narrow : (k : ℕ) (ws signs : List ℕ) (bs : Bytes) (at : ℕ) → hasShape k bs at ≡ true → itemFits ws signs (itemAt k bs at) ≡ true → ((i : ℕ) → getD ws i 0 ≤ 4) →
-    widthIs (itemAt k bs at) ws ≤ 4
+pub item-narrow : (k : ℕ) (ws signs : List ℕ) (bs : Bytes) (at : ℕ) → hasShape k bs at ≡ true → itemFits ws signs (itemAt k bs at) ≡ true → ((i : ℕ) → getD ws i 0 ≤ maxWidth) →
+    widthIs (itemAt k bs at) ws ≤ maxWidth
 unfolding hasShape itemAt
 item-narrow k = narrow-in (noKind ∷ kinds) k (no-kind-narrow, kinds-narrow)
 

@@ -14,7 +14,7 @@ use Rattle.model.specs.Network.{readRecords, recordFault, refusedReading
 use Rattle.model.specs.Record.{Bytes, firstBroken, isBroken, kindAt, offsets, rule, accepted}
 use Rattle.model.proofs.Build.{build-more, length-build}
 use Rattle.model.proofs.ByKind.{item-narrow, widthIs}
-use Rattle.model.specs.Row.{isEmpty, maxNodes}
+use Rattle.model.specs.Row.{maxWidth, isEmpty, maxNodes}
 
 -- rule 7 of a record that breaks none
 last-holds : (a b c d e : Bool) → firstBroken (rule 3 a ∷ rule 4 b ∷ rule 5 c ∷ rule 6 d ∷ rule 7 (not e) ∷ []) ≡ 0 → e ≡ true
@@ -125,12 +125,12 @@ read-accepted bs z = go (isEmpty bs) z
     go true y = absurd (omega arith)
     go false y = records-accepted bs noNetwork (offsets bs) y
 
--- ---- at most 32 nodes, and no width above 4
+-- ---- no more nodes and no greater width than the largest
 
 -- what holds of the nodes of a network
 pub record Small (nodes : List Node) : Type 0 where
-  pub few : length nodes ≤ 32
-  pub narrow : (i : ℕ) → getD (widths nodes) i 0 ≤ 4
+  pub few : length nodes ≤ maxNodes
+  pub narrow : (i : ℕ) → getD (widths nodes) i 0 ≤ maxWidth
 
 -- rules 5 and 6 of a record that breaks none
 rules-hold : (a b c d e : Bool) → firstBroken (rule 3 a ∷ rule 4 b ∷ rule 5 c ∷ rule 6 (not d) ∷ rule 7 e ∷ []) ≡ 0 → (c ≡ false) × (d ≡ true)
@@ -148,7 +148,7 @@ fault-shape ws signs bs at e =
     rules-hold (isBroken bs at) (isUnknown kind) (isNode (itemAt kind bs at) && leb maxNodes (length ws)) (hasShape kind bs at) (not (itemFits ws signs (itemAt kind bs at))) e
 
 -- a watch comes at any time, a node after fewer than 32
-pub item-room : (item : Item) (ws : List ℕ) → (isNode item && leb maxNodes (length ws)) ≡ false → (n : Node) → item ≡ nodeItem n → length ws < 32
+pub item-room : (item : Item) (ws : List ℕ) → (isNode item && leb maxNodes (length ws)) ≡ false → (n : Node) → item ≡ nodeItem n → length ws < maxNodes
 item-room (nodeItem m) ws e n f = leb-false 32 (length ws) e
 item-room (watchItem w) ws e n f = let z : _≡_ {A = ℕ} 0 1 = cc in absurd (omega arith)
 
@@ -159,10 +159,10 @@ most-more [] x m f g (suc k) = zero-le
 most-more (y ∷ l) x m f g zero = f 0
 most-more (y ∷ l) x m f g (suc k) = most-more l x m (λ j. f (suc j)) g k
 
-widths-narrow : (nodes : List Node) (n : Node) → ((i : ℕ) → getD (widths nodes) i 0 ≤ 4) → widthOf n (widths nodes) ≤ 4 → (i : ℕ) → getD (widths (nodes ++ (n ∷ []))) i 0 ≤ 4
-widths-narrow nodes n h g i = rw (widths-more nodes n) (most-more (widths nodes) (widthOf n (widths nodes)) 4 h g i)
+widths-narrow : (nodes : List Node) (n : Node) → ((i : ℕ) → getD (widths nodes) i 0 ≤ maxWidth) → widthOf n (widths nodes) ≤ maxWidth → (i : ℕ) → getD (widths (nodes ++ (n ∷ []))) i 0 ≤ maxWidth
+widths-narrow nodes n h g i = rw (widths-more nodes n) (most-more (widths nodes) (widthOf n (widths nodes)) maxWidth h g i)
 
-small-more : (net : Network) (item : Item) → Small (net .nodes) → ((n : Node) → item ≡ nodeItem n → length (widths (net .nodes)) < 32) → widthIs item (widths (net .nodes)) ≤ 4 →
+small-more : (net : Network) (item : Item) → Small (net .nodes) → ((n : Node) → item ≡ nodeItem n → length (widths (net .nodes)) < maxNodes) → widthIs item (widths (net .nodes)) ≤ maxWidth →
     Small (withItem net item .nodes)
 small-more net (nodeItem n) s room w =
     record { few = omega (arith, length-append (net .nodes) (n ∷ []), room n refl, length-widths (net .nodes)); narrow = widths-narrow (net .nodes) n (s .narrow) w }
@@ -191,7 +191,7 @@ records-small bs net (at ∷ rest) s =
         (item-narrow (kindAt bs at) (widths (net .nodes)) (net .signs) bs at (shape .1) (fault-fits (widths (net .nodes)) (net .signs) bs at none) (s .narrow)))
     go false e ih = no-nodes
 
--- a network that is read has at most 32 nodes, of at most 4 columns
+-- so are the nodes of a network that is read
 pub read-small : (bs : Bytes) → Small (readNetwork bs .network .nodes)
 unfolding readNetwork
 read-small bs = go (isEmpty bs)
