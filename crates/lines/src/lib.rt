@@ -45,7 +45,7 @@ fn put_number(out: &mut [u8], at: usize, x: usize) -> usize
 }
 
 // Some bytes from an offset on: where the bytes after them begin.
-pub fn put_bytes(out: &mut [u8], at: usize, text: &[u8]) -> usize
+fn put_bytes(out: &mut [u8], at: usize, text: &[u8]) -> usize
     requires { ⌜ at + length (now text) ≤ length (now out) ⌝ }
     ensures { λ r. ⌜ (now (out .exit) ≡ sets (now (out .entry)) at (now (text .entry)))
         × (r ≡ at + length (now (text .entry))) ⌝ }

@@ -5,8 +5,7 @@ use mathlib.Core.List.{[], _∷_, _++_, append-nil}
 use Prim.Native.Nat.{ℕ, _+_, _≤_}
 use native.Mathlib.Omega.{arith}
 use lib.Dec.{leb}
-use lib.ListN.{length, length-append, List·getD-eq-default}
-use lib.Seq.{sets}
+use lib.ListN.{drop, length, length-append, List·getD-eq-default, take}
 use borrow.Author.Tests.{leb-false, leb-true}
 use mir.Val.{boolByte}
 use Rattle.model.specs.Record.{Bytes}
@@ -20,7 +19,7 @@ use Rattle.checking.specs.Answer.{checkAnswerOf}
 use Rattle.checking.specs.declared.CheckAnswer.{CheckAnswer}
 use Rattle.station_lines.specs.Lines.{Put}
 use Rattle.test_runs.specs.Lines.{Opens, PutLine, Reports, reportLine}
-use Rattle.test_runs.proofs.Told.{bit-is}
+use Rattle.test_runs.proofs.Told.{bit-is, copied}
 use Rattle.test_batches.specs.declared.Kind.{Kind}
 use Rattle.test_batches.specs.declared.Kind.the-variants.{Name, Network, Batch, Report}
 use Rattle.test_batches.specs.Operations.{Applies, Runs, Tells, Writes, applyWord, bytesWord, headWord, kindOf, kinds, openWord, reportWord}
@@ -62,9 +61,9 @@ told net node a out {after = after} {text = text} {shown = shown} {r = r} room f
 -- ---- operations
 
 module _ (net part : Bytes) (node : ℕ) (a : Areas) (out text : Bytes) (room : length text ≡ 65536) where
-  pub ran-name : {k : Kind} {shown : Bytes} {r : ℕ} → k ≡ Name → shown ≡ sets text 0 part → r ≡ 0 + length part → length part ≤ 65536 →
+  pub ran-name : {k : Kind} {shown : Bytes} {r : ℕ} → k ≡ Name → r ≡ length part → shown ≡ take (length part) part ++ drop (length part) text → length part ≤ 65536 →
       Runs k net part node a a out out text shown r
-  ran-name e b n h = rw e (record { does = (record { bytes = b; next = n; short = omega arith }, refl, refl); fits = omega arith })
+  ran-name e n b h = rw e (record { does = (record { bytes = copied text part b (omega arith); next = omega (arith, n); short = omega arith }, refl, refl); fits = omega arith })
 
   pub ran-network : {k : Kind} {after : Areas} {shown : Bytes} {r : ℕ} → k ≡ Network → Opens part openWord a after text shown r → Runs k net part node a after out out text shown r
   ran-network e o = rw e (record { does = (o, refl); fits = omega (arith, o .wrote .short) })

@@ -100,7 +100,7 @@ fn run(
 {
     let node = op.index;
     match kind_of(op.kind) {
-        Kind::Name => lines::put_bytes(text, 0, part),
+        Kind::Name => bytes::copy(part, text),
         Kind::Network => test_runs::open_line(part, rows, gained, lost, head, b" open", text),
         Kind::Batch => apply_lines(net, part, rows, gained, lost, head, text),
         Kind::Report => report_lines(net, node, rows, gained, lost, head, out, text),

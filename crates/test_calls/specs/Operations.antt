@@ -4,7 +4,7 @@ use mathlib.Core.Bool.{cond}
 use mathlib.Core.List.{List, [], _∷_}
 use Prim.Native.Nat.{ℕ, _-_}
 use lib.Dec.{eqb}
-use lib.ListN.{getD, length, replicate, set}
+use lib.ListN.{length, replicate, set}
 use Rattle.model.specs.Record.{Bytes}
 use Rattle.model.specs.Areas.{Areas, headWords}
 use Rattle.model.specs.Calls.{openCall, checkCall, reportCall}
@@ -13,20 +13,39 @@ use Rattle.areas.specs.Lent.{lent}
 use Rattle.station_lines.specs.Lines.{Put}
 use Rattle.test_script.specs.declared.Operation.{Operation}
 use Rattle.test_runs.specs.Lines.{verdictLine, checkLine, reportLine}
-use Rattle.test_calls.specs.declared.Kind.{Kind}
-use Rattle.test_calls.specs.declared.Kind.the-variants.{Name, Network, Word, Open, Check, Report, Values}
-use Rattle.test_calls.specs.declared.Kind.the-variants.{ShortRows, ShortGained, ShortLost, ShortHead, Small}
 
 -- ---- kinds
 
--- by number; one past the last is a report into few bytes
-abbrev pub kinds : List Kind
-kinds =
-    Small ∷ Name ∷ Network ∷ Word ∷ Open ∷ Check ∷ Report ∷ Values ∷ ShortRows ∷ ShortGained ∷ ShortLost ∷ ShortHead
-    ∷ []
+-- what is too short: an area, or the bytes for a report
+pub data Short : Type 0 where
+  Rows : Short
+  Gained : Short
+  Lost : Short
+  Head : Short
+  Few : Short
+
+-- text to print, the network, a word of an area, the calls, the bytes of the last report, a call with something too short
+pub data Kind : Type 0 where
+  Name : Kind
+  Network : Kind
+  Word : Kind
+  Open : Kind
+  Check : Kind
+  Report : Kind
+  Values : Kind
+  TooShort : Short → Kind
+
+-- by number; any other is a report into few bytes
+abbrev pub shortOf : ℕ → Short
+shortOf n = cond (eqb n 8) Rows (cond (eqb n 9) Gained (cond (eqb n 10) Lost (cond (eqb n 11) Head Few)))
 
 abbrev pub kindOf : ℕ → Kind
-kindOf number = getD kinds number Small
+kindOf n =
+    cond (eqb n 1) Name
+    (cond (eqb n 2) Network
+    (cond (eqb n 3) Word
+    (cond (eqb n 4) Open (cond (eqb n 5) Check
+    (cond (eqb n 6) Report (cond (eqb n 7) Values (TooShort (shortOf n))))))))
 
 -- ---- the areas
 
@@ -54,6 +73,39 @@ stored area i v a =
     (cond (eqb area 1) (withGained (set (a .gained) i v) a)
     (cond (eqb area 2) (withLost (set (a .lost) i v) a) (withHead (set (a .head) i v) a)))
 
+-- ---- a call with something too short, with the node, the network, the areas and a report's bytes
+
+-- what it prints
+abbrev pub shortText : Short → ℕ → Bytes → Areas → Bytes → Bytes
+shortText Rows node net a out = verdictLine [] (openCall net (withRows short a) .verdict)
+shortText Gained node net a out = checkLine [] (checkCall net (withGained short a))
+shortText Lost node net a out = reportLine [] (reportCall net node (withLost short a) out)
+shortText Head node net a out = verdictLine [] (openCall net (withHead short a) .verdict)
+shortText Few node net a out = reportLine [] (reportCall net node a (replicate 29 0))
+
+-- the areas after it: those of opening, but for the one that was too short
+abbrev pub shortAreas : Short → Bytes → Areas → Areas
+shortAreas Rows net a = withRows (a .rows) (openCall net (withRows short a) .areas)
+shortAreas Gained net a = a
+shortAreas Lost net a = a
+shortAreas Head net a = withHead (a .head) (openCall net (withHead short a) .areas)
+shortAreas Few net a = a
+
+-- the report's bytes after it
+abbrev pub shortOut : Short → ℕ → Bytes → Areas → Bytes → Bytes
+shortOut Rows node net a out = out
+shortOut Gained node net a out = out
+shortOut Lost node net a out = reportCall net node (withLost short a) out .out
+shortOut Head node net a out = out
+shortOut Few node net a out = out
+
+-- it is run
+pub record RunsShort (s : Short) (node : ℕ) (net : Bytes) (a after : Areas) (out out-after text text-after : Bytes)
+    (r : ℕ) : Type 0 where
+  pub wrote : Put (shortText s node net a out) (length text) 0 text text-after r
+  pub areas : after ≡ shortAreas s net a
+  pub bytes : out-after ≡ shortOut s node net a out
+
 -- ---- an operation, with the network, its own text, the areas and a report's bytes
 
 -- "bytes"
@@ -69,13 +121,9 @@ textOf Open op net part a out = verdictLine [] (openCall net a .verdict)
 textOf Check op net part a out = checkLine [] (checkCall net a)
 textOf Report op net part a out = reportLine [] (reportCall net (op .index) a out)
 textOf Values op net part a out = line bytesWord out
-textOf ShortRows op net part a out = verdictLine [] (openCall net (withRows short a) .verdict)
-textOf ShortGained op net part a out = checkLine [] (checkCall net (withGained short a))
-textOf ShortLost op net part a out = reportLine [] (reportCall net (op .index) (withLost short a) out)
-textOf ShortHead op net part a out = verdictLine [] (openCall net (withHead short a) .verdict)
-textOf Small op net part a out = reportLine [] (reportCall net (op .index) a (replicate 29 0))
+textOf (TooShort s) op net part a out = shortText s (op .index) net a out
 
--- the areas after it: those of opening, one of which may have been too short
+-- the areas after it
 abbrev pub areasAfter : Kind → Operation → Bytes → Areas → Areas
 areasAfter Name op net a = a
 areasAfter Network op net a = a
@@ -84,11 +132,7 @@ areasAfter Open op net a = openCall net a .areas
 areasAfter Check op net a = a
 areasAfter Report op net a = a
 areasAfter Values op net a = a
-areasAfter ShortRows op net a = withRows (a .rows) (openCall net (withRows short a) .areas)
-areasAfter ShortGained op net a = a
-areasAfter ShortLost op net a = a
-areasAfter ShortHead op net a = withHead (a .head) (openCall net (withHead short a) .areas)
-areasAfter Small op net a = a
+areasAfter (TooShort s) op net a = shortAreas s net a
 
 -- the report's bytes after it
 abbrev pub outAfter : Kind → Operation → Bytes → Areas → Bytes → Bytes
@@ -99,11 +143,7 @@ outAfter Open op net a out = out
 outAfter Check op net a out = out
 outAfter Report op net a out = reportCall net (op .index) a out .out
 outAfter Values op net a out = out
-outAfter ShortRows op net a out = out
-outAfter ShortGained op net a out = out
-outAfter ShortLost op net a out = reportCall net (op .index) (withLost short a) out .out
-outAfter ShortHead op net a out = out
-outAfter Small op net a out = out
+outAfter (TooShort s) op net a out = shortOut s (op .index) net a out
 
 -- it is run
 pub record Runs (k : Kind) (op : Operation) (net part : Bytes) (a after : Areas)

@@ -4,7 +4,7 @@ ghost use Prim.Native.Nat.{_≤_};
 ghost use lib.ListN.{length};
 ghost use Rattle.model.specs.Text.{bytesBetween};
 ghost use Rattle.areas.specs.Lent.{lent};
-ghost use Rattle.test_calls.specs.Operations.{Runs, kindOf, stored};
+ghost use Rattle.test_calls.specs.Operations.{Runs, RunsShort, kindOf, shortOf, stored};
 use areas::AREA;
 use areas::HEAD;
 use libc::STDOUT_FILENO;
@@ -23,43 +23,6 @@ const SHORT: usize = HEAD - 1;
 const REPORT: usize = 2816;
 
 const FEW: usize = 29;
-
-// Kinds of operations: text to print, the network, a word of an area, the calls, the bytes of the last report, calls
-// with one area that is too short, and a report into few bytes.
-pub enum Kind {
-    Name,
-    Network,
-    Word,
-    Open,
-    Check,
-    Report,
-    Values,
-    ShortRows,
-    ShortGained,
-    ShortLost,
-    ShortHead,
-    Small,
-}
-
-// A kind, by its number.
-fn kind_of(number: usize) -> Kind
-    ensures { λ r. ⌜ r ≡ kindOf number ⌝ }
-{
-    match number {
-        1 => Kind::Name,
-        2 => Kind::Network,
-        3 => Kind::Word,
-        4 => Kind::Open,
-        5 => Kind::Check,
-        6 => Kind::Report,
-        7 => Kind::Values,
-        8 => Kind::ShortRows,
-        9 => Kind::ShortGained,
-        10 => Kind::ShortLost,
-        11 => Kind::ShortHead,
-        _ => Kind::Small,
-    }
-}
 
 // A word of an area set, if it is there.
 fn store_word(
@@ -82,6 +45,36 @@ fn store_word(
     }
 }
 
+// A call of the monitor with one area that is too short, or a report into few bytes, by the operation's kind.
+fn run_short(
+    net: &[u8],
+    op: Operation,
+    rows: &mut [u32],
+    gained: &mut [u32],
+    lost: &mut [u32],
+    head: &mut [u32],
+    out: &mut [u8],
+    text: &mut [u8],
+) -> usize
+    requires { ⌜ length (now text) ≡ 65536 ⌝ }
+    ensures { λ r. ⌜ RunsShort (shortOf (op .kind)) (op .index) (now (net .entry))
+        (lent (now (rows .entry)) (now (gained .entry)) (now (lost .entry)) (now (head .entry)))
+        (lent (now (rows .exit)) (now (gained .exit)) (now (lost .exit)) (now (head .exit)))
+        (now (out .entry)) (now (out .exit)) (now (text .entry)) (now (text .exit)) r ⌝ }
+{
+    let mut short = [0u32; SHORT];
+    let mut few = [0u8; FEW];
+    let kind = op.kind;
+    let node = op.index;
+    match kind {
+        8 => open_line(net, &mut short, gained, lost, head, b"", text),
+        9 => check_line(net, rows, &short, lost, head, b"", text),
+        10 => report_line(net, node, rows, gained, &short, head, out, b"", text),
+        11 => open_line(net, rows, gained, lost, &mut short, b"", text),
+        _ => report_line(net, node, rows, gained, lost, head, &mut few, b"", text),
+    }
+}
+
 // An operation with the network and its own text: what it prints is written from the first byte on.
 fn run(
     net: &[u8],
@@ -100,25 +93,19 @@ fn run(
         (lent (now (rows .exit)) (now (gained .exit)) (now (lost .exit)) (now (head .exit)))
         (now (out .entry)) (now (out .exit)) (now (text .entry)) (now (text .exit)) r ⌝ }
 {
-    let mut short = [0u32; SHORT];
-    let mut few = [0u8; FEW];
-    let node = op.index;
-    match kind_of(op.kind) {
-        Kind::Name => lines::put_bytes(text, 0, part),
-        Kind::Network => 0,
-        Kind::Word => {
+    let kind = op.kind;
+    match kind {
+        1 => bytes::copy(part, text),
+        2 => 0,
+        3 => {
             store_word(op, rows, gained, lost, head);
             0
         }
-        Kind::Open => open_line(net, rows, gained, lost, head, b"", text),
-        Kind::Check => check_line(net, rows, gained, lost, head, b"", text),
-        Kind::Report => report_line(net, node, rows, gained, lost, head, out, b"", text),
-        Kind::Values => test_runs::values_line(text, 0, b"bytes", out, &[]),
-        Kind::ShortRows => open_line(net, &mut short, gained, lost, head, b"", text),
-        Kind::ShortGained => check_line(net, rows, &short, lost, head, b"", text),
-        Kind::ShortLost => report_line(net, node, rows, gained, &short, head, out, b"", text),
-        Kind::ShortHead => open_line(net, rows, gained, lost, &mut short, b"", text),
-        Kind::Small => report_line(net, node, rows, gained, lost, head, &mut few, b"", text),
+        4 => open_line(net, rows, gained, lost, head, b"", text),
+        5 => check_line(net, rows, gained, lost, head, b"", text),
+        6 => report_line(net, op.index, rows, gained, lost, head, out, b"", text),
+        7 => test_runs::values_line(text, 0, b"bytes", out, &[]),
+        _ => run_short(net, op, rows, gained, lost, head, out, text),
     }
 }
 

@@ -1,11 +1,11 @@
 -- What a call gave, told by the line that was written, and numbers that fill a list. Assumes nothing.
-use mathlib.Core.Path.{ap, refl, _∙_, _≡_}
+use mathlib.Core.Path.{ap, refl, sym, _∙_, _≡_}
 use mathlib.Core.Bool.{Bool, true, false, cond}
 use mathlib.Core.List.{List, [], _∷_, _++_}
 use Prim.Native.Nat.{ℕ, _+_, _*_, _≤_}
 use native.Mathlib.Omega.{arith}
 use lib.ListN.{length, drop, take}
-use lib.Seq.{sets, take-append-seam}
+use lib.Seq.{sets, take-all, take-append-seam}
 use mir.Val.{boolByte}
 use Rattle.model.specs.Record.{Bytes}
 use Rattle.model.specs.Areas.{Areas}
@@ -51,3 +51,7 @@ pub tells : (word numbers all : List ℕ) (count at : ℕ) {text out : Bytes} {r
     out ≡ sets text at (line word numbers) → r ≡ at + length (line word numbers) → r ≤ at + length word + 21 * length numbers + 1 →
     PutLine (line word all) word count at text out r
 tells word numbers all count at e k b n s = record { bytes = rw (← e) b; next = rw (← e) n; short = omega (arith, ap length e) }
+
+-- a copy is written from the first byte on
+pub copied : (text part : Bytes) {after : Bytes} → after ≡ take (length part) part ++ drop (length part) text → length part ≤ length text → after ≡ sets text 0 part
+copied text part e h = e ∙ ap (λ (l : Bytes). l ++ drop (length part) text) (take-all (length part) part (omega arith)) ∙ sym (sets-first text part h)

@@ -13,8 +13,8 @@ kind-of-requires c κs = search needs
 enum-told : tie.Need-enum-told
 enum-told c = search needs
 
-put-bytes-requires : tie.Need-put-bytes-requires
-put-bytes-requires c κs = search needs
+copy-requires : tie.Need-copy-requires
+copy-requires c κs = search needs
 
 enum-told-2 : tie.Need-enum-told-2
 enum-told-2 c = search needs
@@ -44,8 +44,8 @@ returns : tie.Need-returns
 returns c = let a = c .before .before .before .before .before .before .before .before .before .before .before .before .before .before .before .args in ran-name (a .net .now) (a .part .now)
     (a .op .index) (lent (a .rows .now) (a .gained .now) (a .lost .now) (a .head .now)) (a .out .now) (a .text .now)
     (c .before .before .before .before .before .before .before .before .before .before .before .before .before .before .before .pre .3)
-    (sym (c .before .before .before .before .before .before .kind-of .ensures) ∙ c .before .before .before .before .enum-told .given .1) (c .before .before .put-bytes .ensures .0)
-    (c .before .before .put-bytes .ensures .1) (c .before .before .before .before .before .before .before .before .before .before .before .before .before .before .before .pre .0)
+    (sym (c .before .before .before .before .before .before .kind-of .ensures) ∙ c .before .before .before .before .enum-told .given .1) (c .before .before .copy .ensures .0)
+    (c .before .before .copy .ensures .1) (c .before .before .before .before .before .before .before .before .before .before .before .before .before .before .before .pre .0)
 
 same-length-2 : tie.Need-same-length-2
 same-length-2 c = search needs
@@ -127,7 +127,7 @@ run-spec =
     (tie.spec
     kind-of-requires
     enum-told
-    put-bytes-requires
+    copy-requires
     enum-told-2
     slice-aggregate-open-line
     open-line-requires
