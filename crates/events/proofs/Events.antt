@@ -22,7 +22,6 @@ use Rattle.coherence.proofs.Coherent.{level-at, nodes-count, slot-node, width-i
 use Rattle.records.proofs.Offsets.{remaining, remaining-all, remaining-broken, remaining-none, remaining-whole}
 use Rattle.network.specs.declared.Network.{Network}
 use Rattle.model.specs.Network as model
-use Rattle.model.specs.Row.{maxRows}
 
 -- ---- one record
 
@@ -162,11 +161,11 @@ module _ (nodes : List model.Node) (bs : Bytes) where
   event-whole k at e = whole bs at (whole-event k at e)
 
   -- an event that is read is not the 65th
-  pub event-few : (k at : ℕ) → eventFault nodes k bs at ≡ 0 → k + 1 ≤ maxRows
+  pub event-few : (k at : ℕ) → eventFault nodes k bs at ≡ 0 → k + 1 ≤ maxEvents
   unfolding eventFault
   event-few k at e = go (isBroken bs at) (isEventKind (kindAt bs at)) (leb maxEvents k) (eventFits nodes bs at) refl e
     where
-      go : (p q r u : Bool) → leb maxEvents k ≡ r → firstBroken (rule 10 p ∷ rule 11 (not q) ∷ rule 12 r ∷ rule 13 (not u) ∷ []) ≡ 0 → k + 1 ≤ maxRows
+      go : (p q r u : Bool) → leb maxEvents k ≡ r → firstBroken (rule 10 p ∷ rule 11 (not q) ∷ rule 12 r ∷ rule 13 (not u) ∷ []) ≡ 0 → k + 1 ≤ maxEvents
       go true q r u f z = absurd (omega arith)
       go false false r u f z = absurd (omega arith)
       go false true true u f z = absurd (omega arith)

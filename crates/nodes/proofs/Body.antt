@@ -81,13 +81,13 @@ module _ (ws signs : List ℕ) (bs : Bytes) (at size : ℕ) (sized : size ≡ le
     unfolding itemFits itemAt nodeFits fitsOn
     table-low h = reads-7 ws signs bs at 1 shaped (rw (← is, lt-leb 1 w h))
 
-    pub table-high : 4 < w → ReadsBody ws signs 1 bs at (Refused 7)
+    pub table-high : maxWidth < w → ReadsBody ws signs 1 bs at (Refused 7)
     unfolding itemFits itemAt nodeFits fitsOn
-    table-high h = reads-7 ws signs bs at 1 shaped (rw (← is) (no-second (leb 1 w) (leb w 4) (lt-leb w 4 h)))
+    table-high h = reads-7 ws signs bs at 1 shaped (rw (← is) (no-second (leb 1 w) (leb w maxWidth) (lt-leb w maxWidth h)))
 
     pub table-ok : 1 ≤ w → w ≤ maxWidth → ReadsBody ws signs 1 bs at (NodeRecord (Table w))
     unfolding itemFits itemAt nodeFits fitsOn
-    table-ok h g = reads-node ws signs bs at 1 shaped (rw (← is, le-leb 1 w h, le-leb w 4 g)) (Table w) (rw is) (none-fit bs at)
+    table-ok h g = reads-node ws signs bs at 1 shaped (rw (← is, le-leb 1 w h, le-leb w maxWidth g)) (Table w) (rw is) (none-fit bs at)
 
 -- ---- kinds 2 and 3
 
@@ -183,13 +183,13 @@ module _ (bs : Bytes) (at size : ℕ) (sized : size ≡ lengthAt bs at) where
     unfolding projectShape
     project-none h = rw (← sized, ← is, le-leb 8 size long, lt-leb 1 c h)
 
-    pub project-many : 1 ≤ c → 4 < c → projectShape bs at ≡ false
+    pub project-many : 1 ≤ c → maxWidth < c → projectShape bs at ≡ false
     unfolding projectShape
-    project-many h g = rw (← sized, ← is, le-leb 8 size long, le-leb 1 c h, lt-leb c 4 g)
+    project-many h g = rw (← sized, ← is, le-leb 8 size long, le-leb 1 c h, lt-leb c maxWidth g)
 
     pub project-size : 1 ≤ c → c ≤ maxWidth → eqb size (8 + 2 * c) ≡ projectShape bs at
     unfolding projectShape
-    project-size h g = sym (rw (← sized, ← is, le-leb 8 size long, le-leb 1 c h, le-leb c 4 g))
+    project-size h g = sym (rw (← sized, ← is, le-leb 8 size long, le-leb 1 c h, le-leb c maxWidth g))
 
 -- the counts of a project's record, and its length
 pub record ProjectShape (bs : Bytes) (at : ℕ) : Type 0 where
@@ -201,13 +201,13 @@ pub project-shaped : (bs : Bytes) (at : ℕ) → projectShape bs at ≡ true →
 unfolding projectShape
 project-shaped bs at e =
     let l : Bool = leb 8 (lengthAt bs at) in
-    let w : Bool = leb 1 (fieldAt bs at 1) && leb (fieldAt bs at 1) 4 in
+    let w : Bool = leb 1 (fieldAt bs at 1) && leb (fieldAt bs at 1) maxWidth in
     let s : Bool = eqb (lengthAt bs at) (8 + 2 * fieldAt bs at 1) in
     let range : w ≡ true = and-second l w (and-first (l && w) s e) in
     record {
       size = eqb-true (lengthAt bs at) (8 + 2 * fieldAt bs at 1) (and-second (l && w) s e);
-      few = leb-true (fieldAt bs at 1) 4 (and-second (leb 1 (fieldAt bs at 1)) (leb (fieldAt bs at 1) 4) range);
-      some = leb-true 1 (fieldAt bs at 1) (and-first (leb 1 (fieldAt bs at 1)) (leb (fieldAt bs at 1) 4) range);
+      few = leb-true (fieldAt bs at 1) maxWidth (and-second (leb 1 (fieldAt bs at 1)) (leb (fieldAt bs at 1) maxWidth) range);
+      some = leb-true 1 (fieldAt bs at 1) (and-first (leb 1 (fieldAt bs at 1)) (leb (fieldAt bs at 1) maxWidth) range);
     }
 
 module _ (xs : List ℕ) (count : ℕ) (long : count ≤ length xs) (signs : List ℕ) (bs : Bytes) (at : ℕ) where
@@ -261,13 +261,13 @@ module _ (bs : Bytes) (at size : ℕ) (sized : size ≡ lengthAt bs at) where
         unfolding joinShape
         join-none h = rw (← sized, ← is, ← of, le-leb 10 size long, le-leb p 2 few, le-leb (12 + 4 * p) size room, lt-leb 1 c h)
 
-        pub join-many : 1 ≤ c → 4 < c → joinShape bs at ≡ false
+        pub join-many : 1 ≤ c → maxWidth < c → joinShape bs at ≡ false
         unfolding joinShape
-        join-many h g = rw (← sized, ← is, ← of, le-leb 10 size long, le-leb p 2 few, le-leb (12 + 4 * p) size room, le-leb 1 c h, lt-leb c 4 g)
+        join-many h g = rw (← sized, ← is, ← of, le-leb 10 size long, le-leb p 2 few, le-leb (12 + 4 * p) size room, le-leb 1 c h, lt-leb c maxWidth g)
 
         pub join-size : 1 ≤ c → c ≤ maxWidth → eqb size (12 + 4 * p + 2 * c) ≡ joinShape bs at
         unfolding joinShape
-        join-size h g = sym (rw (← sized, ← is, ← of, le-leb 10 size long, le-leb p 2 few, le-leb (12 + 4 * p) size room, le-leb 1 c h, le-leb c 4 g))
+        join-size h g = sym (rw (← sized, ← is, ← of, le-leb 10 size long, le-leb p 2 few, le-leb (12 + 4 * p) size room, le-leb 1 c h, le-leb c maxWidth g))
 
 -- the counts of a join's record, and its length
 pub record JoinShape (bs : Bytes) (at : ℕ) : Type 0 where
@@ -284,14 +284,14 @@ join-shaped bs at e =
     let a : Bool = leb 10 (lengthAt bs at) in
     let b : Bool = leb p 2 in
     let d : Bool = leb (12 + 4 * p) (lengthAt bs at) in
-    let w : Bool = leb 1 c && leb c 4 in
+    let w : Bool = leb 1 c && leb c maxWidth in
     let s : Bool = eqb (lengthAt bs at) (12 + 4 * p + 2 * c) in
     let first : (a && b && d && w) ≡ true = and-first (a && b && d && w) s e in
     let range : w ≡ true = and-second (a && b && d) w first in
     record {
       pairs = leb-true p 2 (and-second a b (and-first (a && b) d (and-first (a && b && d) w first)));
-      few = leb-true c 4 (and-second (leb 1 c) (leb c 4) range);
-      some = leb-true 1 c (and-first (leb 1 c) (leb c 4) range);
+      few = leb-true c maxWidth (and-second (leb 1 c) (leb c maxWidth) range);
+      some = leb-true 1 c (and-first (leb 1 c) (leb c maxWidth) range);
       size = eqb-true (lengthAt bs at) (12 + 4 * p + 2 * c) (and-second (a && b && d && w) s e);
     }
 

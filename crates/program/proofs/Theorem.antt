@@ -12,7 +12,7 @@ use Rattle.model.specs.Row.{numbersBelow, maxNodes}
 use Rattle.model.specs.Record.{Bytes, isAccepted}
 use Rattle.model.specs.Network.{readNetwork}
 use Rattle.model.specs.Station.{State, Step}
-use Rattle.model.specs.Areas.{Areas, layout, longEnough, stride}
+use Rattle.model.specs.Areas.{Areas, layout, longEnough}
 use Rattle.model.specs.Text.{Piece, batch, broken, unfinished, bytesBetween, maxFile, batchWord, noInputWords, unfinishedWord, line, nodeLines}
 use Rattle.model.specs.Text.{programOutput, runFiles, runPieces, stepLines}
 use Rattle.model.proofs.Parts.{sets-first}
@@ -116,15 +116,15 @@ module _ (f : Files) where
         ∙ h
         ∙ ap (λ (l : List Piece). pieceText (f .net) a l ++ outputFrom (pieceStage (f .net) a start l) (pieceAreas (f .net) a l)) (sym e)
 
-    next-is : (end : ℕ) → start ≤ end → end + stride ≤ length (f .batches) → end + stride ≡ start + length (bytesBetween (f .batches) start end) + stride
+    next-is : (end : ℕ) → start ≤ end → end + 4 ≤ length (f .batches) → end + 4 ≡ start + length (bytesBetween (f .batches) start end) + 4
     next-is end h g = omega (arith, h, g, between-length (f .batches) start end h (omega (arith, g)))
 
     piece-step : (p : declared.Piece) → Next (f .batches) start p → outputFrom (Cut start) a ≡ textAt f (Cut start) a ++ outputFrom (stageAfter f (Cut start) a) (areasAt f (Cut start) a)
     unfolding runPieces
     piece-step (Batch end) n =
         let b : Bytes = bytesBetween (f .batches) start end in
-        pieces-output (batch b ∷ piecesOn (f .batches) (end + stride)) (n .2)
-        (batch-output b (end + stride) (isAccepted (stepOf (f .net) a b .verdict)) refl
+        pieces-output (batch b ∷ piecesOn (f .batches) (end + 4)) (n .2)
+        (batch-output b (end + 4) (isAccepted (stepOf (f .net) a b .verdict)) refl
         ∙ ap (λ (x : ℕ). batchLine (stepOf (f .net) a b) ++ outputFrom (stageOf (stepOf (f .net) a b) x) (areasAfter (f .net) a b)) (next-is end (n .0) (n .1)))
     piece-step (Broken at) n = pieces-output (broken at ∷ []) n (sym (append-nil (refusal (refusalOf (Broken at)))))
     piece-step Unfinished n = pieces-output (unfinished ∷ []) n (sym (append-nil (line unfinishedWord [])))
@@ -149,7 +149,7 @@ module _ (f : Files) where
     piece-ready (Batch end) n =
         let b : Bytes = bytesBetween (f .batches) start end in
         let t : Bool = isAccepted (stepOf (f .net) a b .verdict) in
-        let next : ℕ = start + length (bytesBetween (f .batches) start end) + stride in
+        let next : ℕ = start + length (bytesBetween (f .batches) start end) + 4 in
         subst After (sym (n .2))
         (batch-ready b next t refl, batch-falls b next t refl (omega arith) (omega (arith, n .1, next-is end (n .0) (n .1))))
     piece-ready (Broken at) n = subst After (sym n) (tt, omega arith)

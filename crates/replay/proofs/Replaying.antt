@@ -7,7 +7,7 @@ use lib.Seq.{append-snoc}
 use borrow.Author.Tests.{le-leb, ne-eqb, eq-eqb}
 use mathlib.Core.Bool.{false, Bool, cond, true≢false, true}
 use Rattle.model.specs.Record.{Bytes, Verdict, isAccepted, refused}
-use Rattle.model.specs.Areas.{Areas, cleared, layout, stride}
+use Rattle.model.specs.Areas.{Areas, cleared, layout}
 use Rattle.model.specs.Calls.{Result, Applied, openCall}
 use Rattle.demand3.specs.Runs.{Meets, Runs, endOf}
 use Rattle.replay.specs.Replayed.{Reaches, callsOf, Replayed}
@@ -41,8 +41,8 @@ module _ (net file : Bytes) (a : Areas) where
   replay-start = record { inside = zero-le; done = []; reach = record { results = []; runs = tt; end = refl }; same = ap callsOf (pieces-all file) }
 
   module _ (now : Areas) (start : ℕ) (k : Replaying net file a now start) where
-    pub replay-more : (end : ℕ) (r : Result) → (start ≤ end) × (end + stride ≤ length file) × (piecesOn file start ≡ batch (bytesBetween file start end) ∷ piecesOn file (end + stride)) →
-        Applied net (bytesBetween file start end) now r → Replaying net file a (r .areas) (end + stride)
+    pub replay-more : (end : ℕ) (r : Result) → (start ≤ end) × (end + 4 ≤ length file) × (piecesOn file start ≡ batch (bytesBetween file start end) ∷ piecesOn file (end + 4)) →
+        Applied net (bytesBetween file start end) now r → Replaying net file a (r .areas) (end + 4)
     replay-more end r n m =
         record {
           inside = n .1;
@@ -54,7 +54,7 @@ module _ (net file : Bytes) (a : Areas) where
             end = end-more a (k .reach .results) r;
           };
           same = k .same ∙ ap (λ (l : List Piece). k .done ++ callsOf l) (n .2)
-              ∙ sym (append-snoc (k .done) (apply (bytesBetween file start end)) (callsOf (piecesOn file (end + stride))));
+              ∙ sym (append-snoc (k .done) (apply (bytesBetween file start end)) (callsOf (piecesOn file (end + 4))));
         }
 
     -- no further batch

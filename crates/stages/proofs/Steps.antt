@@ -32,7 +32,7 @@ use Rattle.stages.specs.Stages.{Applies, Files, Opened, Says, Wrote, are
 use Rattle.stages.proofs.Batches.{open-verdict, opened-again, result-is, state-is}
 use Rattle.model.specs.Network as model
 use Rattle.model.specs.Areas as areas
-use Rattle.model.specs.Areas.{headWords, stride}
+use Rattle.model.specs.Areas.{headWords}
 use Rattle.model.specs.Row.{maxNodes}
 
 pub wrote-put : (text all : Bytes) (most : ℕ) (before out : Bytes) (size : ℕ) → Put text most 0 before out size → text ≡ all → most ≤ length before → Wrote all before out size
@@ -129,12 +129,12 @@ pub between-length : (file : Bytes) (start end : ℕ) → start ≤ end → end 
 between-length file start end h g = length-take-le (end - start) (drop start file) (rw length-drop (omega arith))
 
 module _ (f : Files) (start : ℕ) (a : Areas) (before out : Bytes) (size : ℕ) (room : 13696 ≤ length before) where
-  pub says-batch : (end : ℕ) (after : Areas) (r : Said) → (start ≤ end) × (end + stride ≤ length (f .batches)) × (piecesOn (f .batches) start
-      ≡ batch (bytesBetween (f .batches) start end) ∷ piecesOn (f .batches) (end + stride)) →
-      Applies (f .net) (bytesBetween (f .batches) start end) (end + stride) a after before out r → Says f (Cut start) a after before out r
+  pub says-batch : (end : ℕ) (after : Areas) (r : Said) → (start ≤ end) × (end + 4 ≤ length (f .batches)) × (piecesOn (f .batches) start
+      ≡ batch (bytesBetween (f .batches) start end) ∷ piecesOn (f .batches) (end + 4)) →
+      Applies (f .net) (bytesBetween (f .batches) start end) (end + 4) a after before out r → Says f (Cut start) a after before out r
   says-batch end after r n s =
       let b : Bytes = bytesBetween (f .batches) start end in
-      let next : end + stride ≡ start + length (bytesBetween (f .batches) start end) + stride = omega (arith, n .0, n .1, between-length (f .batches) start end (n .0) (omega (arith, n .1))) in
+      let next : end + 4 ≡ start + length (bytesBetween (f .batches) start end) + 4 = omega (arith, n .0, n .1, between-length (f .batches) start end (n .0) (omega (arith, n .1))) in
       record {
         wrote = subst (λ (l : List Piece). Wrote (pieceText (f .net) a l) before out (r .size)) (sym (n .2)) (s .wrote);
         areas = s .areas ∙ ap (pieceAreas (f .net) a) (sym (n .2));

@@ -14,7 +14,6 @@ use Rattle.model.specs.Batch.{Event, eventAt, eventFault, eventFits, eventOf, m
 use Rattle.states.proofs.Tables.{GoodEvent, GoodEvents}
 use Rattle.model.proofs.Sets.{and-first, and-second}
 use Rattle.model.proofs.Events.{length-row-in}
-use Rattle.model.specs.Areas.{stride}
 
 last-holds : (a b c e : Bool) → firstBroken (rule 10 a ∷ rule 11 b ∷ rule 12 c ∷ rule 13 (not e) ∷ []) ≡ 0 → e ≡ true
 last-holds true b c e h = absurd (omega arith)
@@ -48,7 +47,7 @@ module _ (nodes : List Node) (bs : Bytes) where
       let fits : eventFits nodes bs at ≡ true = last-holds (isBroken bs at) (not (eqb (kindAt bs at) 32 || eqb (kindAt bs at) 33)) (leb maxEvents before) (eventFits nodes bs at) z in
       let three : (leb 6 (lengthAt bs at) && ltb (fieldAt bs at 0) (length nodes) && isTable (nodeAt nodes (fieldAt bs at 0)))
       ≡ true = and-first (leb 6 (lengthAt bs at) && ltb (fieldAt bs at 0) (length nodes) && isTable (nodeAt nodes (fieldAt bs at 0)))
-      (eqb (lengthAt bs at) (6 + stride * getD (widths nodes) (fieldAt bs at 0) 0)) fits in
+      (eqb (lengthAt bs at) (6 + 4 * getD (widths nodes) (fieldAt bs at 0) 0)) fits in
       let two : (leb 6 (lengthAt bs at) && ltb (fieldAt bs at 0) (length nodes)) ≡ true = and-first (leb 6 (lengthAt bs at) && ltb (fieldAt bs at 0) (length nodes))
       (isTable (nodeAt nodes (fieldAt bs at 0))) three in
       go (eqb (kindAt bs at) 32) (ltb-true (fieldAt bs at 0) (length nodes) (and-second (leb 6 (lengthAt bs at)) (ltb (fieldAt bs at 0) (length nodes)) two))

@@ -9,7 +9,7 @@ use lib.ListN.{getD, length, length-append, set, length-set}
 use borrow.Author.Tests.{leb-false, leb-true, eqb-true, eqb-false}
 use lib.Seq.{getD-set-same, getD-set-other}
 use Rattle.model.specs.Record.{Bytes, fieldAt, kindAt, firstBroken, rule, isBroken, lengthAt, isAccepted, refused, offsets}
-use Rattle.model.specs.Row.{Relation, insertRow, deleteRow, sameRow, maxRows, maxWidth, Wide}
+use Rattle.model.specs.Row.{Relation, insertRow, deleteRow, sameRow, maxWidth, Wide}
 use Rattle.model.proofs.Widths.{wide-insert, wide-keep}
 use Rattle.model.specs.Batch.{rowIn, eventFault, eventFits, readEvents, eventAt, act, eventOf, put, remove, actAll, readBatch, Event}
 use Rattle.model.proofs.Events.{length-row-in}
@@ -20,6 +20,7 @@ use Rattle.model.proofs.Sets.{and-first, and-second, Ascending, asc-insert, asc
 use Rattle.records.proofs.Header.{Whole, whole}
 use Rattle.model.specs.Evaluation.{rowsAt}
 use Rattle.rows.proofs.Padding.{insert-padded, delete-padded}
+use Rattle.model.specs.Batch.{maxEvents}
 
 -- ---- rows in words and relations
 
@@ -77,27 +78,27 @@ module _ (nodes : List Node) (bs : Bytes) where
   -- what reading says of each record that it accepts
   pub record Fits (before at : ℕ) : Type 0 where
     pub whole? : isBroken bs at ≡ false
-    pub early : before < maxRows
+    pub early : before < maxEvents
     pub least : 6 ≤ lengthAt bs at
-    pub size : lengthAt bs at ≡ 6 + stride * getD (widths nodes) (fieldAt bs at 0) 0
+    pub size : lengthAt bs at ≡ 6 + 4 * getD (widths nodes) (fieldAt bs at 0) 0
 
   fault-fits : (before at : ℕ) → eventFault nodes before bs at ≡ 0 → Fits before at
   unfolding eventFault eventFits
   fault-fits before at z =
-      let f : (isBroken bs at ≡ false) × (leb maxRows before ≡ false) × (eventFits nodes bs at ≡ true) = fault-none (isBroken bs at) (not (eqb (kindAt bs at) 32 || eqb (kindAt bs at) 33))
-      (leb maxRows before) (eventFits nodes bs at) z in
+      let f : (isBroken bs at ≡ false) × (leb maxEvents before ≡ false) × (eventFits nodes bs at ≡ true) = fault-none (isBroken bs at) (not (eqb (kindAt bs at) 32 || eqb (kindAt bs at) 33))
+      (leb maxEvents before) (eventFits nodes bs at) z in
       let three : (leb 6 (lengthAt bs at) && ltb (fieldAt bs at 0) (length nodes) && isTable (nodeAt nodes (fieldAt bs at 0)))
       ≡ true = and-first (leb 6 (lengthAt bs at) && ltb (fieldAt bs at 0) (length nodes) && isTable (nodeAt nodes (fieldAt bs at 0)))
-      (eqb (lengthAt bs at) (6 + stride * getD (widths nodes) (fieldAt bs at 0) 0)) (f .2) in
+      (eqb (lengthAt bs at) (6 + 4 * getD (widths nodes) (fieldAt bs at 0) 0)) (f .2) in
       let two : (leb 6 (lengthAt bs at) && ltb (fieldAt bs at 0) (length nodes)) ≡ true = and-first (leb 6 (lengthAt bs at) && ltb (fieldAt bs at 0) (length nodes))
       (isTable (nodeAt nodes (fieldAt bs at 0))) three in
       record {
         whole? = f .0;
-        early = leb-false maxRows before (f .1);
+        early = leb-false maxEvents before (f .1);
         least = leb-true 6 (lengthAt bs at) (and-first (leb 6 (lengthAt bs at)) (ltb (fieldAt bs at 0) (length nodes)) two);
-        size = eqb-true (lengthAt bs at) (6 + stride * getD (widths nodes) (fieldAt bs at 0) 0)
+        size = eqb-true (lengthAt bs at) (6 + 4 * getD (widths nodes) (fieldAt bs at 0) 0)
             (and-second (leb 6 (lengthAt bs at) && ltb (fieldAt bs at 0) (length nodes) && isTable (nodeAt nodes (fieldAt bs at 0)))
-            (eqb (lengthAt bs at) (6 + stride * getD (widths nodes) (fieldAt bs at 0) 0)) (f .2));
+            (eqb (lengthAt bs at) (6 + 4 * getD (widths nodes) (fieldAt bs at 0) 0)) (f .2));
       }
 
   module _ (t : ℕ) where
@@ -108,13 +109,13 @@ module _ (nodes : List Node) (bs : Bytes) where
     pub record Reads (done : List Event) (ats : List ℕ) : Type 0 where
       pub events : readEvents nodes bs done ats .events ≡ done ++ map (eventAt (widths nodes) bs) ats
       pub foldable : Events bs t (getD (widths nodes) t 0) ats
-      pub few : length done ≤ maxRows → length done + length ats ≤ maxRows
+      pub few : length done ≤ maxEvents → length done + length ats ≤ maxEvents
 
-    event-inside : (before at : ℕ) → Fits before at → (at + 6 ≤ length bs) × (fieldAt bs at 0 ≡ t → at + 6 + stride * getD (widths nodes) t 0 ≤ length bs)
+    event-inside : (before at : ℕ) → Fits before at → (at + 6 ≤ length bs) × (fieldAt bs at 0 ≡ t → at + 6 + 4 * getD (widths nodes) t 0 ≤ length bs)
     event-inside before at f =
         let h : Whole bs at = whole bs at (f .whole?) in (
           omega (arith, h .inside, f .least),
-          λ e. let size : lengthAt bs at ≡ 6 + stride * getD (widths nodes) t 0 = f .size ∙ ap (λ (x : ℕ). 6 + stride * getD (widths nodes) x 0) e in omega
+          λ e. let size : lengthAt bs at ≡ 6 + 4 * getD (widths nodes) t 0 = f .size ∙ ap (λ (x : ℕ). 6 + 4 * getD (widths nodes) x 0) e in omega
               (arith, h .inside, size),
         )
 
@@ -132,7 +133,7 @@ module _ (nodes : List Node) (bs : Bytes) where
         go true e c ih =
             let later : Reads (done ++ (eventAt (widths nodes) bs at ∷ [])) rest = ih c in
             let fits : Fits (length done) at = fault-fits (length done) at (eqb-true (eventFault nodes (length done) bs at) 0 e) in
-            let inside : (at + 6 ≤ length bs) × (fieldAt bs at 0 ≡ t → at + 6 + stride * getD (widths nodes) t 0 ≤ length bs) = event-inside (length done) at fits in
+            let inside : (at + 6 ≤ length bs) × (fieldAt bs at 0 ≡ t → at + 6 + 4 * getD (widths nodes) t 0 ≤ length bs) = event-inside (length done) at fits in
             record {
               events = rw e (later .events ∙ append-assoc done (eventAt (widths nodes) bs at ∷ []) (map (eventAt (widths nodes) bs) rest));
               foldable = (fits .whole?, inside .0, inside .1, later .foldable);

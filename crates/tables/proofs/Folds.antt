@@ -11,7 +11,7 @@ use borrow.Author.Tests.{eq-eqb, ne-eqb}
 use Rattle.model.specs.Record.{Bytes, u32, kindAt, fieldAt, isBroken, lengthAt, offsets}
 use Rattle.rows.proofs.Words.{fields-part, length-words, rows-stored, wide-rows}
 use Rattle.model.proofs.Widths.{wide-insert, wide-keep}
-use Rattle.model.specs.Row.{Wide, Row, deleteRow, insertRow, member, ascending, keep, sameRow, maxNodes, maxRows, maxWidth}
+use Rattle.model.specs.Row.{Wide, Row, deleteRow, insertRow, member, ascending, keep, sameRow, maxRows, maxWidth}
 use Rattle.rows.specs.Rows.{words, rowAt, firstRows, stored}
 use Rattle.rows.proofs.Place.{length-padded}
 use Rattle.model.specs.Areas.{padded, foldedSize, stride}
@@ -23,17 +23,17 @@ use Rattle.records.proofs.Header.{Whole, whole}
 use Rattle.records.proofs.Offsets.{remaining, remaining-all, remaining-broken, remaining-none, remaining-whole}
 use Rattle.model.proofs.Events.{length-row-in}
 
-row-more : (bs : Bytes) (at k : ℕ) → rowIn bs at (k + 1) ≡ rowIn bs at k ++ (u32 bs (at + stride * k) ∷ [])
-row-more bs at zero = ap (λ (n : ℕ). u32 bs n ∷ []) (let e : at ≡ at + stride * 0 = omega arith in e)
+row-more : (bs : Bytes) (at k : ℕ) → rowIn bs at (k + 1) ≡ rowIn bs at k ++ (u32 bs (at + 4 * k) ∷ [])
+row-more bs at zero = ap (λ (n : ℕ). u32 bs n ∷ []) (let e : at ≡ at + 4 * 0 = omega arith in e)
 row-more bs at (suc k) =
     let e : suc k + 1 ≡ suc (k + 1) = omega arith in
-    let f : at + stride + stride * k ≡ at + stride * suc k = omega arith in
-    rw e (ap (λ (l : List ℕ). u32 bs at ∷ l) (row-more bs (at + stride) k ∙ ap (λ (n : ℕ). rowIn bs (at + stride) k ++ (u32 bs n ∷ [])) f))
+    let f : at + 4 + 4 * k ≡ at + 4 * suc k = omega arith in
+    rw e (ap (λ (l : List ℕ). u32 bs at ∷ l) (row-more bs (at + 4) k ∙ ap (λ (n : ℕ). rowIn bs (at + 4) k ++ (u32 bs n ∷ [])) f))
 
 -- one field more of an event's row
-pub row-filled : (bs : Bytes) (at k : ℕ) (row : List ℕ) (x : ℕ) → k < stride → row ≡ padded stride (rowIn bs at k) → x ≡ u32 bs (at + stride * k) → set row k x ≡ padded stride (rowIn bs at (k + 1))
+pub row-filled : (bs : Bytes) (at k : ℕ) (row : List ℕ) (x : ℕ) → k < stride → row ≡ padded stride (rowIn bs at k) → x ≡ u32 bs (at + 4 * k) → set row k x ≡ padded stride (rowIn bs at (k + 1))
 row-filled bs at k row x h e f =
-    ap₂ {A = List ℕ} {B = ℕ} {C = List ℕ} (λ r y. set r k y) e f ∙ padded-more stride (rowIn bs at k) (u32 bs (at + stride * k)) k (length-row-in bs at k) h ∙ ap (padded stride)
+    ap₂ {A = List ℕ} {B = ℕ} {C = List ℕ} (λ r y. set r k y) e f ∙ padded-more stride (rowIn bs at k) (u32 bs (at + 4 * k)) k (length-row-in bs at k) h ∙ ap (padded stride)
     (sym (row-more bs at k))
 
 -- an event's row in words is its own row
@@ -44,10 +44,10 @@ event-row-at bs at w row h e =
     fields-part stride row 0 (omega (arith, size)) ∙ take-all stride row (omega (arith, size)) ∙ e
 
 module _ (bs : Bytes) (at w k : ℕ) (rows : List Row) (out : List ℕ) (n : ℕ) (is : k ≡ kindAt bs at) where
-  pub act-put : k ≡ maxNodes → Stands (insertRow (padded stride (rowIn bs (at + 6) w)) rows) out n → Stands (actOn bs at w rows) out n
+  pub act-put : k ≡ 32 → Stands (insertRow (padded stride (rowIn bs (at + 6) w)) rows) out n → Stands (actOn bs at w rows) out n
   act-put e s = rw (eq-eqb (kindAt bs at) 32 (sym is ∙ e)) s
 
-  pub act-remove : (k ≡ maxNodes → ⊥) → Stands (deleteRow (padded stride (rowIn bs (at + 6) w)) rows) out n → Stands (actOn bs at w rows) out n
+  pub act-remove : (k ≡ 32 → ⊥) → Stands (deleteRow (padded stride (rowIn bs (at + 6) w)) rows) out n → Stands (actOn bs at w rows) out n
   act-remove e s = rw (ne-eqb (kindAt bs at) 32 (λ z. e (is ∙ z))) s
 
 -- a relation with a row has one
@@ -125,7 +125,7 @@ module _ (bs : Bytes) (t w : ℕ) (start : List Row) (words : List ℕ) (count a
   pub fold-header : at + 6 ≤ length bs
   fold-header = events-here .1
 
-  pub fold-inside : fieldAt bs at 0 ≡ t → at + 6 + stride * w ≤ length bs
+  pub fold-inside : fieldAt bs at 0 ≡ t → at + 6 + 4 * w ≤ length bs
   fold-inside e = events-here .2 e
 
   room-here : count + suc (length (remaining bs (at + lengthAt bs at))) ≤ foldedRows

@@ -8,16 +8,16 @@ use Rattle.events.proofs.Events.{Left, event-few, event-whole, left-end
 use Rattle.model.specs.Network.{levels}
 use Rattle.network.specs.Reading.{nodesOf}
 use Rattle.model.specs.Record.{lengthAt, refused}
-use Rattle.model.specs.Row.{maxRows}
 use Rattle.events.specs.Reading.{numberOf}
 use Rattle.events.proofs.read_batch.Tie as tie
 use Rattle.events.proofs.read_batch.Reads as reads
 use Rattle.events.proofs.read_batch.Lts as lts
 use Rattle.events.proofs.read_event.Reads as read-event-reads
 use Rattle.events.proofs.number_of.Reads as number-of-reads
+use Rattle.model.specs.Batch.{maxEvents}
 
 abbrev Inv-loop : tie.InvT-loop
-Inv-loop bytes net count levels before₀ at₀ before at = (count ≡ net .count) × (levels ≡ net .levels) × (before ≤ maxRows) × Left (nodesOf net) bytes before at
+Inv-loop bytes net count levels before₀ at₀ before at = (count ≡ net .count) × (levels ≡ net .levels) × (before ≤ maxEvents) × Left (nodesOf net) bytes before at
 
 abbrev μ-loop : tie.MeasureT-loop
 μ-loop bytes net count levels before₀ at₀ before at = length bytes - at
