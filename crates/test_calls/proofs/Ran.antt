@@ -14,17 +14,22 @@ use Rattle.station_lines.specs.Lines.{Put}
 use Rattle.test_script.specs.declared.Operation.{Operation}
 use Rattle.test_runs.specs.Lines.{Opens, PutLine, Reports, checkLine}
 use Rattle.test_runs.proofs.Told.{copied}
-use Rattle.test_calls.specs.Operations.{Kind, Name, Network, Word, Open, Check, Report, Values, TooShort, Short, Rows, Gained, Lost, Head, Few}
-use Rattle.test_calls.specs.Operations.{Runs, RunsShort, bytesWord, kindOf, short, shortOf, stored, withGained, withHead, withLost, withRows}
+use Rattle.test_calls.specs.Operations.{Call, Open, Check, Report, ShortRows, ShortGained, ShortLost, ShortHead, Few, Kind, Name, Network, Word, Values, Calls}
+use Rattle.test_calls.specs.Operations.{Runs, RunsCall, bytesWord, callOf, kindOf, reportOf, short, shortOf, stored, withGained, withHead, withLost, withRows}
 
--- ---- kinds
+-- ---- kinds, by the numbers that they are not
 
--- any number after the first seven kinds
-pub kind-short : (n : ℕ) → (n ≡ 1 → ⊥) → (n ≡ 2 → ⊥) → (n ≡ 3 → ⊥) → (n ≡ 4 → ⊥) → (n ≡ 5 → ⊥) → (n ≡ 6 → ⊥) → (n ≡ 7 → ⊥) → kindOf n ≡ TooShort (shortOf n)
-kind-short n h1 h2 h3 h4 h5 h6 h7 = rw (ne-eqb n 1 h1, ne-eqb n 2 h2, ne-eqb n 3 h3, ne-eqb n 4 h4, ne-eqb n 5 h5, ne-eqb n 6 h6, ne-eqb n 7 h7)
+pub kind-call : (n : ℕ) → (n ≡ 1 → ⊥) → (n ≡ 2 → ⊥) → (n ≡ 3 → ⊥) → (n ≡ 7 → ⊥) → kindOf n ≡ Calls (callOf n)
+kind-call n h1 h2 h3 h7 = rw (ne-eqb n 1 h1, ne-eqb n 2 h2, ne-eqb n 3 h3, ne-eqb n 7 h7)
 
-pub short-few : (n : ℕ) → (n ≡ 8 → ⊥) → (n ≡ 9 → ⊥) → (n ≡ 10 → ⊥) → (n ≡ 11 → ⊥) → shortOf n ≡ Few
-short-few n h8 h9 h10 h11 = rw (ne-eqb n 8 h8, ne-eqb n 9 h9, ne-eqb n 10 h10, ne-eqb n 11 h11)
+pub call-short : (n : ℕ) → (n ≡ 4 → ⊥) → (n ≡ 5 → ⊥) → (n ≡ 6 → ⊥) → callOf n ≡ shortOf n
+call-short n h4 h5 h6 = rw (ne-eqb n 4 h4, ne-eqb n 5 h5, ne-eqb n 6 h6)
+
+pub short-report : (n : ℕ) → (n ≡ 8 → ⊥) → (n ≡ 9 → ⊥) → (n ≡ 11 → ⊥) → shortOf n ≡ reportOf n
+short-report n h8 h9 h11 = rw (ne-eqb n 8 h8, ne-eqb n 9 h9, ne-eqb n 11 h11)
+
+pub report-few : (n : ℕ) → (n ≡ 10 → ⊥) → reportOf n ≡ Few
+report-few n h10 = rw (ne-eqb n 10 h10)
 
 -- ---- words
 
@@ -49,24 +54,37 @@ wide : {shown text : Bytes} {most : ℕ} {after : Bytes} {r : ℕ} → length te
 wide room p h = record { bytes = p .bytes; next = p .next; short = omega (arith, p .short) }
 
 module _ (node : ℕ) (net : Bytes) (a : Areas) (out text : Bytes) (room : length text ≡ 65536) where
-  pub ran-short-rows : {k : Short} {s g l h : List ℕ} {shown : Bytes} {r : ℕ} → k ≡ Rows → Opens net [] (withRows short a) (lent s g l h) text shown r →
-      RunsShort k node net a (lent (a .rows) g l h) out out text shown r
+  pub ran-open : {k : Call} {after : Areas} {shown : Bytes} {r : ℕ} → k ≡ Open → Opens net [] a after text shown r → RunsCall k node net a after out out text shown r
+  ran-open e o = rw e (record { wrote = wide room (o .wrote) (omega arith); areas = o .areas; bytes = refl })
+
+  pub ran-check : {k : Call} {shown : Bytes} {r : ℕ} → k ≡ Check → PutLine (checkLine [] (checkCall net a)) [] 3 0 text shown r → RunsCall k node net a a out out text shown r
+  ran-check e p = rw e (record { wrote = wide room p (omega arith); areas = refl; bytes = refl })
+
+  pub ran-report : {k : Call} {after shown : Bytes} {r : ℕ} → k ≡ Report → Reports net [] node a out after text shown r → RunsCall k node net a a out after text shown r
+  ran-report e p = rw e (record { wrote = wide room (p .wrote) (omega arith); areas = refl; bytes = p .bytes })
+
+  pub ran-short-rows : {k : Call} {s g l h : List ℕ} {shown : Bytes} {r : ℕ} → k ≡ ShortRows → Opens net [] (withRows short a) (lent s g l h) text shown r →
+      RunsCall k node net a (lent (a .rows) g l h) out out text shown r
   ran-short-rows e o = rw e (record { wrote = wide room (o .wrote) (omega arith); areas = ap (withRows (a .rows)) (o .areas); bytes = refl })
 
-  pub ran-short-gained : {k : Short} {shown : Bytes} {r : ℕ} → k ≡ Gained → PutLine (checkLine [] (checkCall net (withGained short a))) [] 3 0 text shown r →
-      RunsShort k node net a a out out text shown r
+  pub ran-short-gained : {k : Call} {shown : Bytes} {r : ℕ} → k ≡ ShortGained → PutLine (checkLine [] (checkCall net (withGained short a))) [] 3 0 text shown r →
+      RunsCall k node net a a out out text shown r
   ran-short-gained e p = rw e (record { wrote = wide room p (omega arith); areas = refl; bytes = refl })
 
-  pub ran-short-lost : {k : Short} {after shown : Bytes} {r : ℕ} → k ≡ Lost → Reports net [] node (withLost short a) out after text shown r →
-      RunsShort k node net a a out after text shown r
+  pub ran-short-lost : {k : Call} {after shown : Bytes} {r : ℕ} → k ≡ ShortLost → Reports net [] node (withLost short a) out after text shown r →
+      RunsCall k node net a a out after text shown r
   ran-short-lost e p = rw e (record { wrote = wide room (p .wrote) (omega arith); areas = refl; bytes = p .bytes })
 
-  pub ran-short-head : {k : Short} {s g l h : List ℕ} {shown : Bytes} {r : ℕ} → k ≡ Head → Opens net [] (withHead short a) (lent g l h s) text shown r →
-      RunsShort k node net a (lent g l h (a .head)) out out text shown r
+  pub ran-short-head : {k : Call} {s g l h : List ℕ} {shown : Bytes} {r : ℕ} → k ≡ ShortHead → Opens net [] (withHead short a) (lent g l h s) text shown r →
+      RunsCall k node net a (lent g l h (a .head)) out out text shown r
   ran-short-head e o = rw e (record { wrote = wide room (o .wrote) (omega arith); areas = ap (withHead (a .head)) (o .areas); bytes = refl })
 
-  pub ran-few : {k : Short} {after shown : Bytes} {r : ℕ} → k ≡ Few → Reports net [] node a (replicate 29 0) after text shown r → RunsShort k node net a a out out text shown r
+  pub ran-few : {k : Call} {after shown : Bytes} {r : ℕ} → k ≡ Few → Reports net [] node a (replicate 29 0) after text shown r → RunsCall k node net a a out out text shown r
   ran-few e p = rw e (record { wrote = wide room (p .wrote) (omega arith); areas = refl; bytes = refl })
+
+  pub ran-same : {k l : Call} {after : Areas} {out-after shown : Bytes} {r : ℕ} → k ≡ l → RunsCall l node net a after out out-after text shown r →
+      RunsCall k node net a after out out-after text shown r
+  ran-same e p = rw e p
 
 module _ (op : Operation) (net part : Bytes) (a : Areas) (out text : Bytes) (room : length text ≡ 65536) where
   pub ran-name : {k : Kind} {after : Bytes} {r : ℕ} → k ≡ Name → r ≡ length part → after ≡ take (length part) part ++ drop (length part) text → length part ≤ 65536 →
@@ -82,21 +100,12 @@ module _ (op : Operation) (net part : Bytes) (a : Areas) (out text : Bytes) (roo
   pub ran-word : {k : Kind} {after : Areas} → k ≡ Word → after ≡ stored (op .area) (op .index) (op .value) a → Runs k op net part a after out out text text 0
   ran-word e h = rw e (record { wrote = nothing; areas = h; bytes = refl })
 
-  pub ran-open : {k : Kind} {after : Areas} {shown : Bytes} {r : ℕ} → k ≡ Open → Opens net [] a after text shown r → Runs k op net part a after out out text shown r
-  ran-open e o = rw e (record { wrote = wide room (o .wrote) (omega arith); areas = o .areas; bytes = refl })
-
-  pub ran-check : {k : Kind} {shown : Bytes} {r : ℕ} → k ≡ Check → PutLine (checkLine [] (checkCall net a)) [] 3 0 text shown r → Runs k op net part a a out out text shown r
-  ran-check e p = rw e (record { wrote = wide room p (omega arith); areas = refl; bytes = refl })
-
-  pub ran-report : {k : Kind} {after shown : Bytes} {r : ℕ} → k ≡ Report → Reports net [] (op .index) a out after text shown r → Runs k op net part a a out after text shown r
-  ran-report e p = rw e (record { wrote = wide room (p .wrote) (omega arith); areas = refl; bytes = p .bytes })
-
   pub ran-values : {k : Kind} {shown : Bytes} {r : ℕ} → k ≡ Values → length out ≤ 2816 → PutLine (line bytesWord (out ++ [])) bytesWord (length out + 0) 0 text shown r →
       Runs k op net part a a out out text shown r
   ran-values {shown = shown} {r = r} e h p =
       let whole : Put (line bytesWord (out ++ [])) (length text) 0 text shown r = wide room p (omega arith) in
       rw e (record { wrote = rw (← append-nil out) whole; areas = refl; bytes = refl })
 
-  pub ran-too-short : {k : Kind} {s : Short} {after : Areas} {out-after shown : Bytes} {r : ℕ} → k ≡ TooShort s → RunsShort s (op .index) net a after out out-after text shown r →
+  pub ran-call : {k : Kind} {call : Call} {after : Areas} {out-after shown : Bytes} {r : ℕ} → k ≡ Calls call → RunsCall call (op .index) net a after out out-after text shown r →
       Runs k op net part a after out out-after text shown r
-  ran-too-short e p = rw e (record { wrote = p .wrote; areas = p .areas; bytes = p .bytes })
+  ran-call e p = rw e (record { wrote = p .wrote; areas = p .areas; bytes = p .bytes })

@@ -16,36 +16,38 @@ use Rattle.test_runs.specs.Lines.{verdictLine, checkLine, reportLine}
 
 -- ---- kinds
 
--- what is too short: an area, or the bytes for a report
-pub data Short : Type 0 where
-  Rows : Short
-  Gained : Short
-  Lost : Short
-  Head : Short
-  Few : Short
+-- the calls, and calls with an area or the bytes for a report too short
+pub data Call : Type 0 where
+  Open : Call
+  Check : Call
+  Report : Call
+  ShortRows : Call
+  ShortGained : Call
+  ShortLost : Call
+  ShortHead : Call
+  Few : Call
 
--- text to print, the network, a word of an area, the calls, the bytes of the last report, a call with something too short
+-- text to print, the network, a word of an area, the bytes of the last report, a call
 pub data Kind : Type 0 where
   Name : Kind
   Network : Kind
   Word : Kind
-  Open : Kind
-  Check : Kind
-  Report : Kind
   Values : Kind
-  TooShort : Short → Kind
+  Calls : Call → Kind
 
--- by number; any other is a report into few bytes
-abbrev pub shortOf : ℕ → Short
-shortOf n = cond (eqb n 8) Rows (cond (eqb n 9) Gained (cond (eqb n 10) Lost (cond (eqb n 11) Head Few)))
+-- by number: a report with something too short; any other number is one into few bytes
+abbrev pub reportOf : ℕ → Call
+reportOf n = cond (eqb n 10) ShortLost Few
+
+-- a call with something too short
+abbrev pub shortOf : ℕ → Call
+shortOf n = cond (eqb n 8) ShortRows (cond (eqb n 9) ShortGained (cond (eqb n 11) ShortHead (reportOf n)))
+
+abbrev pub callOf : ℕ → Call
+callOf n = cond (eqb n 4) Open (cond (eqb n 5) Check (cond (eqb n 6) Report (shortOf n)))
 
 abbrev pub kindOf : ℕ → Kind
-kindOf n =
-    cond (eqb n 1) Name
-    (cond (eqb n 2) Network
-    (cond (eqb n 3) Word
-    (cond (eqb n 4) Open (cond (eqb n 5) Check
-    (cond (eqb n 6) Report (cond (eqb n 7) Values (TooShort (shortOf n))))))))
+kindOf n = cond (eqb n 1) Name (cond (eqb n 2) Network (cond (eqb n 3) Word (cond (eqb n 7) Values (Calls (callOf n)))))
 
 -- ---- the areas
 
@@ -73,38 +75,47 @@ stored area i v a =
     (cond (eqb area 1) (withGained (set (a .gained) i v) a)
     (cond (eqb area 2) (withLost (set (a .lost) i v) a) (withHead (set (a .head) i v) a)))
 
--- ---- a call with something too short, with the node, the network, the areas and a report's bytes
+-- ---- a call, with the node, the network, the areas and a report's bytes
 
 -- what it prints
-abbrev pub shortText : Short → ℕ → Bytes → Areas → Bytes → Bytes
-shortText Rows node net a out = verdictLine [] (openCall net (withRows short a) .verdict)
-shortText Gained node net a out = checkLine [] (checkCall net (withGained short a))
-shortText Lost node net a out = reportLine [] (reportCall net node (withLost short a) out)
-shortText Head node net a out = verdictLine [] (openCall net (withHead short a) .verdict)
-shortText Few node net a out = reportLine [] (reportCall net node a (replicate 29 0))
+abbrev pub callText : Call → ℕ → Bytes → Areas → Bytes → Bytes
+callText Open node net a out = verdictLine [] (openCall net a .verdict)
+callText Check node net a out = checkLine [] (checkCall net a)
+callText Report node net a out = reportLine [] (reportCall net node a out)
+callText ShortRows node net a out = verdictLine [] (openCall net (withRows short a) .verdict)
+callText ShortGained node net a out = checkLine [] (checkCall net (withGained short a))
+callText ShortLost node net a out = reportLine [] (reportCall net node (withLost short a) out)
+callText ShortHead node net a out = verdictLine [] (openCall net (withHead short a) .verdict)
+callText Few node net a out = reportLine [] (reportCall net node a (replicate 29 0))
 
 -- the areas after it: those of opening, but for the one that was too short
-abbrev pub shortAreas : Short → Bytes → Areas → Areas
-shortAreas Rows net a = withRows (a .rows) (openCall net (withRows short a) .areas)
-shortAreas Gained net a = a
-shortAreas Lost net a = a
-shortAreas Head net a = withHead (a .head) (openCall net (withHead short a) .areas)
-shortAreas Few net a = a
+abbrev pub callAreas : Call → Bytes → Areas → Areas
+callAreas Open net a = openCall net a .areas
+callAreas Check net a = a
+callAreas Report net a = a
+callAreas ShortRows net a = withRows (a .rows) (openCall net (withRows short a) .areas)
+callAreas ShortGained net a = a
+callAreas ShortLost net a = a
+callAreas ShortHead net a = withHead (a .head) (openCall net (withHead short a) .areas)
+callAreas Few net a = a
 
 -- the report's bytes after it
-abbrev pub shortOut : Short → ℕ → Bytes → Areas → Bytes → Bytes
-shortOut Rows node net a out = out
-shortOut Gained node net a out = out
-shortOut Lost node net a out = reportCall net node (withLost short a) out .out
-shortOut Head node net a out = out
-shortOut Few node net a out = out
+abbrev pub callOut : Call → ℕ → Bytes → Areas → Bytes → Bytes
+callOut Open node net a out = out
+callOut Check node net a out = out
+callOut Report node net a out = reportCall net node a out .out
+callOut ShortRows node net a out = out
+callOut ShortGained node net a out = out
+callOut ShortLost node net a out = reportCall net node (withLost short a) out .out
+callOut ShortHead node net a out = out
+callOut Few node net a out = out
 
 -- it is run
-pub record RunsShort (s : Short) (node : ℕ) (net : Bytes) (a after : Areas) (out out-after text text-after : Bytes)
+pub record RunsCall (k : Call) (node : ℕ) (net : Bytes) (a after : Areas) (out out-after text text-after : Bytes)
     (r : ℕ) : Type 0 where
-  pub wrote : Put (shortText s node net a out) (length text) 0 text text-after r
-  pub areas : after ≡ shortAreas s net a
-  pub bytes : out-after ≡ shortOut s node net a out
+  pub wrote : Put (callText k node net a out) (length text) 0 text text-after r
+  pub areas : after ≡ callAreas k net a
+  pub bytes : out-after ≡ callOut k node net a out
 
 -- ---- an operation, with the network, its own text, the areas and a report's bytes
 
@@ -117,33 +128,24 @@ abbrev pub textOf : Kind → Operation → Bytes → Bytes → Areas → Bytes �
 textOf Name op net part a out = part
 textOf Network op net part a out = []
 textOf Word op net part a out = []
-textOf Open op net part a out = verdictLine [] (openCall net a .verdict)
-textOf Check op net part a out = checkLine [] (checkCall net a)
-textOf Report op net part a out = reportLine [] (reportCall net (op .index) a out)
 textOf Values op net part a out = line bytesWord out
-textOf (TooShort s) op net part a out = shortText s (op .index) net a out
+textOf (Calls k) op net part a out = callText k (op .index) net a out
 
 -- the areas after it
 abbrev pub areasAfter : Kind → Operation → Bytes → Areas → Areas
 areasAfter Name op net a = a
 areasAfter Network op net a = a
 areasAfter Word op net a = stored (op .area) (op .index) (op .value) a
-areasAfter Open op net a = openCall net a .areas
-areasAfter Check op net a = a
-areasAfter Report op net a = a
 areasAfter Values op net a = a
-areasAfter (TooShort s) op net a = shortAreas s net a
+areasAfter (Calls k) op net a = callAreas k net a
 
 -- the report's bytes after it
 abbrev pub outAfter : Kind → Operation → Bytes → Areas → Bytes → Bytes
 outAfter Name op net a out = out
 outAfter Network op net a out = out
 outAfter Word op net a out = out
-outAfter Open op net a out = out
-outAfter Check op net a out = out
-outAfter Report op net a out = reportCall net (op .index) a out .out
 outAfter Values op net a out = out
-outAfter (TooShort s) op net a out = shortOut s (op .index) net a out
+outAfter (Calls k) op net a out = callOut k (op .index) net a out
 
 -- it is run
 pub record Runs (k : Kind) (op : Operation) (net part : Bytes) (a after : Areas)

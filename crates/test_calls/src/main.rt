@@ -4,7 +4,7 @@ ghost use Prim.Native.Nat.{_≤_};
 ghost use lib.ListN.{length};
 ghost use Rattle.model.specs.Text.{bytesBetween};
 ghost use Rattle.areas.specs.Lent.{lent};
-ghost use Rattle.test_calls.specs.Operations.{Runs, RunsShort, kindOf, shortOf, stored};
+ghost use Rattle.test_calls.specs.Operations.{Runs, RunsCall, callOf, kindOf, reportOf, shortOf, stored};
 use areas::AREA;
 use areas::HEAD;
 use libc::STDOUT_FILENO;
@@ -45,7 +45,38 @@ fn store_word(
     }
 }
 
-// A call of the monitor with one area that is too short, or a report into few bytes, by the operation's kind.
+// A report with the lost rows too short, or into few bytes.
+fn report_short(
+    net: &[u8],
+    op: Operation,
+    rows: &[u32],
+    gained: &[u32],
+    lost: &[u32],
+    head: &[u32],
+    out: &mut [u8],
+    text: &mut [u8],
+) -> usize
+    requires { ⌜ length (now text) ≡ 65536 ⌝ }
+    ensures { λ r. ⌜ RunsCall (reportOf (op .kind)) (op .index) (now (net .entry))
+        (lent (now (rows .entry)) (now (gained .entry)) (now (lost .entry)) (now (head .entry)))
+        (lent (now (rows .entry)) (now (gained .entry)) (now (lost .entry)) (now (head .entry)))
+        (now (out .entry)) (now (out .exit)) (now (text .entry)) (now (text .exit)) r ⌝ }
+{
+    let kind = op.kind;
+    let node = op.index;
+    match kind {
+        10 => {
+            let short = [0u32; SHORT];
+            report_line(net, node, rows, gained, &short, head, out, b"", text)
+        }
+        _ => {
+            let mut few = [0u8; FEW];
+            report_line(net, node, rows, gained, lost, head, &mut few, b"", text)
+        }
+    }
+}
+
+// A call with one area that is too short, or a report into few bytes.
 fn run_short(
     net: &[u8],
     op: Operation,
@@ -57,21 +88,44 @@ fn run_short(
     text: &mut [u8],
 ) -> usize
     requires { ⌜ length (now text) ≡ 65536 ⌝ }
-    ensures { λ r. ⌜ RunsShort (shortOf (op .kind)) (op .index) (now (net .entry))
+    ensures { λ r. ⌜ RunsCall (shortOf (op .kind)) (op .index) (now (net .entry))
         (lent (now (rows .entry)) (now (gained .entry)) (now (lost .entry)) (now (head .entry)))
         (lent (now (rows .exit)) (now (gained .exit)) (now (lost .exit)) (now (head .exit)))
         (now (out .entry)) (now (out .exit)) (now (text .entry)) (now (text .exit)) r ⌝ }
 {
     let mut short = [0u32; SHORT];
-    let mut few = [0u8; FEW];
     let kind = op.kind;
-    let node = op.index;
     match kind {
         8 => open_line(net, &mut short, gained, lost, head, b"", text),
         9 => check_line(net, rows, &short, lost, head, b"", text),
-        10 => report_line(net, node, rows, gained, &short, head, out, b"", text),
         11 => open_line(net, rows, gained, lost, &mut short, b"", text),
-        _ => report_line(net, node, rows, gained, lost, head, &mut few, b"", text),
+        _ => report_short(net, op, rows, gained, lost, head, out, text),
+    }
+}
+
+// A call of the monitor.
+fn run_call(
+    net: &[u8],
+    op: Operation,
+    rows: &mut [u32],
+    gained: &mut [u32],
+    lost: &mut [u32],
+    head: &mut [u32],
+    out: &mut [u8],
+    text: &mut [u8],
+) -> usize
+    requires { ⌜ length (now text) ≡ 65536 ⌝ }
+    ensures { λ r. ⌜ RunsCall (callOf (op .kind)) (op .index) (now (net .entry))
+        (lent (now (rows .entry)) (now (gained .entry)) (now (lost .entry)) (now (head .entry)))
+        (lent (now (rows .exit)) (now (gained .exit)) (now (lost .exit)) (now (head .exit)))
+        (now (out .entry)) (now (out .exit)) (now (text .entry)) (now (text .exit)) r ⌝ }
+{
+    let kind = op.kind;
+    match kind {
+        4 => open_line(net, rows, gained, lost, head, b"", text),
+        5 => check_line(net, rows, gained, lost, head, b"", text),
+        6 => report_line(net, op.index, rows, gained, lost, head, out, b"", text),
+        _ => run_short(net, op, rows, gained, lost, head, out, text),
     }
 }
 
@@ -101,11 +155,8 @@ fn run(
             store_word(op, rows, gained, lost, head);
             0
         }
-        4 => open_line(net, rows, gained, lost, head, b"", text),
-        5 => check_line(net, rows, gained, lost, head, b"", text),
-        6 => report_line(net, op.index, rows, gained, lost, head, out, b"", text),
         7 => test_runs::values_line(text, 0, b"bytes", out, &[]),
-        _ => run_short(net, op, rows, gained, lost, head, out, text),
+        _ => run_call(net, op, rows, gained, lost, head, out, text),
     }
 }
 

@@ -1,6 +1,6 @@
 use mathlib.Core.Path.{ap}
 use Rattle.test_calls.specs.Operations.{shortOf}
-use Rattle.test_calls.proofs.Ran.{ran-few, ran-short-gained, ran-short-head, ran-short-lost, ran-short-rows, short-few}
+use Rattle.test_calls.proofs.Ran.{ran-same, ran-short-gained, ran-short-head, ran-short-rows, short-report}
 use Rattle.areas.specs.Lent.{lent}
 use borrow.Author.Needs.{needs}
 use Rattle.test_calls.proofs.run_short.Statement.{statement}
@@ -26,15 +26,6 @@ slice-aggregate-check-line-2 c = search needs
 check-line-requires : tie.Need-check-line-requires
 check-line-requires c κs = search needs
 
-slice-aggregate-report-line : tie.Need-slice-aggregate-report-line
-slice-aggregate-report-line c = search needs
-
-slice-aggregate-report-line-2 : tie.Need-slice-aggregate-report-line-2
-slice-aggregate-report-line-2 c = search needs
-
-report-line-requires : tie.Need-report-line-requires
-report-line-requires c κs = search needs
-
 slice-aggregate-open-line-3 : tie.Need-slice-aggregate-open-line-3
 slice-aggregate-open-line-3 c = search needs
 
@@ -44,14 +35,8 @@ slice-aggregate-open-line-4 c = search needs
 open-line-requires-2 : tie.Need-open-line-requires-2
 open-line-requires-2 c κs = search needs
 
-slice-aggregate-report-line-3 : tie.Need-slice-aggregate-report-line-3
-slice-aggregate-report-line-3 c = search needs
-
-slice-aggregate-report-line-4 : tie.Need-slice-aggregate-report-line-4
-slice-aggregate-report-line-4 c = search needs
-
-report-line-requires-2 : tie.Need-report-line-requires-2
-report-line-requires-2 c κs = search needs
+report-short-requires : tie.Need-report-short-requires
+report-short-requires c κs = search needs
 
 same-length : tie.Need-same-length
 same-length c = search needs
@@ -66,7 +51,11 @@ same-length-4 : tie.Need-same-length-4
 same-length-4 c = search needs
 
 returns : tie.Need-returns
-returns c = let a = c .before .before .before .before .before .before .before .before .before .before .before .before .before .before .before .before .before .before .before .before .before .before .before .before .args in ran-short-rows (a .op .index) (a .net .now) (lent (a .rows .now) (a .gained .now) (a .lost .now) (a .head .now)) (a .out .now) (a .text .now) (c .before .before .before .before .before .before .before .before .before .before .before .before .before .before .before .before .before .before .before .before .before .before .before .before .pre) (ap shortOf (c .before .before .before .before .before .before .before .before .before .before .before .before .before .before .before .before .match .keys1)) (c .before .before .before .before .before .before .before .before .before .open-line .ensures)
+returns c = let a = c .before .before .before .before .before .before .before .before .before .before .before .before .before .before .before .before .before .before .before .before .before
+    .before .before .before .args in ran-short-rows (a .op .index) (a .net .now) (lent (a .rows .now) (a .gained .now) (a .lost .now) (a .head .now)) (a .out .now) (a .text .now) (c .before
+    .before .before .before .before .before .before .before .before .before .before .before .before .before .before .before .before .before .before .before .before .before .before .before
+    .pre) (ap shortOf (c .before .before .before .before .before .before .before .before .before .before .before .before .before .before .before .before .match .keys1)) (c .before .before
+    .before .before .before .before .before .before .before .open-line .ensures)
 
 same-length-5 : tie.Need-same-length-5
 same-length-5 c = search needs
@@ -81,7 +70,10 @@ same-length-8 : tie.Need-same-length-8
 same-length-8 c = search needs
 
 returns-2 : tie.Need-returns-2
-returns-2 c = let a = c .before .before .before .before .before .before .before .before .before .before .before .before .before .before .before .before .before .args in ran-short-gained (a .op .index) (a .net .now) (lent (a .rows .now) (a .gained .now) (a .lost .now) (a .head .now)) (a .out .now) (a .text .now) (c .before .before .before .before .before .before .before .before .before .before .before .before .before .before .before .before .before .pre) (ap shortOf (c .before .before .before .before .before .before .before .before .before .match .keys2)) (c .before .before .check-line .ensures)
+returns-2 c = let a = c .before .before .before .before .before .before .before .before .before .before .before .before .before .before .before .before .before .args in ran-short-gained (a
+    .op .index) (a .net .now) (lent (a .rows .now) (a .gained .now) (a .lost .now) (a .head .now)) (a .out .now) (a .text .now) (c .before .before .before .before .before .before .before
+    .before .before .before .before .before .before .before .before .before .before .pre) (ap shortOf (c .before .before .before .before .before .before .before .before .before .match
+    .keys2)) (c .before .before .check-line .ensures)
 
 same-length-9 : tie.Need-same-length-9
 same-length-9 c = search needs
@@ -95,11 +87,15 @@ same-length-11 c = search needs
 same-length-12 : tie.Need-same-length-12
 same-length-12 c = search needs
 
+returns-3 : tie.Need-returns-3
+returns-3 c = let a = c .before .before .before .before .before .before .before .before .before .before .before .before .before .before .before .before .before .before .before .before
+    .before .before .before .before .args in ran-short-head (a .op .index) (a .net .now) (lent (a .rows .now) (a .gained .now) (a .lost .now) (a .head .now)) (a .out .now) (a .text .now) (c
+    .before .before .before .before .before .before .before .before .before .before .before .before .before .before .before .before .before .before .before .before .before .before .before
+    .before .pre) (ap shortOf (c .before .before .before .before .before .before .before .before .before .before .before .before .before .before .before .before .match .keys3)) (c .before
+    .before .before .before .before .before .before .before .before .open-line2 .ensures)
+
 same-length-13 : tie.Need-same-length-13
 same-length-13 c = search needs
-
-returns-3 : tie.Need-returns-3
-returns-3 c = let a = c .before .before .before .before .before .before .before .before .before .before .before .before .before .before .before .before .before .before .before .before .args in ran-short-lost (a .op .index) (a .net .now) (lent (a .rows .now) (a .gained .now) (a .lost .now) (a .head .now)) (a .out .now) (a .text .now) (c .before .before .before .before .before .before .before .before .before .before .before .before .before .before .before .before .before .before .before .before .pre) (ap shortOf (c .before .before .before .before .before .before .before .before .before .before .before .before .match .keys3)) (c .before .before .before .before .report-line .ensures)
 
 same-length-14 : tie.Need-same-length-14
 same-length-14 c = search needs
@@ -113,26 +109,15 @@ same-length-16 c = search needs
 same-length-17 : tie.Need-same-length-17
 same-length-17 c = search needs
 
-returns-4 : tie.Need-returns-4
-returns-4 c = let a = c .before .before .before .before .before .before .before .before .before .before .before .before .before .before .before .before .before .before .before .before .before .before .before .before .args in ran-short-head (a .op .index) (a .net .now) (lent (a .rows .now) (a .gained .now) (a .lost .now) (a .head .now)) (a .out .now) (a .text .now) (c .before .before .before .before .before .before .before .before .before .before .before .before .before .before .before .before .before .before .before .before .before .before .before .before .pre) (ap shortOf (c .before .before .before .before .before .before .before .before .before .before .before .before .before .before .before .before .match .keys4)) (c .before .before .before .before .before .before .before .before .before .open-line2 .ensures)
-
 same-length-18 : tie.Need-same-length-18
 same-length-18 c = search needs
 
-same-length-19 : tie.Need-same-length-19
-same-length-19 c = search needs
-
-same-length-20 : tie.Need-same-length-20
-same-length-20 c = search needs
-
-same-length-21 : tie.Need-same-length-21
-same-length-21 c = search needs
-
-same-length-22 : tie.Need-same-length-22
-same-length-22 c = search needs
-
-returns-5 : tie.Need-returns-5
-returns-5 c = let a = c .before .before .before .before .before .before .before .before .before .before .before .before .before .before .before .before .before .before .before .args in ran-few (a .op .index) (a .net .now) (lent (a .rows .now) (a .gained .now) (a .lost .now) (a .head .now)) (a .out .now) (a .text .now) (c .before .before .before .before .before .before .before .before .before .before .before .before .before .before .before .before .before .before .before .pre) (short-few (a .op .kind) (c .before .before .before .before .before .before .before .before .before .before .before .match .rest .0 .0 .0 .1) (c .before .before .before .before .before .before .before .before .before .before .before .match .rest .0 .0 .1) (c .before .before .before .before .before .before .before .before .before .before .before .match .rest .0 .1) (c .before .before .before .before .before .before .before .before .before .before .before .match .rest .1)) (c .before .before .before .report-line2 .ensures)
+returns-4 : tie.Need-returns-4
+returns-4 c = let a = c .before .before .before .before .before .before .before .before .before .before .before .before .before .before .before .before .before .before .before .args in
+    ran-same (a .op .index) (a .net .now) (lent (a .rows .now) (a .gained .now) (a .lost .now) (a .head .now)) (a .out .now) (a .text .now) (c .before .before .before .before .before .before
+    .before .before .before .before .before .before .before .before .before .before .before .before .before .pre) (short-report (a .op .kind) (c .before .before .before .before .before
+    .before .before .before .before .before .before .match .rest .0 .0 .1) (c .before .before .before .before .before .before .before .before .before .before .before .match .rest .0 .1) (c
+    .before .before .before .before .before .before .before .before .before .before .before .match .rest .1)) (c .before .before .before .before .report-short .ensures)
 
 pub run-short-spec : {M : Type 1} → statement M
 run-short-spec =
@@ -144,15 +129,10 @@ run-short-spec =
     slice-aggregate-check-line
     slice-aggregate-check-line-2
     check-line-requires
-    slice-aggregate-report-line
-    slice-aggregate-report-line-2
-    report-line-requires
     slice-aggregate-open-line-3
     slice-aggregate-open-line-4
     open-line-requires-2
-    slice-aggregate-report-line-3
-    slice-aggregate-report-line-4
-    report-line-requires-2
+    report-short-requires
     same-length
     same-length-2
     same-length-3
@@ -167,16 +147,11 @@ run-short-spec =
     same-length-10
     same-length-11
     same-length-12
-    same-length-13
     returns-3
+    same-length-13
     same-length-14
     same-length-15
     same-length-16
     same-length-17
-    returns-4
     same-length-18
-    same-length-19
-    same-length-20
-    same-length-21
-    same-length-22
-    returns-5)
+    returns-4)
