@@ -12,7 +12,7 @@ use Rattle.model.specs.Record.{Bytes, Verdict, accepted, refused, isAccepted}
 use Rattle.admission.specs.Admission.{Admits}
 use Rattle.model.specs.Calls.{formVerdict, openVerdict, orElse, unless}
 use Rattle.model.proofs.Fits.{read-accepted}
-use Rattle.model.specs.Network.{readNetwork, refusedReading}
+use Rattle.model.specs.Network.{readNetwork, nodesIn, refusedReading}
 use Rattle.model.specs.Network as model
 
 -- ---- verdicts in turn
@@ -38,10 +38,10 @@ unless-holds false number n e = absurd (true≢false (sym e ∙ n))
 
 module _ (net : Bytes) (a : Areas) where
   -- areas that 1 to 8 let pass are of good form
-  pub form-holds : isAccepted (formVerdict net a) ≡ true → goodForm layout (readNetwork net .network .nodes) a ≡ true
+  pub form-holds : isAccepted (formVerdict net a) ≡ true → goodForm layout (nodesIn net) a ≡ true
   unfolding formVerdict
   form-holds e =
-      let good : Bool = goodForm layout (readNetwork net .network .nodes) a in
+      let good : Bool = goodForm layout (nodesIn net) a in
       unless-holds good 8 refl (or-holds (openVerdict net a) (unless good 8) e .1)
 
   form-short : longEnough layout a ≡ false → formVerdict net a ≡ refused 1 0
@@ -56,15 +56,15 @@ module _ (net : Bytes) (a : Areas) where
   unfolding formVerdict
   form-unread v e f g =
       let open-is : openVerdict net a ≡ v = open-read e ∙ sym f in
-      ap (λ (x : Verdict). orElse x (unless (goodForm layout (readNetwork net .network .nodes) a) 8)) open-is
-      ∙ or-refused v (unless (goodForm layout (readNetwork net .network .nodes) a) 8) g
+      ap (λ (x : Verdict). orElse x (unless (goodForm layout (nodesIn net) a) 8)) open-is
+      ∙ or-refused v (unless (goodForm layout (nodesIn net) a) 8) g
 
-  form-bad : (v : Verdict) → longEnough layout a ≡ true → v ≡ readNetwork net .verdict → eqb (v .number) 0 ≡ true → goodForm layout (readNetwork net .network .nodes) a ≡ false →
+  form-bad : (v : Verdict) → longEnough layout a ≡ true → v ≡ readNetwork net .verdict → eqb (v .number) 0 ≡ true → goodForm layout (nodesIn net) a ≡ false →
       formVerdict net a ≡ refused 8 0
   unfolding formVerdict openVerdict
   form-bad v e f g h = rw (h, e, ← f, g)
 
-  form-good : (v : Verdict) → longEnough layout a ≡ true → v ≡ readNetwork net .verdict → eqb (v .number) 0 ≡ true → goodForm layout (readNetwork net .network .nodes) a ≡ true →
+  form-good : (v : Verdict) → longEnough layout a ≡ true → v ≡ readNetwork net .verdict → eqb (v .number) 0 ≡ true → goodForm layout (nodesIn net) a ≡ true →
       formVerdict net a ≡ accepted
   unfolding formVerdict openVerdict
   form-good v e f g h = rw (h, e, ← f, g)
@@ -93,7 +93,7 @@ module _ (net : Bytes) (a : Areas) where
     same-verdict : verdictOf (r .verdict) ≡ readNetwork net .verdict
     same-verdict = ap (λ (x : model.Reading). x .verdict) (is .is)
 
-    same-form : goodForm layout (readNetwork net .network .nodes) a ≡ goodForm layout (nodesOf (r .network)) a
+    same-form : goodForm layout (nodesIn net) a ≡ goodForm layout (nodesOf (r .network)) a
     same-form = ap (λ (x : model.Reading). goodForm layout (x .network .nodes) a) (sym (is .is))
 
     pub admits-unread : (r .verdict .number ≡ 0 → ⊥) → Admits net a r

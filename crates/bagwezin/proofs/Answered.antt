@@ -9,7 +9,7 @@ use borrow.Author.Tests.{ne-eqb, lt-ltb, le-ltb, eq-eqb}
 use Rattle.model.specs.Areas.{Areas}
 use Rattle.model.specs.Record.{Bytes, SmallVerdict, accepted, refused, isAccepted, Verdict}
 use Rattle.model.specs.Calls.{Result, checkCall, openCall, readCall, reportCall, CheckAnswer, ReadAnswer, ReportAnswer}
-use Rattle.model.specs.Network.{Node, levels, readNetwork, kindOf, widths, levelOf}
+use Rattle.model.specs.Network.{Node, levels, nodesIn, kindOf, widths, levelOf}
 use Rattle.model.proofs.Bounds.{ByteList, count-most, form-small, kinds-read, levels-read, network-small, open-small, report-small, widths-read}
 use Rattle.model.proofs.Fits.{read-accepted, read-small, length-widths}
 use Rattle.model.proofs.Build.{length-build}
@@ -49,7 +49,7 @@ bit-small false = omega arith
 call-fits : (net : Bytes) → ReadFits (readCall net)
 unfolding readCall levels
 call-fits net =
-    let nodes : List Node = readNetwork net .network .nodes in
+    let nodes : List Node = nodesIn net in
     let few : length nodes ≤ 32 = read-small net .few in
     record {
       kinds-length = length-padded 32 (map kindOf nodes) (rw (length-map nodes kindOf) few);

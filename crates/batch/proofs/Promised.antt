@@ -20,7 +20,7 @@ use Rattle.areas.specs.Lent.{lent}
 use Rattle.network.specs.Reading.{nodesOf}
 use Rattle.model.specs.Batch.{readBatch}
 use Rattle.states.proofs.Batches.{batch-within}
-use Rattle.propagation.specs.Propagated.{Ready, tablesAfter, newRows, limitVerdict}
+use Rattle.propagation.specs.Propagated.{Propagatable, tablesAfter, newRows, limitVerdict}
 use Rattle.working.specs.Worked.{WorkedTo}
 use Rattle.new_rows.specs.Working.{working}
 use Rattle.coherence.specs.Held.{rowsHeld}
@@ -128,7 +128,7 @@ module _ (net : Network) (bs : Bytes) (rows gained lost head : List ℕ) (can : 
   -- ---- 14, and acceptance
 
   module _ (u : Unrefused net bs head) where
-    pub ready : Ready net rows head bs
+    pub ready : Propagatable net rows head bs
     ready = record { checkable = can .checkable; accepts = u .accepts }
 
     abbrev old : List Relation

@@ -47,10 +47,11 @@ pub record WorkedOut (net : Network) (rows gained lost head work counts : List �
 abbrev pub filled : List Relation → ℕ → List ℕ → List ℕ
 filled rels i area = flatMap (placeOf layout) (take i rels) ++ drop (i * placeSize) area
 
--- each node's gained and lost rows
+-- each node's gained rows
 abbrev pub gainedOf : List Relation → List Relation → List Relation
 gainedOf old new = map (λ c. c .gained) (netChanges old new)
 
+-- each node's lost rows
 abbrev pub lostOf : List Relation → List Relation → List Relation
 lostOf old new = map (λ c. c .lost) (netChanges old new)
 

@@ -18,7 +18,7 @@ use Rattle.model.proofs.Fits.{read-fits, read-small}
 use Rattle.model.proofs.Sets.{and-both, and-first}
 use Rattle.evaluation.proofs.Fresh.{same-refl}
 use Rattle.demand3.specs.Runs.{Meets, Runs, endOf, neverEight}
-use Rattle.demand3.specs.Demand3.{Advances, Answers, eventsOf, Demand3, Stands, Throughout}
+use Rattle.demand3.specs.Demand3.{Advances, Answers, eventsOf, Demand3, StartsFrom, Throughout}
 use Rattle.demand3.proofs.Holds.{Proper, holding-again, holding-coherent, holding-long, holding-state, holds-state, tables-back}
 use Rattle.demand3.proofs.Steps.{Sound, step-sound}
 use Rattle.demand3.proofs.Opening.{cleared-holds, opened-proper}
@@ -185,7 +185,7 @@ module _ (net : Bytes) (accepts : readNetwork net .verdict .number ≡ 0) where
 
   -- ---- areas that hold a state
 
-  module _ (s : State) (a : Areas) (k : Stands (nodesIn net) s a) where
+  module _ (s : State) (a : Areas) (k : StartsFrom (nodesIn net) s a) where
     tables-held : tablesOf (nodesIn net) (rowsIn layout (nodesIn net) a) ≡ s .tables
     tables-held = ap (tablesOf (nodesIn net)) (k .holds .rows) ∙ tables-back (nodesIn net) (s .tables) (k .tables-size) (k .tables-only) fit
 
@@ -208,12 +208,12 @@ module _ (net : Bytes) (accepts : readNetwork net .verdict .number ≡ 0) where
         }
 
 -- demand 3 from any areas that hold a state: every network that the reader accepts, every list of calls, refused ones included
-pub demand-3-from : (net : Bytes) (s : State) (a : Areas) (calls : List Call) (results : List Result) → readNetwork net .verdict .number ≡ 0 → Stands (nodesIn net) s a →
+pub demand-3-from : (net : Bytes) (s : State) (a : Areas) (calls : List Call) (results : List Result) → readNetwork net .verdict .number ≡ 0 → StartsFrom (nodesIn net) s a →
     Runs net a calls results → Demand3 (nodesIn net) s a calls results
 demand-3-from net s a calls results accepts k run = run-demand net accepts s a calls results (stands-held net accepts s a k) run
 
 -- coherent areas hold the state that is in their words
-pub coherent-stands : (net : Bytes) (a : Areas) → longEnough layout a ≡ true → coherent layout (nodesIn net) a ≡ true → Stands (nodesIn net) (stateIn layout (nodesIn net) a) a
+pub coherent-stands : (net : Bytes) (a : Areas) → longEnough layout a ≡ true → coherent layout (nodesIn net) a ≡ true → StartsFrom (nodesIn net) (stateIn layout (nodesIn net) a) a
 coherent-stands net a long c =
     let p : Proper (nodesIn net) (stateIn layout (nodesIn net) a) = state-proper (nodesIn net) (read-small net) a c in
     record {
@@ -251,7 +251,7 @@ opened-coherent net a z =
     rw (h .is) (holding-coherent (nodesIn net) (opened (nodesIn net)) (h .proper) a (read-fits net))
 
 -- and hold the opened state
-pub opened-stands : (net : Bytes) (a : Areas) → openCall net a .verdict .number ≡ 0 → Stands (nodesIn net) (opened (nodesIn net)) (openCall net a .areas)
+pub opened-stands : (net : Bytes) (a : Areas) → openCall net a .verdict .number ≡ 0 → StartsFrom (nodesIn net) (opened (nodesIn net)) (openCall net a .areas)
 opened-stands net a z =
     let h : Held (nodesIn net) (opened (nodesIn net)) a (openCall net a .areas) = opened-held net a z in
     record {

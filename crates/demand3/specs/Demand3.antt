@@ -102,7 +102,7 @@ Throughout nodes s a (c ∷ calls) (r ∷ results) = Answers nodes s c a r
 -- ---- a list of calls
 
 -- areas that hold a state of the plain station, which keeps the rows of tables alone
-pub record Stands (nodes : List Node) (s : State) (a : Areas) : Type 0 where
+pub record StartsFrom (nodes : List Node) (s : State) (a : Areas) : Type 0 where
   pub long : longEnough layout a ≡ true
   pub holds : HoldsState layout nodes a s
   pub tables-size : length (s .tables) ≡ length nodes

@@ -12,7 +12,7 @@ use borrow.Author.Tests.{eq-eqb, eqb-true, leb-false, leb-true, ltb-true, ne-eqb
 use Rattle.model.specs.Row.{Relation, allOf, isEmpty, maxRows}
 use Rattle.model.specs.Record.{Bytes, Rule, SmallVerdict, Verdict, accepted, firstBroken, isAccepted, isBroken, kindAt, lengthAt, offsets, offsetsFrom, refused, rule}
 use Rattle.model.specs.Network.{Item, Network, Node, nodeItem, watchItem, kindOf, build, buildOn, highest, levelOf, levels, inputsOf, isTable, isNode, widths, isUnknown, within}
-use Rattle.model.specs.Network.{hasShape, itemAt, itemFits, watchFits, recordFault, noNetwork, withItem, readNetwork, readRecords, refusedReading}
+use Rattle.model.specs.Network.{hasShape, itemAt, itemFits, watchFits, recordFault, noNetwork, withItem, readNetwork, nodesIn, readRecords, refusedReading}
 use Rattle.model.specs.Batch.{Event, actAll, eventAt, eventFault, eventFits, readBatch, readEvents}
 use Rattle.model.specs.Evaluation.{evaluate, overfull}
 use Rattle.model.specs.Station.{State, Step, applyEvents, lastNumber, limit, refusedStep, step}
@@ -303,7 +303,7 @@ module _ (net : Bytes) (b : ByteList net) (a : Areas) where
   pub form-small : SmallVerdict (formVerdict net a)
   unfolding formVerdict
   form-small =
-      let good : Bool = goodForm layout (readNetwork net .network .nodes) a in
+      let good : Bool = goodForm layout (nodesIn net) a in
       small-or (openVerdict net a) (unless good 8) open-small (small-unless good 8 (omega arith))
 
   pub report-small : (node : ℕ) (out : Bytes) → SmallVerdict (reportCall net node a out .verdict)
@@ -329,7 +329,7 @@ module _ (net : Bytes) (b : ByteList net) (a : Areas) where
       go (isAccepted (formVerdict net a)) (coherent layout nodes a || within 9 13 (step nodes (stateIn layout nodes a) batch .verdict .number)) k
     where
       nodes : List Node
-      nodes = readNetwork net .network .nodes
+      nodes = nodesIn net
 
       result : Result
       result = resultOf nodes a (step nodes (stateIn layout nodes a) batch)
@@ -378,7 +378,7 @@ levels-most nodes i = omega (arith, levels-on nodes [] 0 (λ j. zero-le) i)
 
 module _ (net : Bytes) where
   abbrev nodes : List Node
-  nodes = readNetwork net .network .nodes
+  nodes = nodesIn net
 
   pub count-most : readCall net .count ≤ 32
   unfolding readCall

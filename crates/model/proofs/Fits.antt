@@ -9,7 +9,7 @@ use lib.ListN.{List·getD-append, length, length-append, take, getD}
 use lib.Dec.{eqb, leb, ltb}
 use lib.Seq.{getD-at, take-at}
 use borrow.Author.Tests.{eqb-true, ltb-false, ltb-true, eqb-false, leb-false}
-use Rattle.model.specs.Network.{AllFit, Item, Network, Node, hasShape, isNode, isUnknown, itemAt, itemFits, noNetwork, nodeAt, nodeFits, nodeItem, readNetwork}
+use Rattle.model.specs.Network.{AllFit, Item, Network, Node, hasShape, isNode, isUnknown, itemAt, itemFits, noNetwork, nodeAt, nodeFits, nodeItem, readNetwork, nodesIn}
 use Rattle.model.specs.Network.{readRecords, recordFault, refusedReading, table, watchItem, widthOf, widths, withItem, build}
 use Rattle.model.specs.Record.{Bytes, firstBroken, isBroken, kindAt, offsets, rule, accepted}
 use Rattle.model.proofs.Build.{build-more, length-build}
@@ -87,7 +87,7 @@ records-fit bs net (at ∷ rest) all =
     go false e ih = λ i h. absurd (not-suc-le-zero h)
 
 -- a network that is read fits; beside a refusal it has no node
-pub read-fits : (bs : Bytes) → AllFit (readNetwork bs .network .nodes)
+pub read-fits : (bs : Bytes) → AllFit (nodesIn bs)
 unfolding readNetwork
 read-fits bs = go (isEmpty bs)
   where
@@ -192,7 +192,7 @@ records-small bs net (at ∷ rest) s =
     go false e ih = no-nodes
 
 -- so are the nodes of a network that is read
-pub read-small : (bs : Bytes) → Small (readNetwork bs .network .nodes)
+pub read-small : (bs : Bytes) → Small (nodesIn bs)
 unfolding readNetwork
 read-small bs = go (isEmpty bs)
   where

@@ -7,7 +7,7 @@ use lib.Dec.{leb, ltb, eqb}
 use lib.ListN.{length, drop}
 use Rattle.model.specs.Row.{Row, maxNodes}
 use Rattle.model.specs.Record.{Bytes, bytes16, bytes32, Verdict, accepted, refused, isAccepted}
-use Rattle.model.specs.Network.{Node, Network, Reading, readNetwork, kindOf, widths, levels, signOf, within}
+use Rattle.model.specs.Network.{Node, Network, Reading, readNetwork, nodesIn, kindOf, widths, levels, signOf, within}
 use Rattle.model.specs.Delta.{Change, changeAt}
 use Rattle.model.specs.Watched.{Direction, wasGained, wasLost, WatchedChange, changesOf}
 use Rattle.model.specs.Station.{Step, step}
@@ -32,7 +32,7 @@ openVerdict net a = orElse (unless (longEnough layout a) 1) (readNetwork net .ve
 -- refusals 1 to 8
 unfoldable pub formVerdict : Bytes → Areas → Verdict
 unfolding openVerdict goodForm readNetwork
-formVerdict net a = orElse (openVerdict net a) (unless (goodForm layout (readNetwork net .network .nodes) a) 8)
+formVerdict net a = orElse (openVerdict net a) (unless (goodForm layout (nodesIn net) a) 8)
 
 -- 1 to 8, then what a call answers for the network that was read; where they refuse, what it answers with that verdict
 abbrev pub afterForm : {A : Type 0} → Bytes → Areas → (Network → A) → (Verdict → A) → A
@@ -136,7 +136,7 @@ unfolding formVerdict coherent readNetwork
 checkCall net a =
     record {
       verdict = formVerdict net a;
-      yes? = isAccepted (formVerdict net a) && coherent layout (readNetwork net .network .nodes) a;
+      yes? = isAccepted (formVerdict net a) && coherent layout (nodesIn net) a;
     }
 
 -- ---- a report: 1 to 8, 15, 16

@@ -59,6 +59,7 @@ pub data Inputs : Type 0 where
   oneInput : ℕ → Inputs
   twoInputs : ℕ → ℕ → Inputs
 
+-- the inputs in each kind's body
 abbrev pub usesOf : Node → Inputs
 usesOf (table w) = noInput
 usesOf (select i c k o) = oneInput i
@@ -135,6 +136,7 @@ lastOf noInput = 0
 lastOf (oneInput i) = i
 lastOf (twoInputs l r) = r
 
+-- the nodes that a node uses, in order
 abbrev pub inputsOf : Node → List ℕ
 inputsOf n = listed (usesOf n)
 
@@ -142,6 +144,7 @@ inputsOf n = listed (usesOf n)
 abbrev pub leftOf : Node → ℕ
 leftOf n = firstOf (usesOf n)
 
+-- the last input
 abbrev pub rightOf : Node → ℕ
 rightOf n = lastOf (usesOf n)
 
@@ -230,23 +233,29 @@ pub data Item : Type 0 where
 abbrev pub hasLength : ℕ → Bytes → ℕ → Bool
 hasLength n bs at = eqb (lengthAt bs at) n
 
+-- kind 1: "width"
 abbrev pub tableAt : Bytes → ℕ → Item
 tableAt bs at = nodeItem (table (fieldAt bs at 0))
 
+-- kinds 2 and 3: "input, column, comparison", then the constant or the column
 abbrev pub selectAt : (Bytes → ℕ → Operand) → Bytes → ℕ → Item
 selectAt operand bs at = nodeItem (select (fieldAt bs at 0) (fieldAt bs at 1) (fieldAt bs at 2) (operand bs at))
 
+-- kind 4: "input, c 1..4, c columns"
 abbrev pub projectAt : Bytes → ℕ → Item
 projectAt bs at = nodeItem (project (fieldAt bs at 0) (fieldsAt bs at 2 (fieldAt bs at 1)))
 
+-- kind 5: "left, right, p 0..2, p pairs (left column, right column), c 1..4, c columns"
 abbrev pub joinAt : Bytes → ℕ → Item
 joinAt bs at =
     nodeItem (join (fieldAt bs at 0) (fieldAt bs at 1) (pairsAt bs at 3 (fieldAt bs at 2))
     (fieldsAt bs at (4 + 2 * fieldAt bs at 2) (fieldAt bs at (3 + 2 * fieldAt bs at 2))))
 
+-- kinds 6, 7, 8: "left, right"
 abbrev pub setAt : SetOperation → Bytes → ℕ → Item
 setAt o bs at = nodeItem (setOperation o (fieldAt bs at 0) (fieldAt bs at 1))
 
+-- kind 9: "node, sign"
 abbrev pub watchAt : Bytes → ℕ → Item
 watchAt bs at = watchItem (record { node = fieldAt bs at 0; sign = fieldAt bs at 1 })
 

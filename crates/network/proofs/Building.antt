@@ -15,7 +15,7 @@ use Rattle.model.specs.Network.{nodeItem, watchItem, widthOf, widthOn, levelOf,
 use Rattle.model.proofs.Build.{build-more}
 use Rattle.model.proofs.Fits.{widths-more}
 use Rattle.model.proofs.Inputs.{inputs-below, inputs-fit, inputs-high, inputs-highest}
-use Rattle.nodes.specs.Nodes.{nodeAt, listsOf, withLists, NodeFits, PartsAre}
+use Rattle.nodes.specs.Nodes.{nodeInRecord, listsOf, withLists, NodeFits, PartsAre}
 use Rattle.nodes.specs.declared.Parts.{Parts}
 use Rattle.network.specs.Reading.{slotNode, nodesOf, Sound, Built, Extends, NextSlot, InputsBelow, WidthIs, LevelIs, Ends, Shaped, noSlot}
 use Rattle.nodes.specs.declared.Node.{Node}
@@ -200,10 +200,10 @@ module _ (net : Network) (n : Node) (bs : Bytes) (at : ℕ) (b : Built net) (f :
   -- a node that fits uses nodes before it alone
   pub fits-inputs : (m : ℕ) → net .count < m → InputsBelow n m
   fits-inputs m h =
-      let e : (leftOf (nodeAt n bs at) < m) × (rightOf (nodeAt n bs at) < m) = inputs-below (nodeAt n bs at) (take (net .count) (net .widths)) m (f .fits) (rw counted h) in
+      let e : (leftOf (nodeInRecord n bs at) < m) × (rightOf (nodeInRecord n bs at) < m) = inputs-below (nodeInRecord n bs at) (take (net .count) (net .widths)) m (f .fits) (rw counted h) in
       (fieldsAt bs at (listsOf n .from + 2 * listsOf n .pairs) (listsOf n .columns), pairsAt bs at 3 (listsOf n .pairs), e .0, e .1)
 
-  pub next-slot : (slot : Slot) (width level : ℕ) → net .count < maxNodes → slotNode slot ≡ nodeAt n bs at → Shaped slot → WidthIs n (net .widths) width → LevelIs n (net .levels) level →
+  pub next-slot : (slot : Slot) (width level : ℕ) → net .count < maxNodes → slotNode slot ≡ nodeInRecord n bs at → Shaped slot → WidthIs n (net .widths) width → LevelIs n (net .levels) level →
       NextSlot net slot width level
   next-slot slot width level room s shape w l =
       record {
@@ -213,20 +213,20 @@ module _ (net : Network) (n : Node) (bs : Bytes) (at : ℕ) (b : Built net) (f :
         width-is = wide ∙ ap₂ {A = model.Node} {B = List ℕ} {C = ℕ} (λ x ws. widthOf x ws) (sym s) (b .sound .widths);
         level-is =
             high
-            ∙ ap (λ (x : ℕ). cond (isTable (nodeAt n bs at)) 0 (suc x))
-            (highest-same (net .levels) (take (net .count) (net .levels)) (inputsOf (nodeAt n bs at)) (λ i. sym (take-ends (net .levels) (net .count) i (b .levels-end))))
+            ∙ ap (λ (x : ℕ). cond (isTable (nodeInRecord n bs at)) 0 (suc x))
+            (highest-same (net .levels) (take (net .count) (net .levels)) (inputsOf (nodeInRecord n bs at)) (λ i. sym (take-ends (net .levels) (net .count) i (b .levels-end))))
             ∙ ap₂ {A = model.Node} {B = List ℕ} {C = ℕ} (λ x ls. levelOf x ls) (sym s) (b .sound .levels);
         narrow = rw wide (f .narrow (λ i. rw (take-ends (net .widths) (net .count) i (b .widths-end)) (b .narrow i)));
-        low = rw (high, ← counted) (level-low (nodeAt n bs at) (take (net .count) (net .widths)) (net .levels) (f .fits) (b .low));
+        low = rw (high, ← counted) (level-low (nodeInRecord n bs at) (take (net .count) (net .widths)) (net .levels) (f .fits) (b .low));
       }
     where
-      wide : width ≡ widthOf (nodeAt n bs at) (take (net .count) (net .widths))
+      wide : width ≡ widthOf (nodeInRecord n bs at) (take (net .count) (net .widths))
       wide =
           w (fieldsAt bs at (listsOf n .from + 2 * listsOf n .pairs) (listsOf n .columns)) (pairsAt bs at 3 (listsOf n .pairs))
           (length-fieldsAt bs at (listsOf n .from + 2 * listsOf n .pairs) (listsOf n .columns))
-          ∙ ap (λ (x : ℕ). widthOn x (nodeAt n bs at)) (sym (take-ends (net .widths) (net .count) (leftOf (nodeAt n bs at)) (b .widths-end)))
+          ∙ ap (λ (x : ℕ). widthOn x (nodeInRecord n bs at)) (sym (take-ends (net .widths) (net .count) (leftOf (nodeInRecord n bs at)) (b .widths-end)))
 
-      high : level ≡ levelOf (nodeAt n bs at) (net .levels)
+      high : level ≡ levelOf (nodeInRecord n bs at) (net .levels)
       high = l (fieldsAt bs at (listsOf n .from + 2 * listsOf n .pairs) (listsOf n .columns)) (pairsAt bs at 3 (listsOf n .pairs))
 
 -- the item of a slot is that of its record

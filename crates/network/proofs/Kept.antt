@@ -14,7 +14,7 @@ use Rattle.model.specs.Record.{Bytes, fieldsAt}
 use Rattle.model.specs.Calls.{ReadAnswer, readCall}
 use Rattle.rows.proofs.Padding.{padded-more, take-padded}
 use Rattle.nodes.proofs.Lists.{length-fieldsAt, pairs-fields, pairs-take}
-use Rattle.nodes.specs.Nodes.{ListsFit, listsOf, nodeAt, nodeOf, pairsOf, withLists}
+use Rattle.nodes.specs.Nodes.{ListsFit, listsOf, nodeInRecord, nodeOf, pairsOf, withLists}
 use Rattle.nodes.specs.declared.Node.{Node}
 use Rattle.network.specs.Reading.{Ends, slotNode, noSlot, nodesOf, verdictOf, readingOf, answerOf, Built, ReadsNetwork, Shaped}
 use Rattle.network.specs.declared.Network.{Network}
@@ -46,7 +46,7 @@ module _ (most : ℕ) (bs : Bytes) (at k n : ℕ) (r : List ℕ) (few : n ≤ mo
 -- a node with the lists of its record
 pub slot-is : (n : Node) (bs : Bytes) (at : ℕ) (columns pairs : List ℕ) → ListsFit (listsOf n) bs at →
     columns ≡ padded maxWidth (fieldsAt bs at (listsOf n .from + 2 * listsOf n .pairs) (listsOf n .columns)) → pairs ≡ padded (2 * maxPairs) (fieldsAt bs at 3 (2 * listsOf n .pairs)) →
-    (nodeOf n columns pairs ≡ nodeAt n bs at) × Shaped (record { node = n; columns = columns; pairs = pairs })
+    (nodeOf n columns pairs ≡ nodeInRecord n bs at) × Shaped (record { node = n; columns = columns; pairs = pairs })
 slot-is n bs at columns pairs fit ec ep =
     let p : ℕ = listsOf n .pairs in
     let k : ℕ = listsOf n .from + 2 * p in

@@ -8,7 +8,7 @@ ghost use Rattle.model.specs.Record.{fieldsAt};
 ghost use Rattle.model.specs.Areas.{padded};
 ghost use Rattle.model.specs.Calls.{readCall};
 ghost use Rattle.model.specs.Row.{maxNodes, maxWidth};
-ghost use Rattle.nodes.specs.Nodes.{nodeAt, listsOf, ListsFit};
+ghost use Rattle.nodes.specs.Nodes.{nodeInRecord, listsOf, ListsFit};
 ghost use Rattle.network.specs.Reading.{ReadsNetwork, slotNode, Shaped, InputsBelow, WidthIs, LevelIs, Built, nodesOf, networkOf, readingOf};
 ghost use Rattle.network.specs.Reading.{answerOf};
 use nodes::Item;
@@ -79,7 +79,7 @@ fn pairs_of(bytes: &[u8], at: usize, n: usize) -> [usize; 2 * MAX_PAIRS]
 // A node with its lists, read from its record.
 fn slot_at(bytes: &[u8], at: usize, node: Node) -> Slot
     requires { ⌜ ListsFit (listsOf node) (now bytes) at ⌝ }
-    ensures { λ r. ⌜ (slotNode r ≡ nodeAt node (now (bytes .entry)) at) × Shaped r ⌝ }
+    ensures { λ r. ⌜ (slotNode r ≡ nodeInRecord node (now (bytes .entry)) at) × Shaped r ⌝ }
 {
     let parts = nodes::parts_of(node);
     let lists = parts.lists;
@@ -107,6 +107,7 @@ fn width_of(node: Node, widths: &[usize]) -> usize
     width.own
 }
 
+// The greater of two numbers.
 fn greater(a: usize, b: usize) -> usize
     ensures { λ r. ⌜ r ≡ max a b ⌝ }
 {
@@ -228,6 +229,7 @@ pub struct Answer {
     pub levels: [usize; MAX_NODES],
 }
 
+// The reader: refusals 2 to 7, or what it answers.
 pub fn read(bytes: &[u8]) -> Answer
     ensures { λ r. ⌜ answerOf r ≡ readCall (now (bytes .entry)) ⌝ }
 {

@@ -13,7 +13,7 @@ use Rattle.rows.proofs.Words.{drop-zeros, words-rows, length-words, wide-rows, 
 use Rattle.model.specs.Record.{Bytes, offsets}
 use Rattle.places.specs.Places.{Place, relationIn, Fills}
 use Rattle.areas.specs.Lent.{placeAt}
-use Rattle.tables.specs.Fold.{Stands, Foldable, Table, foldRows, foldAt}
+use Rattle.tables.specs.Fold.{StandsFolded, Foldable, Table, foldRows, foldAt}
 use Rattle.places.proofs.Places.{place-few, place-wide, rows-ascend, place-rows, stored-blank}
 use Rattle.tables.proofs.Folds.{stands-table}
 use Rattle.model.proofs.Sets.{ascending-holds}
@@ -69,7 +69,7 @@ module _ (bs : Bytes) (t w : ℕ) (rows : List ℕ) (n : ℕ) (inside : t < maxN
   after-is : foldAt bs t w (offsets bs) (firstRows filled n) ≡ map (padded stride) after
   after-is = ap (foldAt bs t w (offsets bs)) (table-ready .0 ∙ place-rows w (placeAt rows t) n p) ∙ fold-padded bs t w (offsets bs) (relationIn w (placeAt rows t) n) wide
 
-  module _ (out : List ℕ) (count : ℕ) (s : Stands (foldAt bs t w (offsets bs) (firstRows filled n)) out count) where
+  module _ (out : List ℕ) (count : ℕ) (s : StandsFolded (foldAt bs t w (offsets bs) (firstRows filled n)) out count) where
     count-is : count ≡ length after
     count-is = s .count ∙ ap length after-is ∙ length-map-padded stride after
 

@@ -28,6 +28,7 @@ pub record Working : Type 0 where
   pub counts : List ℕ
   pub changed : List Bool
 
+-- working memory by its parts
 abbrev pub working : List ℕ → List ℕ → List ℕ → List ℕ → List Bool → Working
 working widths rows work counts changed = record
     { widths = widths; rows = rows; work = work; counts = counts; changed = changed }

@@ -15,7 +15,7 @@ use Rattle.model.specs.Algebra.{Operand, constant, column}
 use Rattle.model.proofs.Sets.{and-first, and-second}
 use Rattle.model.proofs.ByKind.{item-narrow}
 use Rattle.model.specs.Row.{maxWidth}
-use Rattle.nodes.specs.Nodes.{NodeRecord, WatchRecord, ListsFit, listsOf, nodeAt, operationOf, setKind, bodyFault, selectFits, ReadsBody}
+use Rattle.nodes.specs.Nodes.{NodeRecord, WatchRecord, ListsFit, listsOf, nodeInRecord, operationOf, setKind, bodyFault, selectFits, ReadsBody}
 use Rattle.nodes.specs.declared.Operand.the-variants.{Constant, Column}
 use Rattle.nodes.specs.declared.SetOperation.{SetOperation}
 use Rattle.nodes.specs.declared.SetOperation.the-variants.{Union, Difference, Intersection}
@@ -43,7 +43,7 @@ module _ (ws signs : List ℕ) (bs : Bytes) (at : ℕ) (kind : ℕ) where
 
   module _ (shape : hasShape kind bs at ≡ true) (fits : itemFits ws signs (itemAt kind bs at) ≡ true) where
     -- a node, given that its lists fit
-    pub reads-node : (n : Node) → nodeItem (nodeAt n bs at) ≡ itemAt kind bs at → ListsFit (listsOf n) bs at → ReadsBody ws signs kind bs at (NodeRecord n)
+    pub reads-node : (n : Node) → nodeItem (nodeInRecord n bs at) ≡ itemAt kind bs at → ListsFit (listsOf n) bs at → ReadsBody ws signs kind bs at (NodeRecord n)
     unfolding bodyFault itemFits
     reads-node n is lists =
         record {

@@ -11,7 +11,7 @@ use Rattle.model.specs.Row.{allOf, countFrom, maxNodes}
 use Rattle.model.specs.Record.{Bytes, kindAt, fieldAt, isBroken}
 use Rattle.model.specs.Network.{kinds, isUnknown, isNode, recordFault, itemAt, nodeItem, watchItem}
 use Rattle.rows.proofs.Place.{all-below}
-use Rattle.nodes.specs.Nodes.{numberOf, nodeAt, itemOf, bodyFault, Room, ReadsBody, ReadsRecord}
+use Rattle.nodes.specs.Nodes.{numberOf, nodeInRecord, itemOf, bodyFault, Room, ReadsBody, ReadsRecord}
 use Rattle.nodes.specs.declared.Record.{Record}
 use Rattle.nodes.specs.declared.Item.the-variants.{Node as NodeBrought, Watch as WatchBrought}
 use Rattle.nodes.specs.declared.Record.the-variants.{Item as Brought, Refused}
@@ -58,7 +58,7 @@ room-of ws (Refused k) h = tt
 room-watch : (ws : List ℕ) (bs : Bytes) (at : ℕ) (r : Record) → (numberOf r ≡ 0 → itemOf r bs at ≡ itemAt 9 bs at) → Room r ws
 unfolding itemAt
 room-watch ws bs at (Brought (NodeBrought n)) h =
-    let e : nodeItem (nodeAt n bs at) ≡ watchItem (record { node = fieldAt bs at 0; sign = fieldAt bs at 1 }) = h refl in
+    let e : nodeItem (nodeInRecord n bs at) ≡ watchItem (record { node = fieldAt bs at 0; sign = fieldAt bs at 1 }) = h refl in
     let z : _≡_ {A = ℕ} 0 1 = cc in
     absurd (omega arith)
 room-watch ws bs at (Brought (WatchBrought n s)) h = tt

@@ -73,8 +73,8 @@ abbrev pub nodeOf : Node → List ℕ → List ℕ → model.Node
 nodeOf n columns pairs = withLists n (take (listsOf n .columns) columns) (pairsOf (listsOf n .pairs) pairs)
 
 -- a node whose columns and pairs stand in the record at an offset
-abbrev pub nodeAt : Node → Bytes → ℕ → model.Node
-nodeAt n bs at =
+abbrev pub nodeInRecord : Node → Bytes → ℕ → model.Node
+nodeInRecord n bs at =
     withLists n (fieldsAt bs at (listsOf n .from + 2 * listsOf n .pairs) (listsOf n .columns))
     (pairsAt bs at 3 (listsOf n .pairs))
 
@@ -100,7 +100,7 @@ WatchRecord n s = Brought (WatchBrought n s)
 
 -- the model's item
 abbrev pub broughtBy : declaredItem.Item → Bytes → ℕ → Item
-broughtBy (NodeBrought n) bs at = nodeItem (nodeAt n bs at)
+broughtBy (NodeBrought n) bs at = nodeItem (nodeInRecord n bs at)
 broughtBy (WatchBrought n s) bs at = watchItem (record { node = n; sign = s })
 
 -- the item of a record reading
@@ -137,8 +137,8 @@ pub record ListsFit (l : ListSizes) (bs : Bytes) (at : ℕ) : Type 0 where
 
 -- a node of the record at an offset can come after nodes of some widths
 pub record NodeFits (n : Node) (ws : List ℕ) (bs : Bytes) (at : ℕ) : Type 0 where
-  pub fits : nodeFits ws (nodeAt n bs at) ≡ true
-  pub narrow : Narrow ws → widthOf (nodeAt n bs at) ws ≤ maxWidth
+  pub fits : nodeFits ws (nodeInRecord n bs at) ≡ true
+  pub narrow : Narrow ws → widthOf (nodeInRecord n bs at) ws ≤ maxWidth
   pub lists : ListsFit (listsOf n) bs at
 
 -- what a record brings fits what was read before it; a refusal has a number

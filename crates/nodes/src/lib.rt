@@ -22,6 +22,7 @@ pub enum Operand {
     Column(usize),
 }
 
+// Kinds 6, 7 and 8.
 pub enum SetOperation {
     Union,
     Difference,
@@ -103,6 +104,7 @@ fn pairs_below(bytes: &[u8], at: usize, n: usize, left: usize, right: usize) -> 
 
 // ---- rules 6 and 7, one kind after the other
 
+// Kind 1.
 fn read_table(bytes: &[u8], at: usize) -> Record
     requires { ⌜ isBroken (now bytes) at ≡ false ⌝ }
     ensures { λ r. ⌜ ((ws signs : List ℕ) → ReadsBody ws signs 1 (now (bytes .entry)) at r) ⌝ }
@@ -135,6 +137,7 @@ fn select_fits(bytes: &[u8], at: usize, count: usize, widths: &[usize]) -> bool
     records::field_at(bytes, at, 2) < 6
 }
 
+// Kind 2.
 fn read_select_constant(bytes: &[u8], at: usize, count: usize, widths: &[usize]) -> Record
     requires { ⌜ (isBroken (now bytes) at ≡ false) × (count ≤ length (now widths)) ⌝ }
     ensures { λ r. ⌜ ((signs : List ℕ)
@@ -159,6 +162,7 @@ fn read_select_constant(bytes: &[u8], at: usize, count: usize, widths: &[usize])
     }))
 }
 
+// Kind 3.
 fn read_select_column(bytes: &[u8], at: usize, count: usize, widths: &[usize]) -> Record
     requires { ⌜ (isBroken (now bytes) at ≡ false) × (count ≤ length (now widths)) ⌝ }
     ensures { λ r. ⌜ ((signs : List ℕ)
@@ -205,6 +209,7 @@ fn project_shape(bytes: &[u8], at: usize) -> bool
     size == 8 + 2 * count
 }
 
+// Kind 4.
 fn read_project(bytes: &[u8], at: usize, count: usize, widths: &[usize]) -> Record
     requires { ⌜ (isBroken (now bytes) at ≡ false) × (count ≤ length (now widths)) ⌝ }
     ensures { λ r. ⌜ ((signs : List ℕ)
@@ -250,6 +255,7 @@ fn join_shape(bytes: &[u8], at: usize) -> bool
     size == 12 + 4 * pairs + 2 * columns
 }
 
+// Kind 5.
 fn read_join(bytes: &[u8], at: usize, count: usize, widths: &[usize]) -> Record
     requires { ⌜ (isBroken (now bytes) at ≡ false) × (count ≤ length (now widths)) × Narrow (now widths) ⌝ }
     ensures { λ r. ⌜ ((signs : List ℕ)
@@ -288,6 +294,7 @@ fn read_join(bytes: &[u8], at: usize, count: usize, widths: &[usize]) -> Record
     }))
 }
 
+// Kinds 6, 7 and 8, by the operation.
 fn read_set(
     operation: SetOperation,
     bytes: &[u8],
@@ -320,6 +327,7 @@ fn read_set(
     }))
 }
 
+// Kind 9.
 fn read_watch(bytes: &[u8], at: usize, count: usize, signs: &[usize]) -> Record
     requires { ⌜ (isBroken (now bytes) at ≡ false) × (count ≤ length (now signs)) ⌝ }
     ensures { λ r. ⌜ ((ws : List ℕ) → ReadsBody ws (take count (now (signs .entry))) 9 (now (bytes .entry)) at r) ⌝ }
@@ -432,6 +440,7 @@ pub struct Parts {
     pub lists: ListSizes,
 }
 
+// The inputs by their parts.
 fn uses(derived: bool, left: usize, right: usize) -> Inputs
     ensures { λ r. ⌜ r ≡ record { derived = derived; left = left; right = right } ⌝ }
 {
@@ -442,12 +451,14 @@ fn uses(derived: bool, left: usize, right: usize) -> Inputs
     }
 }
 
+// A width by its parts.
 fn wide(inherited: bool, own: usize) -> Width
     ensures { λ r. ⌜ r ≡ record { inherited = inherited; own = own } ⌝ }
 {
     Width { inherited, own }
 }
 
+// The sizes of lists by their parts.
 fn listed(pairs: usize, columns: usize, from: usize) -> ListSizes
     ensures { λ r. ⌜ r ≡ record { pairs = pairs; columns = columns; from = from } ⌝ }
 {
@@ -458,6 +469,7 @@ fn listed(pairs: usize, columns: usize, from: usize) -> ListSizes
     }
 }
 
+// The number of a select's kind.
 fn select_kind(operand: Operand) -> usize
     ensures { λ r. ⌜ r ≡ selectKind operand ⌝ }
 {
@@ -467,6 +479,7 @@ fn select_kind(operand: Operand) -> usize
     }
 }
 
+// The number of a set operation's kind.
 fn set_kind(operation: SetOperation) -> usize
     ensures { λ r. ⌜ r ≡ setKind operation ⌝ }
 {
@@ -477,6 +490,7 @@ fn set_kind(operation: SetOperation) -> usize
     }
 }
 
+// A node's parts put together.
 fn made(kind: usize, inputs: Inputs, width: Width, lists: ListSizes) -> Parts
     ensures { λ r. ⌜ r ≡ record { kind = kind; inputs = inputs; width = width; lists = lists } ⌝ }
 {

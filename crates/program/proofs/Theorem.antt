@@ -10,7 +10,7 @@ use lib.Seq.{sets, take-at}
 use borrow.Author.Tests.{ltb-false, ltb-true}
 use Rattle.model.specs.Row.{numbersBelow, maxNodes}
 use Rattle.model.specs.Record.{Bytes, isAccepted}
-use Rattle.model.specs.Network.{readNetwork}
+use Rattle.model.specs.Network.{readNetwork, nodesIn}
 use Rattle.model.specs.Station.{State, Step}
 use Rattle.model.specs.Areas.{Areas, layout, longEnough}
 use Rattle.model.specs.Text.{Piece, batch, broken, unfinished, bytesBetween, maxFile, batchWord, noInputWords, unfinishedWord, line, nodeLines}
@@ -86,7 +86,7 @@ module _ (f : Files) where
 
   -- the lines of all nodes
   abbrev told : State → Bytes
-  told x = flatMap (nodeLines (readNetwork (f .net) .network) (x .changes)) (numbersBelow (length (readNetwork (f .net) .network .nodes)))
+  told x = flatMap (nodeLines (readNetwork (f .net) .network) (x .changes)) (numbersBelow (length (nodesIn (f .net))))
 
   module _ (start : ℕ) (a : Areas) (k : Opened (f .net) a) where
     -- a batch, told by its answer

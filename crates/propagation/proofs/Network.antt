@@ -11,7 +11,7 @@ use native.Mathlib.Nat.{le-refl, not-suc-le-zero, zero-add}
 use Rattle.model.specs.Network.{Node, AllFit, widths, nodeAt, isTable, table, leftOf, rightOf, evaluateOn}
 use Rattle.network.specs.declared.Network.{Network}
 use Rattle.model.specs.Record.{Bytes, Verdict, refused, offsets}
-use Rattle.propagation.specs.Propagated.{Ready, tablesAfter, newRows, changedIn, limitVerdict, Propagates}
+use Rattle.propagation.specs.Propagated.{Propagatable, tablesAfter, newRows, changedIn, limitVerdict, Propagates}
 use Rattle.new_rows.specs.Working.{Working, working, Present, presentRows, presentPlace, Workable}
 use Rattle.working.specs.Worked.{Worked, WorkedTo, nextRows, WorksNode}
 use Rattle.worklist.specs.Listed.{inputChanged}
@@ -42,7 +42,7 @@ use Rattle.tables.proofs.Acts.{accepted-folds, acts-fold}
 use Rattle.tables.specs.Fold.{foldRows}
 use Rattle.evaluation.proofs.Fresh.{tables-at}
 
-module _ (net : Network) (rows head : List ℕ) (bs : Bytes) (ready : Ready net rows head bs) where
+module _ (net : Network) (rows head : List ℕ) (bs : Bytes) (ready : Propagatable net rows head bs) where
   abbrev nodes : List Node
   nodes = nodesOf net
 

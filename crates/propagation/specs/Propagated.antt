@@ -49,7 +49,7 @@ abbrev pub newRows : Network → List ℕ → List ℕ → Bytes → List Relati
 newRows net rows head bs = propagated (nodesOf net) (rowsHeld net rows head) (tablesAfter net rows head bs)
 
 -- areas whose rows are of good form, and a batch that reading accepts
-pub record Ready (net : Network) (rows head : List ℕ) (bs : Bytes) : Type 0 where
+pub record Propagatable (net : Network) (rows head : List ℕ) (bs : Bytes) : Type 0 where
   pub checkable : Checkable net rows head
   pub accepts : isAccepted (readBatch (nodesOf net) bs .verdict) ≡ true
 

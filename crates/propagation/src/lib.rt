@@ -4,7 +4,7 @@ ghost use mathlib.Core.Bool.{false};
 ghost use lib.ListN.{length, replicate};
 ghost use Rattle.network.specs.Reading.{verdictOf};
 ghost use Rattle.new_rows.specs.Working.{working};
-ghost use Rattle.propagation.specs.Propagated.{newRows, Ready, verdictBy, Propagates};
+ghost use Rattle.propagation.specs.Propagated.{newRows, Propagatable, verdictBy, Propagates};
 ghost use Prim.Native.Nat.{_+_, _<_};
 ghost use Rattle.model.specs.Areas.{areaSize};
 ghost use Rattle.model.specs.Row.{maxNodes};
@@ -43,7 +43,7 @@ pub fn propagate(
     counts: &mut [u32],
     changed: &mut [bool],
 ) -> Propagated
-    requires { ⌜ Ready net (now rows) (now head) (now bytes) × (length (now work) ≡ areaSize)
+    requires { ⌜ Propagatable net (now rows) (now head) (now bytes) × (length (now work) ≡ areaSize)
         × (now counts ≡ replicate maxNodes 0)
         × (now changed ≡ replicate maxNodes false) ⌝ }
     ensures { λ r. ⌜ Propagates (now (head .entry))

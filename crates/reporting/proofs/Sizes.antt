@@ -11,7 +11,7 @@ use Rattle.model.specs.Areas.{Areas, gainedCount, goodForm, layout, lostCount}
 use Rattle.model.specs.Watched.{allows, wasGained, wasLost}
 use Rattle.model.specs.Calls.{formVerdict, isWatched, reportBytes, reportCall, reportIn, reportOf, reportRule, unless}
 use Rattle.model.specs.Delta.{Change}
-use Rattle.model.specs.Network.{Node, readNetwork, signOf, widths}
+use Rattle.model.specs.Network.{Node, readNetwork, nodesIn, signOf, widths}
 use Rattle.model.specs.Record.{Bytes, isAccepted}
 use Rattle.model.proofs.Fits.{length-widths, read-small}
 use Rattle.model.proofs.Sets.{and-first}
@@ -23,7 +23,7 @@ use Rattle.admission.proofs.Changes.{change-held}
 
 module _ (net : Bytes) (a : Areas) where
   abbrev nodes : List Node
-  nodes = readNetwork net .network .nodes
+  nodes = nodesIn net
 
   report-most : (node : ℕ) → goodForm layout nodes a ≡ true → node < length nodes → length (reportOf (readNetwork net .network) node a) ≤ 2816
   unfolding reportOf

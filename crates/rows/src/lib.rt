@@ -15,6 +15,7 @@ pub const STRIDE: usize = 4;
 // The most rows of a relation.
 pub const MAX_ROWS: usize = 64;
 
+// How a row compares with another.
 pub enum Order {
     Less,
     Equal,

@@ -4,7 +4,7 @@ use mathlib.Core.List.{List}
 use mathlib.Core.Path.{ap, refl, sym, _∙_, _≡_}
 use borrow.Author.Tests.{eqb-true}
 use Rattle.model.specs.Record.{Bytes, Verdict, isAccepted}
-use Rattle.model.specs.Network.{Node, readNetwork}
+use Rattle.model.specs.Network.{Node, readNetwork, nodesIn}
 use Rattle.model.specs.Station.{State, opened}
 use Rattle.model.specs.Areas.{Areas, holding, layout, longEnough, stateIn}
 use Rattle.model.specs.Calls.{Applied, Keeps, Result, applyPromise, openCall, openVerdict, orElse, resultOf, settled, unless}
@@ -20,20 +20,20 @@ use Rattle.stages.specs.Stages.{Opened, areasAfter, stateOf, stepOf}
 
 module _ (net : Bytes) (a : Areas) (k : Opened net a) (b : Bytes) where
   abbrev ns : List Node
-  ns = readNetwork net .network .nodes
+  ns = nodesIn net
 
   -- the call's result is settled
-  pub result-is : (r : Result) → Applied net b a r → r ≡ resultOf (readNetwork net .network .nodes) a (stepOf net a b)
+  pub result-is : (r : Result) → Applied net b a r → r ≡ resultOf (nodesIn net) a (stepOf net a b)
   result-is r m = keeps (settled-on net (k .accepts) a b (k .long) (k .whole)) m
     where
-      keeps : applyPromise net b a ≡ settled (resultOf ns a (stepOf net a b)) → Keeps (applyPromise net b a) a r → r ≡ resultOf (readNetwork net .network .nodes) a (stepOf net a b)
+      keeps : applyPromise net b a ≡ settled (resultOf ns a (stepOf net a b)) → Keeps (applyPromise net b a) a r → r ≡ resultOf (nodesIn net) a (stepOf net a b)
       keeps e p = rw e at p
 
-  sound : Sound (readNetwork net .network .nodes) (stateOf net a) (actAll (readBatch (readNetwork net .network .nodes) b .events) (stateOf net a .tables))
+  sound : Sound (nodesIn net) (stateOf net a) (actAll (readBatch (nodesIn net) b .events) (stateOf net a .tables))
       (stepOf net a b)
   sound = step-sound ns (read-fits net) (stateOf net a) (state-proper ns (read-small net) a (k .whole)) b
 
-  areas-are : (t : Bool) → isAccepted (stepOf net a b .verdict) ≡ t → areasAfter net a b ≡ cond t (holding layout (readNetwork net .network .nodes) (stepOf net a b .state) a) a
+  areas-are : (t : Bool) → isAccepted (stepOf net a b .verdict) ≡ t → areasAfter net a b ≡ cond t (holding layout (nodesIn net) (stepOf net a b .state) a) a
   unfolding resultOf
   areas-are t e = ap (λ (u : Bool). cond u (holding layout ns (stepOf net a b .state) a) a) e
 
@@ -72,15 +72,15 @@ module _ (net : Bytes) (a : Areas) (long : longEnough layout a ≡ true) where
 -- opening leaves opened areas
 pub opened-ready : (net : Bytes) (a : Areas) → openCall net a .verdict .number ≡ 0 → Opened net (openCall net a .areas)
 opened-ready net a z =
-    let h : Held (readNetwork net .network .nodes) (opened (readNetwork net .network .nodes)) a (openCall net a .areas) = opened-held net a z in
+    let h : Held (nodesIn net) (opened (nodesIn net)) a (openCall net a .areas) = opened-held net a z in
     record {
       accepts = open-accepts net a z .1;
-      long = rw (h .is) (holding-long (readNetwork net .network .nodes) (opened (readNetwork net .network .nodes)) (h .proper) a);
+      long = rw (h .is) (holding-long (nodesIn net) (opened (nodesIn net)) (h .proper) a);
       whole = opened-coherent net a z;
     }
 
 -- and they hold the opened state
-pub opened-state : (net : Bytes) (a : Areas) → openCall net a .verdict .number ≡ 0 → stateOf net (openCall net a .areas) ≡ opened (readNetwork net .network .nodes)
+pub opened-state : (net : Bytes) (a : Areas) → openCall net a .verdict .number ≡ 0 → stateOf net (openCall net a .areas) ≡ opened (nodesIn net)
 opened-state net a z =
-    let h : Held (readNetwork net .network .nodes) (opened (readNetwork net .network .nodes)) a (openCall net a .areas) = opened-held net a z in
-    ap (stateIn layout (readNetwork net .network .nodes)) (h .is) ∙ holding-state (readNetwork net .network .nodes) (opened (readNetwork net .network .nodes)) (h .proper) a (read-fits net)
+    let h : Held (nodesIn net) (opened (nodesIn net)) a (openCall net a .areas) = opened-held net a z in
+    ap (stateIn layout (nodesIn net)) (h .is) ∙ holding-state (nodesIn net) (opened (nodesIn net)) (h .proper) a (read-fits net)

@@ -11,7 +11,7 @@ use lib.ListN.{List·getD-eq-default, getD, length}
 use borrow.Author.Tests.{eqb-true, ltb-false, ltb-true}
 use Rattle.model.specs.Row.{Relation, countFrom, numbersBelow, maxNodes}
 use Rattle.model.specs.Record.{Bytes}
-use Rattle.model.specs.Network.{Network, readNetwork, signOf, widths}
+use Rattle.model.specs.Network.{Network, readNetwork, nodesIn, signOf, widths}
 use Rattle.model.specs.Delta.{Change, changeAt, noChange}
 use Rattle.model.specs.Areas.{Areas, changesIn, gainedCount, heldIn, layout, lostCount, relationsIn, stateIn}
 use Rattle.model.specs.Watched.{changesOf}
@@ -45,12 +45,12 @@ none-held ws count area i z = go (ltb i (length ws)) refl
 
 module _ (net : Bytes) (a : Areas) (i : ℕ) where
   -- no change where both counts are 0, or past the last node
-  unchanged-at : (i < length (readNetwork net .network .nodes) → (gainedCount (a .head) i ≡ 0) × (lostCount (a .head) i ≡ 0)) → changeAt (stateOf net a .changes) i ≡ noChange
+  unchanged-at : (i < length (nodesIn net) → (gainedCount (a .head) i ≡ 0) × (lostCount (a .head) i ≡ 0)) → changeAt (stateOf net a .changes) i ≡ noChange
   unfolding stateIn changesIn
   unchanged-at z =
-      let ws : List ℕ = widths (readNetwork net .network .nodes) in
-      let inside : i < length (widths (readNetwork net .network .nodes)) →
-      i < length (readNetwork net .network .nodes) = λ h. omega (arith, h, length-widths (readNetwork net .network .nodes)) in
+      let ws : List ℕ = widths (nodesIn net) in
+      let inside : i < length (widths (nodesIn net)) →
+      i < length (nodesIn net) = λ h. omega (arith, h, length-widths (nodesIn net)) in
       zip-none (relationsIn layout ws (gainedCount (a .head)) (a .gained)) (relationsIn layout ws (lostCount (a .head)) (a .lost)) i
       (none-held ws (gainedCount (a .head)) (a .gained) i (λ h. z (inside h) .0)) (none-held ws (lostCount (a .head)) (a .lost) i (λ h. z (inside h) .1))
 
@@ -60,7 +60,7 @@ module _ (net : Bytes) (a : Areas) (i : ℕ) where
       let l : eqb (lostCount (a .head) i) 0 ≡ true = and-second (eqb (gainedCount (a .head) i) 0) (eqb (lostCount (a .head) i) 0) e in
       silent (readNetwork net .network) (stateOf net a .changes) i (unchanged-at (λ h. (eqb-true (gainedCount (a .head) i) 0 g, eqb-true (lostCount (a .head) i) 0 l)))
 
-  pub silent-past : length (readNetwork net .network .nodes) ≤ i → nodeLines (readNetwork net .network) (stateOf net a .changes) i ≡ []
+  pub silent-past : length (nodesIn net) ≤ i → nodeLines (readNetwork net .network) (stateOf net a .changes) i ≡ []
   silent-past p = silent (readNetwork net .network) (stateOf net a .changes) i (unchanged-at (λ h. absurd (omega (arith, h, p))))
 
 -- ---- all nodes
@@ -70,7 +70,7 @@ module _ (net : Bytes) (a : Areas) where
   abbrev pub nodesFrom : ℕ → Bytes
   nodesFrom i = flatMap (nodeLines (readNetwork net .network) (stateOf net a .changes)) (countFrom i (maxNodes - i))
 
-  none-past : (i n : ℕ) → length (readNetwork net .network .nodes) ≤ i → flatMap (nodeLines (readNetwork net .network) (stateOf net a .changes)) (countFrom i n) ≡ []
+  none-past : (i n : ℕ) → length (nodesIn net) ≤ i → flatMap (nodeLines (readNetwork net .network) (stateOf net a .changes)) (countFrom i n) ≡ []
   unfolding flatMap
   none-past i zero h = refl
   none-past i (suc n) h = ap₂ {A = List ℕ} {B = List ℕ} {C = List ℕ} (λ x y. x ++ y) (silent-past net a i h) (none-past (suc i) n (omega (arith, h)))
@@ -85,12 +85,12 @@ module _ (net : Bytes) (a : Areas) where
   unfolding flatMap
   nodes-over i h = let z : maxNodes - i ≡ 0 = omega arith in rw z
 
-  pub nodes-all : flatMap (nodeLines (readNetwork net .network) (stateOf net a .changes)) (numbersBelow (length (readNetwork net .network .nodes))) ≡ nodesFrom 0
+  pub nodes-all : flatMap (nodeLines (readNetwork net .network) (stateOf net a .changes)) (numbersBelow (length (nodesIn net))) ≡ nodesFrom 0
   nodes-all =
-      let n : ℕ = length (readNetwork net .network .nodes) in
+      let n : ℕ = length (nodesIn net) in
       let f : ℕ → Bytes = nodeLines (readNetwork net .network) (stateOf net a .changes) in
-      let split : countFrom 0 maxNodes ≡ countFrom 0 (length (readNetwork net .network .nodes)) ++ countFrom (length (readNetwork net .network .nodes))
-      (maxNodes - length (readNetwork net .network .nodes)) =
+      let split : countFrom 0 maxNodes ≡ countFrom 0 (length (nodesIn net)) ++ countFrom (length (nodesIn net))
+      (maxNodes - length (nodesIn net)) =
       count-split 0 n maxNodes (read-small net .few) ∙ ap (λ (k : ℕ). countFrom 0 n ++ countFrom k (maxNodes - n)) (zero-add n) in
       sym (append-nil (flatMap f (countFrom 0 n)))
       ∙ ap (λ (l : List ℕ). flatMap f (countFrom 0 n) ++ l) (sym (none-past n (maxNodes - n) (omega arith)))

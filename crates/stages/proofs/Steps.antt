@@ -9,7 +9,7 @@ use lib.ListN.{drop, getD, length, length-drop}
 use lib.Seq.{length-take-le, sets}
 use borrow.Author.Tests.{eq-eqb, le-leb, ne-eqb}
 use Rattle.model.specs.Record.{Bytes, isAccepted}
-use Rattle.model.specs.Network.{readNetwork}
+use Rattle.model.specs.Network.{readNetwork, nodesIn}
 use Rattle.model.specs.Station.{State}
 use Rattle.model.specs.Areas.{Areas, coherent, goodForm, layout, longEnough, rowsIn, sameRelations, stateIn, tablesOf, areaSize}
 use Rattle.model.specs.Evaluation.{evaluate}
@@ -173,8 +173,8 @@ module _ (net : Bytes) (rd : Reading) (q : ReadsNetwork net rd) (rows gained los
   good : goodForm layout (nodesOf (rd .network)) (lent rows gained lost head) ≡ true
   unfolding coherent
   good =
-      let ns : List model.Node = readNetwork net .network .nodes in
-      let here : goodForm layout (readNetwork net .network .nodes) (lent rows gained lost head) ≡ true =
+      let ns : List model.Node = nodesIn net in
+      let here : goodForm layout (nodesIn net) (lent rows gained lost head) ≡ true =
       and-first (goodForm layout ns (lent rows gained lost head))
       (sameRelations (rowsIn layout ns (lent rows gained lost head)) (evaluate ns (tablesOf ns (rowsIn layout ns (lent rows gained lost head))))) (k .whole) in
       ap (λ (n : model.Network). goodForm layout (n .nodes) (lent rows gained lost head)) network-is ∙ here
@@ -189,7 +189,7 @@ module _ (net : Bytes) (rd : Reading) (q : ReadsNetwork net rd) (rows gained los
   unfolding stateIn areas.changesIn
   lines-are i = ap (λ (n : model.Network). nodeLines n (areas.changesIn layout (n .nodes) (lent [] gained lost head)) i) network-is
 
-  pub count-is : rd .network .count ≡ length (readNetwork net .network .nodes)
+  pub count-is : rd .network .count ≡ length (nodesIn net)
   count-is = sym (nodes-count (rd .network) (q .built)) ∙ ap (λ (n : model.Network). length (n .nodes)) network-is
 
 pub says-node : (f : Files) (node next : ℕ) (a : Areas) (before out : Bytes) (size : ℕ) →

@@ -8,7 +8,7 @@ use lib.ListN.{length}
 use lib.Seq.{sets}
 use Rattle.model.specs.Row.{maxNodes}
 use Rattle.model.specs.Record.{Bytes, Verdict, isAccepted}
-use Rattle.model.specs.Network.{readNetwork}
+use Rattle.model.specs.Network.{readNetwork, nodesIn}
 use Rattle.model.specs.Station as model
 use Rattle.model.specs.Station.{State}
 use Rattle.model.specs.Areas.{Areas, layout, longEnough, coherent, stateIn}
@@ -49,19 +49,19 @@ hasInput f = f .found-net && f .found-batches && leb (length (f .net)) maxFile &
 pub record Opened (net : Bytes) (a : Areas) : Type 0 where
   pub accepts : readNetwork net .verdict .number ≡ 0
   pub long : longEnough layout a ≡ true
-  pub whole : coherent layout (readNetwork net .network .nodes) a ≡ true
+  pub whole : coherent layout (nodesIn net) a ≡ true
 
 -- the state that the areas hold
 abbrev pub stateOf : Bytes → Areas → State
-stateOf net a = stateIn layout (readNetwork net .network .nodes) a
+stateOf net a = stateIn layout (nodesIn net) a
 
 -- the plain station's step from that state
 abbrev pub stepOf : Bytes → Areas → Bytes → model.Step
-stepOf net a b = model.step (readNetwork net .network .nodes) (stateOf net a) b
+stepOf net a b = model.step (nodesIn net) (stateOf net a) b
 
 -- the areas after a batch
 abbrev pub areasAfter : Bytes → Areas → Bytes → Areas
-areasAfter net a b = resultOf (readNetwork net .network .nodes) a (stepOf net a b) .areas
+areasAfter net a b = resultOf (nodesIn net) a (stepOf net a b) .areas
 
 -- ---- a batch
 

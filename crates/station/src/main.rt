@@ -210,6 +210,7 @@ fn run(
     Ran { told, whole: true }
 }
 
+// Reads both files, then steps through the program.
 fn main() {
     let mut net = [0u8; ABOVE];
     let mut file = [0u8; ABOVE];

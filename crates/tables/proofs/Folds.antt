@@ -17,7 +17,7 @@ use Rattle.rows.proofs.Place.{length-padded}
 use Rattle.model.specs.Areas.{padded, foldedSize, stride}
 use Rattle.rows.proofs.Padding.{padded-more}
 use Rattle.model.specs.Batch.{rowIn, foldedRows}
-use Rattle.tables.specs.Fold.{Stands, actOn, Events, Foldable, Table, foldAt}
+use Rattle.tables.specs.Fold.{StandsFolded, actOn, Events, Foldable, Table, foldAt}
 use Rattle.model.proofs.Sets.{Ascending, asc-delete, asc-insert, ascending-holds, ascending-true}
 use Rattle.records.proofs.Header.{Whole, whole}
 use Rattle.records.proofs.Offsets.{remaining, remaining-all, remaining-broken, remaining-none, remaining-whole}
@@ -44,10 +44,10 @@ event-row-at bs at w row h e =
     fields-part stride row 0 (omega (arith, size)) ∙ take-all stride row (omega (arith, size)) ∙ e
 
 module _ (bs : Bytes) (at w k : ℕ) (rows : List Row) (out : List ℕ) (n : ℕ) (is : k ≡ kindAt bs at) where
-  pub act-put : k ≡ 32 → Stands (insertRow (padded stride (rowIn bs (at + 6) w)) rows) out n → Stands (actOn bs at w rows) out n
+  pub act-put : k ≡ 32 → StandsFolded (insertRow (padded stride (rowIn bs (at + 6) w)) rows) out n → StandsFolded (actOn bs at w rows) out n
   act-put e s = rw (eq-eqb (kindAt bs at) 32 (sym is ∙ e)) s
 
-  pub act-remove : (k ≡ 32 → ⊥) → Stands (deleteRow (padded stride (rowIn bs (at + 6) w)) rows) out n → Stands (actOn bs at w rows) out n
+  pub act-remove : (k ≡ 32 → ⊥) → StandsFolded (deleteRow (padded stride (rowIn bs (at + 6) w)) rows) out n → StandsFolded (actOn bs at w rows) out n
   act-remove e s = rw (ne-eqb (kindAt bs at) 32 (λ z. e (is ∙ z))) s
 
 -- a relation with a row has one
@@ -58,7 +58,7 @@ some-row r (s ∷ l) n e f = omega arith
 -- ---- all events of a table
 
 -- rows that stand in words, read back
-pub stands-table : (rows : List Row) (out : List ℕ) (n : ℕ) → Wide stride rows → Ascending rows → Stands rows out n → (firstRows out n ≡ rows) × Table out n × (length out ≡ foldedSize)
+pub stands-table : (rows : List Row) (out : List ℕ) (n : ℕ) → Wide stride rows → Ascending rows → StandsFolded rows out n → (firstRows out n ≡ rows) × Table out n × (length out ≡ foldedSize)
 unfolding stored
 stands-table rows out n wide asc s =
     let back : firstRows out n ≡ rows = rw (s .is, s .count) (rows-stored stride rows (replicate foldedSize 0) wide) in
@@ -149,7 +149,7 @@ module _ (bs : Bytes) (t w : ℕ) (start : List Row) (words : List ℕ) (count a
       )
       go false = (wide-rows stride words 0 count, ascending-holds (firstRows words count) (f .table .asc))
 
-  pub folded-more : (out : List ℕ) (more next : ℕ) → w ≤ maxWidth → Stands (cond (eqb (fieldAt bs at 0) t) (actOn bs at w (firstRows words count)) (firstRows words count)) out more →
+  pub folded-more : (out : List ℕ) (more next : ℕ) → w ≤ maxWidth → StandsFolded (cond (eqb (fieldAt bs at 0) t) (actOn bs at w (firstRows words count)) (firstRows words count)) out more →
       more ≤ count + 1 → next ≡ at + lengthAt bs at → Folded bs t w start out more next
   folded-more out more next narrow s few k =
       let fine : Wide stride after × Ascending after = after-fine narrow in
@@ -163,7 +163,7 @@ module _ (bs : Bytes) (t w : ℕ) (start : List Row) (words : List ℕ) (count a
       })
 
 pub folded-end : (bs : Bytes) (t w : ℕ) (start : List Row) (words : List ℕ) (count at : ℕ) → Folded bs t w start words count at → length bs ≤ at →
-    Stands (foldAt bs t w (offsets bs) start) words count
+    StandsFolded (foldAt bs t w (offsets bs) start) words count
 folded-end bs t w start words count at f h =
     let same : foldAt bs t w (offsets bs) start ≡ firstRows words count = f .same ∙ ap (λ (l : List ℕ). foldAt bs t w l (firstRows words count)) (remaining-none bs at h) in
     rw same (f .table .stands)

@@ -12,12 +12,12 @@ use Rattle.model.specs.Areas.{padded, foldedSize, stride}
 use Rattle.rows.specs.Rows.{firstRows, Standing}
 
 -- at most 128 rows of words, as many as a table can have while a batch is folded
-abbrev pub Stands : List Row → List ℕ → ℕ → Type 0
-Stands rows words n = Standing foldedRows foldedSize rows words n
+abbrev pub StandsFolded : List Row → List ℕ → ℕ → Type 0
+StandsFolded rows words n = Standing foldedRows foldedSize rows words n
 
 -- rows of words, ascending
 pub record Table (words : List ℕ) (n : ℕ) : Type 0 where
-  pub stands : Stands (firstRows words n) words n
+  pub stands : StandsFolded (firstRows words n) words n
   pub asc : ascending (firstRows words n) ≡ true
 
 -- the event at an offset on some rows, its own row of a width, in the form of those rows
@@ -35,6 +35,7 @@ foldIn form bs t w (at ∷ ats) rows = foldIn form bs t w ats
 abbrev pub actOn : Bytes → ℕ → ℕ → List Row → List Row
 actOn bs at w rows = actIn (padded stride) bs at w rows
 
+-- a table's events on such rows
 abbrev pub foldAt : Bytes → ℕ → ℕ → List ℕ → List Row → List Row
 foldAt bs t w ats rows = foldIn (padded stride) bs t w ats rows
 

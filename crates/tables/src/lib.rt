@@ -9,7 +9,7 @@ ghost use Rattle.model.specs.Batch.{rowIn, foldedRows};
 ghost use Rattle.model.specs.Areas.{padded, foldedSize, stride};
 ghost use Rattle.model.specs.Row.{maxRows, maxWidth};
 ghost use Rattle.rows.specs.Rows.{firstRows};
-ghost use Rattle.tables.specs.Fold.{Stands, Table, actOn, foldAt, Foldable};
+ghost use Rattle.tables.specs.Fold.{StandsFolded, Table, actOn, foldAt, Foldable};
 use records::MAX_EVENTS;
 use records::PUT;
 use rows::Inserted;
@@ -39,7 +39,7 @@ fn event_row(bytes: &[u8], at: usize, width: usize) -> [u32; STRIDE]
 fn act(words: &mut [u32], n: usize, bytes: &[u8], at: usize, width: usize) -> usize
     requires { ⌜ (width ≤ maxWidth) × (at + 6 + 4 * width ≤ length (now bytes)) × Table (now words) n
         × (n < foldedRows) × (length (now words) ≡ foldedSize) ⌝ }
-    ensures { λ r. ⌜ Stands (actOn (now (bytes .entry)) at width (firstRows (now (words .entry)) n))
+    ensures { λ r. ⌜ StandsFolded (actOn (now (bytes .entry)) at width (firstRows (now (words .entry)) n))
         (now (words .exit)) r × (r ≤ n + 1) ⌝ }
 {
     let row = event_row(bytes, at, width);
@@ -68,7 +68,7 @@ fn fold_one(
     requires { ⌜ (width ≤ maxWidth) × (at + 6 ≤ length (now bytes))
         × (fieldAt (now bytes) at 0 ≡ table → at + 6 + 4 * width ≤ length (now bytes))
         × Table (now words) n × (n < foldedRows) × (length (now words) ≡ foldedSize) ⌝ }
-    ensures { λ r. ⌜ Stands
+    ensures { λ r. ⌜ StandsFolded
         (cond (eqb (fieldAt (now (bytes .entry)) at 0) table)
         (actOn (now (bytes .entry)) at width (firstRows (now (words .entry)) n))
         (firstRows (now (words .entry)) n)) (now (words .exit)) r × (r ≤ n + 1) ⌝ }
@@ -83,7 +83,7 @@ fn fold_one(
 pub fn fold(words: &mut [u32], n: usize, bytes: &[u8], table: usize, width: usize) -> usize
     requires { ⌜ Foldable (now bytes) table width × Table (now words) n × (n ≤ maxRows)
         × (length (now words) ≡ foldedSize) ⌝ }
-    ensures { λ r. ⌜ Stands (foldAt (now (bytes .entry)) table width (offsets (now (bytes .entry)))
+    ensures { λ r. ⌜ StandsFolded (foldAt (now (bytes .entry)) table width (offsets (now (bytes .entry)))
         (firstRows (now (words .entry)) n))
         (now (words .exit)) r ⌝ }
 {

@@ -19,6 +19,7 @@ use Rattle.test_batches.specs.declared.Kind.the-variants.{Name, Network,
 abbrev pub kinds : List Kind
 kinds = Report ∷ Name ∷ Network ∷ Batch ∷ []
 
+-- an operation's kind, by its number
 abbrev pub kindOf : ℕ → Kind
 kindOf number = getD kinds number Report
 

@@ -43,9 +43,11 @@ reportOf n = cond (eqb n 10) ShortLost Few
 abbrev pub shortOf : ℕ → Call
 shortOf n = cond (eqb n 8) ShortRows (cond (eqb n 9) ShortGained (cond (eqb n 11) ShortHead (reportOf n)))
 
+-- a call, by its operation's number
 abbrev pub callOf : ℕ → Call
 callOf n = cond (eqb n 4) Open (cond (eqb n 5) Check (cond (eqb n 6) Report (shortOf n)))
 
+-- an operation's kind, by its number
 abbrev pub kindOf : ℕ → Kind
 kindOf n = cond (eqb n 1) Name (cond (eqb n 2) Network (cond (eqb n 3) Word (cond (eqb n 7) Values (Calls (callOf n)))))
 
@@ -59,12 +61,15 @@ short = replicate (headWords - 1) 0
 abbrev pub withRows : List ℕ → Areas → Areas
 withRows l a = lent l (a .gained) (a .lost) (a .head)
 
+-- the areas with other gained rows
 abbrev pub withGained : List ℕ → Areas → Areas
 withGained l a = lent (a .rows) l (a .lost) (a .head)
 
+-- the areas with other lost rows
 abbrev pub withLost : List ℕ → Areas → Areas
 withLost l a = lent (a .rows) (a .gained) l (a .head)
 
+-- the areas with another head
 abbrev pub withHead : List ℕ → Areas → Areas
 withHead l a = lent (a .rows) (a .gained) (a .lost) l
 

@@ -10,7 +10,7 @@ use Rattle.model.specs.Record.{Bytes}
 use Rattle.model.specs.Areas.{layout, longEnough}
 use Rattle.areas.specs.Lent.{lent}
 use Rattle.test_packed.specs.declared.Vector.{Vector}
-use Rattle.test_packed.specs.Packed.{Inside, vectorAt}
+use Rattle.test_packed.specs.Packed.{LiesWithin, vectorAt}
 use Rattle.test_counting.specs.Counted.{Counted, comesOut, goodOf, vectorsFrom}
 
 -- areas of the same lengths are long enough too
@@ -45,7 +45,7 @@ module _ (packed : Bytes) where
   count-start = record { fuel = length packed; enough = omega arith; all-is = omega arith; good-is = omega arith; few = omega arith; fewer = omega arith; inside = omega arith }
 
   module _ (all good at : ℕ) (k : Counting packed all good at) where
-    pub count-more : at < length packed → (v : Vector) → v ≡ vectorAt packed at → Inside at (length packed) v → (one : ℕ) → one ≡ cond (comesOut packed v) 1 0 → one ≤ 1 →
+    pub count-more : at < length packed → (v : Vector) → v ≡ vectorAt packed at → LiesWithin at (length packed) v → (one : ℕ) → one ≡ cond (comesOut packed v) 1 0 → one ≤ 1 →
         Counting packed (all + 1) (good + one) (v .next)
     count-more h v e i one o few = go (k .fuel) (k .enough) (k .all-is) (k .good-is)
       where

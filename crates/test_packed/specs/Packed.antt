@@ -41,7 +41,7 @@ vectorAt packed at =
     (within (length packed) (vectorOf (u32 packed at) (u32 packed (at + 4)) (u32 packed (at + 8)) (at + 12)))
 
 -- a vector ends after its offset, inside the packed bytes, and its parts stand in order inside it
-pub record Inside (at size : ℕ) (v : Vector) : Type 0 where
+pub record LiesWithin (at size : ℕ) (v : Vector) : Type 0 where
   pub after : at < v .next
   pub network : v .from ≤ v .file
   pub batches : v .file ≤ v .text

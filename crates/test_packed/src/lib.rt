@@ -2,7 +2,7 @@
 ghost use mathlib.Core.Path.{_≡_};
 ghost use Prim.Native.Nat.{_≤_, _<_};
 ghost use lib.ListN.{length};
-ghost use Rattle.test_packed.specs.Packed.{Inside, packedSize, standsAt, vectorAt};
+ghost use Rattle.test_packed.specs.Packed.{LiesWithin, packedSize, standsAt, vectorAt};
 use stages::MAX_FILE;
 
 // A vector: the sizes of its two files, where its network, its batches and the text that it must print begin, and where the next vector does.
@@ -28,7 +28,7 @@ fn packed_size(size: usize) -> usize
 // The vector at an offset: three sizes of 4 bytes, then the bytes. Past the end of the packed bytes one with nothing in it.
 pub fn vector_at(packed: &[u8], at: usize) -> Vector
     requires { ⌜ (at < length (now packed)) × (length (now packed) ≤ 409600) ⌝ }
-    ensures { λ r. ⌜ (r ≡ vectorAt (now (packed .entry)) at) × Inside at (length (now (packed .entry))) r ⌝ }
+    ensures { λ r. ⌜ (r ≡ vectorAt (now (packed .entry)) at) × LiesWithin at (length (now (packed .entry))) r ⌝ }
 {
     let end = packed.len();
     let none = Vector {

@@ -32,6 +32,7 @@ fn run_file(
     test_counting::run_vectors(&packed[..n], rows, gained, lost, head, out)
 }
 
+// Both packed files, and how many of their vectors come out.
 fn main() {
     let mut out = [0u8; program::ROOM];
     let mut rows = [0u32; AREA];
