@@ -5,7 +5,7 @@ use network::Reading;
 
 // Reads the network and judges the areas: refusals 1 to 8.
 pub fn read_areas(net: &[u8], rows: &[u32], gained: &[u32], lost: &[u32], head: &[u32]) -> Reading
-    ensures { λ r. ⌜ Admits (now (net .entry))
+    ensures admits { λ r. ⌜ Admits (now (net .entry))
         (lent (now (rows .entry)) (now (gained .entry)) (now (lost .entry)) (now (head .entry))) r ⌝ }
 {
     if !areas::long_enough(rows, gained, lost, head) {

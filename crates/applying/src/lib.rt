@@ -13,7 +13,7 @@ pub fn apply(
     lost: &mut [u32],
     head: &mut [u32],
 ) -> Verdict
-    ensures { λ r. ⌜ Applied (now (net .entry)) (now (batch .entry))
+    ensures applies { λ r. ⌜ Applied (now (net .entry)) (now (batch .entry))
         (lent (now (rows .entry)) (now (gained .entry)) (now (lost .entry)) (now (head .entry)))
         (resultWith r (lent (now (rows .exit)) (now (gained .exit)) (now (lost .exit)) (now (head .exit)))) ⌝ }
 {

@@ -38,7 +38,7 @@ pub const HEAD: usize = WORKED + 1 + MAX_NODES;
 
 // Whether every area has its named words.
 pub fn long_enough(rows: &[u32], gained: &[u32], lost: &[u32], head: &[u32]) -> bool
-    ensures { λ r. ⌜ r ≡ longEnough layout
+    ensures tells { λ r. ⌜ r ≡ longEnough layout
         (lent (now (rows .entry)) (now (gained .entry)) (now (lost .entry)) (now (head .entry))) ⌝ }
 {
     if rows.len() < AREA {
@@ -186,7 +186,7 @@ pub fn good_form(
 ) -> bool
     requires { ⌜ (n ≤ length (now widths)) × Narrow (now widths)
         × (longEnough layout (lent (now rows) (now gained) (now lost) (now head)) ≡ true) ⌝ }
-    ensures { λ r. ⌜ ((nodes : List Node) → take n (now (widths .entry)) ≡ Rattle.model.specs.Network.widths nodes →
+    ensures tells { λ r. ⌜ ((nodes : List Node) → take n (now (widths .entry)) ≡ Rattle.model.specs.Network.widths nodes →
         r ≡ goodForm layout nodes (lent (now (rows .entry)) (now (gained .entry)) (now (lost .entry))
         (now (head .entry)))) ⌝ }
 {

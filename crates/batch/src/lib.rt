@@ -47,7 +47,7 @@ pub fn apply_batch(
     head: &mut [u32],
 ) -> Verdict
     requires { ⌜ Applicable net (lent (now rows) (now gained) (now lost) (now head)) ⌝ }
-    ensures { λ r. ⌜ AppliedTo net (now (bytes .entry))
+    ensures applies { λ r. ⌜ AppliedTo net (now (bytes .entry))
         (lent (now (rows .entry)) (now (gained .entry)) (now (lost .entry)) (now (head .entry)))
         (resultWith r (lent (now (rows .exit)) (now (gained .exit)) (now (lost .exit)) (now (head .exit)))) ⌝ }
 {

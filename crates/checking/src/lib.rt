@@ -13,7 +13,7 @@ pub struct CheckAnswer {
 
 // Whether the areas are coherent: refusals 1 to 8, or yes or no. Nothing is written.
 pub fn check(net: &[u8], rows: &[u32], gained: &[u32], lost: &[u32], head: &[u32]) -> CheckAnswer
-    ensures { λ r. ⌜ checkAnswerOf r
+    ensures checks { λ r. ⌜ checkAnswerOf r
         ≡ checkCall (now (net .entry))
         (lent (now (rows .entry)) (now (gained .entry)) (now (lost .entry)) (now (head .entry))) ⌝ }
 {

@@ -95,7 +95,7 @@ fn node_agrees(
 // Whether areas whose rows are of good form are coherent.
 pub fn is_coherent(net: Network, rows: &[u32], head: &[u32]) -> bool
     requires { ⌜ Checkable net (now rows) (now head) ⌝ }
-    ensures { λ r. ⌜ r ≡ freshIn net (now (rows .entry)) (now (head .entry)) ⌝ }
+    ensures tells { λ r. ⌜ r ≡ freshIn net (now (rows .entry)) (now (head .entry)) ⌝ }
 {
     let count = net.count;
     let mut i = 0;

@@ -100,7 +100,7 @@ fn number_of(reading: EventRecord) -> usize
 // What reading a batch says: refusals 10 to 13, the first record that fails decides.
 pub fn read_batch(net: Network, bytes: &[u8]) -> Verdict
     requires { ⌜ Built net ⌝ }
-    ensures { λ r. ⌜ verdictOf r ≡ readBatch (nodesOf net) (now (bytes .entry)) .verdict ⌝ }
+    ensures reads { λ r. ⌜ verdictOf r ≡ readBatch (nodesOf net) (now (bytes .entry)) .verdict ⌝ }
 {
     let count = net.count;
     let levels = net.levels;

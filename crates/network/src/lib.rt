@@ -160,7 +160,7 @@ pub fn refused_reading(number: usize, place: usize) -> Reading
 
 // A network from its bytes: refusals 2 to 7. It is built in place, so that no record copies it.
 pub fn read_network(bytes: &[u8]) -> Reading
-    ensures { λ r. ⌜ ReadsNetwork (now (bytes .entry)) r ⌝ }
+    ensures reads { λ r. ⌜ ReadsNetwork (now (bytes .entry)) r ⌝ }
 {
     if bytes.len() == 0 {
         return refused_reading(2, 0);
@@ -231,7 +231,7 @@ pub struct Answer {
 
 // The reader: refusals 2 to 7, or what it answers.
 pub fn read(bytes: &[u8]) -> Answer
-    ensures { λ r. ⌜ answerOf r ≡ readCall (now (bytes .entry)) ⌝ }
+    ensures answers { λ r. ⌜ answerOf r ≡ readCall (now (bytes .entry)) ⌝ }
 {
     let reading = read_network(bytes);
     let verdict = reading.verdict;

@@ -29,7 +29,7 @@ pub fn open(
     lost: &mut [u32],
     head: &mut [u32],
 ) -> Verdict
-    ensures { λ r. ⌜ resultWith r (lent (now (rows .exit)) (now (gained .exit)) (now (lost .exit)) (now (head .exit)))
+    ensures opens { λ r. ⌜ resultWith r (lent (now (rows .exit)) (now (gained .exit)) (now (lost .exit)) (now (head .exit)))
         ≡ openCall (now (net .entry))
         (lent (now (rows .entry)) (now (gained .entry)) (now (lost .entry)) (now (head .entry))) ⌝ }
 {

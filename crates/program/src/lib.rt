@@ -26,7 +26,7 @@ pub fn step(
 ) -> Said
     requires { ⌜ Ready (files n b (now net) (now file)) stage (lent (now rows) (now gained) (now lost) (now head))
         × (nodeRoom ≤ length (now out)) ⌝ }
-    ensures { λ r. ⌜ Says (files n b (now (net .entry)) (now (file .entry))) stage
+    ensures says { λ r. ⌜ Says (files n b (now (net .entry)) (now (file .entry))) stage
         (lent (now (rows .entry)) (now (gained .entry)) (now (lost .entry)) (now (head .entry)))
         (lent (now (rows .exit)) (now (gained .exit)) (now (lost .exit)) (now (head .exit))) (now (out .entry))
         (now (out .exit)) r ⌝ }

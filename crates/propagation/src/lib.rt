@@ -46,7 +46,7 @@ pub fn propagate(
     requires { ⌜ Propagatable net (now rows) (now head) (now bytes) × (length (now work) ≡ areaSize)
         × (now counts ≡ replicate maxNodes 0)
         × (now changed ≡ replicate maxNodes false) ⌝ }
-    ensures { λ r. ⌜ Propagates (now (head .entry))
+    ensures propagates { λ r. ⌜ Propagates (now (head .entry))
         (newRows net (now (rows .entry)) (now (head .entry)) (now (bytes .entry))) (net .count)
         (working (net .widths) (now (rows .entry)) (now (work .exit)) (now (counts .exit)) (now (changed .exit))) r ⌝ }
 {

@@ -51,7 +51,7 @@ pub fn replay(
     lost: &mut [u32],
     head: &mut [u32],
 ) -> Verdict
-    ensures { λ r. ⌜ Replayed (now (net .entry)) (now (file .entry))
+    ensures replays { λ r. ⌜ Replayed (now (net .entry)) (now (file .entry))
         (lent (now (rows .entry)) (now (gained .entry)) (now (lost .entry)) (now (head .entry)))
         (resultWith r (lent (now (rows .exit)) (now (gained .exit)) (now (lost .exit)) (now (head .exit)))) ⌝ }
 {

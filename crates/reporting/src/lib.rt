@@ -83,7 +83,7 @@ pub fn report(
     head: &[u32],
     out: &mut [u8],
 ) -> ReportAnswer
-    ensures { λ r. ⌜ reportAnswerOf r (now (out .exit))
+    ensures reports { λ r. ⌜ reportAnswerOf r (now (out .exit))
         ≡ reportCall (now (net .entry)) node
         (lent (now (rows .entry)) (now (gained .entry)) (now (lost .entry)) (now (head .entry)))
         (now (out .entry)) ⌝ }

@@ -86,7 +86,7 @@ pub fn write_state(
     requires { ⌜ WorkedOut net (now rows) (now gained) (now lost) (now head) (now work) (now counts) (now changed)
         × AllFit (nodesOf net)
         × (batchNumber (now head) ≡ 4294967295 → ⊥) ⌝ }
-    ensures { λ _. ⌜ ((o : WorkedOut net (now (rows .entry)) (now (gained .entry)) (now (lost .entry))
+    ensures writes { λ _. ⌜ ((o : WorkedOut net (now (rows .entry)) (now (gained .entry)) (now (lost .entry))
         (now (head .entry)) (now (work .entry))
         (now (counts .entry)) (now (changed .entry))) (copy : List Relation) →
         lent (now (rows .exit)) (now (gained .exit)) (now (lost .exit)) (now (head .exit))
