@@ -2,7 +2,7 @@
 use mathlib.Core.Bool.{_&&_, true}
 use mathlib.Core.List.{List, [], flatMap, _∷_}
 use mathlib.Core.Path.{refl, _≡_}
-use Prim.Native.Nat.{_+_, _<_, zero-le, ℕ, _≤_}
+use Prim.Native.Nat.{_*_, _+_, _<_, zero-le, ℕ, _≤_}
 use native.Mathlib.Omega.{arith}
 use lib.ListN.{length, take}
 use lib.Dec.{ltb}
@@ -13,7 +13,7 @@ use Rattle.joins.specs.Joins.{JoinFits, JoinsIn}
 use Rattle.selections.specs.Selections.{OperandIn}
 use Rattle.nodes.specs.declared.Operand.the-variants.{Column, Constant}
 use Rattle.joins.specs.declared.Joining.{Joining}
-use Rattle.model.specs.Network.{columnsBelow, operandBelow, pairsBelow, fitsOn}
+use Rattle.model.specs.Network.{columnsBelow, operandBelow, pairsBelow, fitsOn, maxPairs}
 use Rattle.model.specs.Algebra.{Pair}
 use Rattle.model.proofs.Sets.{and-both, and-first, and-second}
 use Rattle.joins.proofs.Rows.{columns-more}
@@ -64,7 +64,7 @@ pairs-more v w (p ∷ pairs) h g e =
     (pairs-more v w pairs h g (and-second (ltb (p .left) v && ltb (p .right) w) (pairsBelow v w pairs) e))
 
 -- a join that fits its inputs
-pub join-fits : (how : Joining) (w : ℕ) → how .split ≤ maxWidth → w ≤ maxWidth → how .p ≤ 2 → how .n ≤ maxWidth → length (how .pairs) ≡ stride → length (how .columns) ≡ stride
+pub join-fits : (how : Joining) (w : ℕ) → how .split ≤ maxWidth → w ≤ maxWidth → how .p ≤ maxPairs → how .n ≤ maxWidth → length (how .pairs) ≡ 2 * maxPairs → length (how .columns) ≡ stride
     → JoinsIn how w → JoinFits how
 join-fits how w h g p n lp lc inside =
     record {

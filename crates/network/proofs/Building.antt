@@ -23,7 +23,7 @@ use Rattle.network.specs.declared.Slot.{Slot}
 use Rattle.network.specs.declared.Network.{Network}
 use Rattle.nodes.proofs.Lists.{length-fieldsAt}
 use Rattle.model.specs.Network as model
-use Rattle.model.specs.Row.{maxNodes}
+use Rattle.model.specs.Row.{maxNodes, maxWidth}
 
 -- ---- bounds of a list with one element changed
 
@@ -115,7 +115,7 @@ module _ (net : Network) (slot : Slot) (width level : ℕ) (next : NextSlot net 
           signs-length = next .built .signs-length;
           sound = sound-grown;
           shaped = shaped-grown;
-          narrow = set-below (λ i. 4) (net .widths) (net .count) width (next .built .narrow) (next .narrow);
+          narrow = set-below (λ i. maxWidth) (net .widths) (net .count) width (next .built .narrow) (next .narrow);
           low = set-below (λ i. i) (net .levels) (net .count) level (next .built .low) (next .low);
           unwatched = λ i h. next .built .unwatched i (omega arith);
           widths-end = set-ends (net .widths) (net .count) width (next .built .widths-end);

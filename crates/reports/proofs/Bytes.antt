@@ -14,7 +14,7 @@ use Rattle.model.specs.Calls.{changeRecord, recordOf, reportBytes}
 use Rattle.model.specs.Watched.{allows, wasGained, wasLost}
 use Rattle.model.proofs.Watched.{flat-changes}
 use Rattle.model.specs.Delta.{Change}
-use Rattle.model.specs.Areas.{fields, heldIn, layout, placeSize}
+use Rattle.model.specs.Areas.{fields, heldIn, layout, placeSize, stride}
 use Rattle.rows.proofs.Place.{fields-split, held-wide, length-held}
 use Rattle.model.proofs.Parts.{flat-append, flat-one}
 
@@ -66,11 +66,11 @@ map-counted f from (suc n) =
     rw g (ap (λ (l : List Row). f from ∷ l) (map-counted f (suc from) n ∙ rw e))
 
 -- one row more of a node's place
-pub held-more : (w j : ℕ) (area : List ℕ) (node : ℕ) → heldIn layout w (j + 1) area node ≡ heldIn layout w j area node ++ (fields w area (node * placeSize + j * 4) ∷ [])
+pub held-more : (w j : ℕ) (area : List ℕ) (node : ℕ) → heldIn layout w (j + 1) area node ≡ heldIn layout w j area node ++ (fields w area (node * placeSize + j * stride) ∷ [])
 unfolding heldIn
 held-more w j area node =
-    let e : placeSize * node + 4 * (0 + j) ≡ node * placeSize + j * 4 = omega arith in
-    map-counted (λ k. fields w area (placeSize * node + 4 * k)) 0 j ∙ ap (λ (k : ℕ). map (λ i. fields w area (placeSize * node + 4 * i)) (numbersBelow j) ++ (fields w area k ∷ [])) e
+    let e : placeSize * node + stride * (0 + j) ≡ node * placeSize + j * stride = omega arith in
+    map-counted (λ k. fields w area (placeSize * node + stride * k)) 0 j ∙ ap (λ (k : ℕ). map (λ i. fields w area (placeSize * node + stride * i)) (numbersBelow j) ++ (fields w area k ∷ [])) e
 
 pub held-none : (kind node w : ℕ) (area : List ℕ) → recordsOf kind node (heldIn layout w 0 area node) ≡ []
 unfolding heldIn flatMap
@@ -80,11 +80,11 @@ pub held-size : (kind node w j : ℕ) (area : List ℕ) → length (recordsOf ki
 held-size kind node w j area = records-size kind node w (heldIn layout w j area node) (held-wide layout w j area node) ∙ ap (λ (n : ℕ). n * (6 + 4 * w)) (length-held layout w j area node)
 
 pub records-more : (kind node w j : ℕ) (area : List ℕ) → recordsOf kind node (heldIn layout w (j + 1) area node) ≡ recordsOf kind node (heldIn layout w j area node) ++ changeRecord kind node
-    (fields w area (node * placeSize + j * 4))
+    (fields w area (node * placeSize + j * stride))
 records-more kind node w j area =
     ap (recordsOf kind node) (held-more w j area node)
-    ∙ flat-append (changeRecord kind node) (heldIn layout w j area node) (fields w area (node * placeSize + j * 4) ∷ [])
-    ∙ ap (λ (l : List ℕ). recordsOf kind node (heldIn layout w j area node) ++ l) (flat-one (changeRecord kind node) (fields w area (node * placeSize + j * 4)))
+    ∙ flat-append (changeRecord kind node) (heldIn layout w j area node) (fields w area (node * placeSize + j * stride) ∷ [])
+    ∙ ap (λ (l : List ℕ). recordsOf kind node (heldIn layout w j area node) ++ l) (flat-one (changeRecord kind node) (fields w area (node * placeSize + j * stride)))
 
 pub allowed-size-is : (t : Bool) (kind node w n : ℕ) (area : List ℕ) → length (allowedOf t kind node (heldIn layout w n area node)) ≡ cond t (n * (6 + 4 * w)) 0
 allowed-size-is true kind node w n area = held-size kind node w n area
@@ -92,12 +92,12 @@ allowed-size-is false kind node w n area = refl
 
 -- ---- sizes
 
-pub size-bound : (n w : ℕ) → n ≤ maxRows → w ≤ maxWidth → n * (6 + 4 * w) ≤ 1408
+pub size-bound : (n w : ℕ) → n ≤ maxRows → w ≤ maxWidth → n * (6 + 4 * w) ≤ maxRows * (6 + 4 * maxWidth)
 size-bound n w h g =
-    let a : n * (6 + 4 * w) ≤ 64 * (6 + 4 * w) = mul-le-mul-right (6 + 4 * w) h in
+    let a : n * (6 + 4 * w) ≤ maxRows * (6 + 4 * w) = mul-le-mul-right (6 + 4 * w) h in
     omega arith
 
-pub allowed-bound : (t : Bool) (n w : ℕ) → n ≤ maxRows → w ≤ maxWidth → cond t (n * (6 + 4 * w)) 0 ≤ 1408
+pub allowed-bound : (t : Bool) (n w : ℕ) → n ≤ maxRows → w ≤ maxWidth → cond t (n * (6 + 4 * w)) 0 ≤ maxRows * (6 + 4 * maxWidth)
 allowed-bound true n w h g = size-bound n w h g
 allowed-bound false n w h g = zero-le
 

@@ -9,7 +9,7 @@ use native.Mathlib.Omega.{arith}
 use lib.ListN.{getD, set, take, length, length-append}
 use lib.Seq.{sets, getD-take}
 use Rattle.model.specs.Delta.{Change}
-use Rattle.model.specs.Areas.{padded, fields, heldIn, layout, placeSize}
+use Rattle.model.specs.Areas.{padded, fields, heldIn, layout, placeSize, stride}
 use Rattle.model.specs.Watched.{allows, changesOf, wasGained, wasLost}
 use Rattle.model.specs.Text.{changeLine, line, nodeLines}
 use Rattle.model.proofs.Watched.{flat-changes}
@@ -26,12 +26,12 @@ use Rattle.admission.proofs.Changes.{change-at}
 use Rattle.station_lines.specs.Lines.{Put, linesIn, changeLines}
 
 -- one field more of a row
-pub numbers-more : (node k : ℕ) (words : List ℕ) (from : ℕ) (numbers : List ℕ) (x : ℕ) → k < 4 → numbers ≡ padded (1 + maxWidth) (node ∷ fields k words from) → x ≡ getD words (from + k) 0 →
+pub numbers-more : (node k : ℕ) (words : List ℕ) (from : ℕ) (numbers : List ℕ) (x : ℕ) → k < maxWidth → numbers ≡ padded (1 + maxWidth) (node ∷ fields k words from) → x ≡ getD words (from + k) 0 →
     set numbers (k + 1) x ≡ padded (1 + maxWidth) (node ∷ fields (k + 1) words from)
 unfolding fields
 numbers-more node k words from numbers x h e f =
     ap₂ {A = List ℕ} {B = ℕ} {C = List ℕ} (λ n y. set n (k + 1) y) e f
-    ∙ padded-more 5 (node ∷ fields k words from) (getD words (from + k) 0) (k + 1) (omega (arith, length-fields k words from)) (omega arith)
+    ∙ padded-more (1 + maxWidth) (node ∷ fields k words from) (getD words (from + k) 0) (k + 1) (omega (arith, length-fields k words from)) (omega arith)
     ∙ ap (λ (l : List ℕ). padded (1 + maxWidth) (node ∷ l)) (sym (fields-split k 1 words from))
 
 -- the numbers of a line, without the zeros
@@ -42,19 +42,19 @@ numbers-taken node w words from numbers h e = ap (take (w + 1)) e ∙ take-padde
 -- one row more
 pub lines-more : (sign node w j : ℕ) (area out before after : List ℕ) (at to r : ℕ) → before ≡ sets out at (changeLines sign node (heldIn layout w j area node)) →
     to ≡ at + length (changeLines sign node (heldIn layout w j area node)) →
-    after ≡ sets before to (line (sign ∷ []) (node ∷ fields w area (node * placeSize + j * 4))) → r ≡ to + length (line (sign ∷ []) (node ∷ fields w area (node * placeSize + j * 4))) →
+    after ≡ sets before to (line (sign ∷ []) (node ∷ fields w area (node * placeSize + j * stride))) → r ≡ to + length (line (sign ∷ []) (node ∷ fields w area (node * placeSize + j * stride))) →
     (after ≡ sets out at (changeLines sign node (heldIn layout w (j + 1) area node))) × (r ≡ at + length (changeLines sign node (heldIn layout w (j + 1) area node)))
 unfolding changeLines
 lines-more sign node w j area out before after at to r e f g h =
-    let one : List ℕ = line (sign ∷ []) (node ∷ fields w area (node * placeSize + j * 4)) in
+    let one : List ℕ = line (sign ∷ []) (node ∷ fields w area (node * placeSize + j * stride)) in
     let all : changeLines sign node (heldIn layout w (j + 1) area node) ≡ changeLines sign node (heldIn layout w j area node) ++ line (sign ∷ [])
-    (node ∷ fields w area (node * placeSize + j * 4)) =
+    (node ∷ fields w area (node * placeSize + j * stride)) =
     ap (changeLines sign node) (held-more w j area node)
-    ∙ flat-append (λ x. line (sign ∷ []) (node ∷ x)) (heldIn layout w j area node) (fields w area (node * placeSize + j * 4) ∷ [])
-    ∙ ap (λ (l : List ℕ). changeLines sign node (heldIn layout w j area node) ++ l) (flat-one (λ x. line (sign ∷ []) (node ∷ x)) (fields w area (node * placeSize + j * 4))) in (
-      sets-more out before after at to (changeLines sign node (heldIn layout w j area node)) (line (sign ∷ []) (node ∷ fields w area (node * placeSize + j * 4))) e f g
+    ∙ flat-append (λ x. line (sign ∷ []) (node ∷ x)) (heldIn layout w j area node) (fields w area (node * placeSize + j * stride) ∷ [])
+    ∙ ap (λ (l : List ℕ). changeLines sign node (heldIn layout w j area node) ++ l) (flat-one (λ x. line (sign ∷ []) (node ∷ x)) (fields w area (node * placeSize + j * stride))) in (
+      sets-more out before after at to (changeLines sign node (heldIn layout w j area node)) (line (sign ∷ []) (node ∷ fields w area (node * placeSize + j * stride))) e f g
           ∙ ap (sets out at) (sym all),
-      omega (arith, f, h, ap length all, length-append (changeLines sign node (heldIn layout w j area node)) (line (sign ∷ []) (node ∷ fields w area (node * placeSize + j * 4)))),
+      omega (arith, f, h, ap length all, length-append (changeLines sign node (heldIn layout w j area node)) (line (sign ∷ []) (node ∷ fields w area (node * placeSize + j * stride)))),
     )
 
 pub lines-none : (sign node w : ℕ) (area out : List ℕ) (at : ℕ) → (out ≡ sets out at (changeLines sign node (heldIn layout w 0 area node)))

@@ -16,13 +16,13 @@ use Rattle.network.proofs.columns_of.Lts as lts
 use Rattle.records.proofs.field_at.Reads as field-at-reads
 
 abbrev Inv-loop : tie.InvT-loop
-Inv-loop bytes at k n fields₀ i₀ fields i = (i ≤ n) × (length fields ≡ 4) × (take i fields ≡ fieldsAt bytes at k i) × Ends i fields
+Inv-loop bytes at k n fields₀ i₀ fields i = (i ≤ n) × (length fields ≡ maxWidth) × (take i fields ≡ fieldsAt bytes at k i) × Ends i fields
 
 abbrev μ-loop : tie.MeasureT-loop
 μ-loop bytes at k n fields₀ i₀ fields i = n - i
 
 loop-holds : tie.Need-loop-holds Inv-loop μ-loop
-loop-holds c = (omega arith, refl, refl, λ j h. zero-at 4 j)
+loop-holds c = (omega arith, refl, refl, λ j h. zero-at maxWidth j)
 
 add-field-at : tie.Need-add-field-at Inv-loop μ-loop
 add-field-at c = omega (arith, c .before .before .before .pre .0 (omega arith))

@@ -5,7 +5,7 @@ use lib.ListN.{length}
 use lib.Seq.{length-sets, sets}
 use Rattle.reports.proofs.put_records.Statement.{statement}
 use Rattle.model.specs.Calls.{changeRecord}
-use Rattle.model.specs.Areas.{fields, heldIn, layout, placeSize}
+use Rattle.model.specs.Areas.{fields, heldIn, layout, placeSize, stride}
 use Rattle.reports.proofs.Bytes.{held-none, held-size, records-more, size-bound, step-inside}
 use Rattle.model.proofs.Parts.{sets-more}
 use Rattle.reports.specs.Written.{recordsOf}
@@ -71,7 +71,7 @@ loop-again c =
     let here = sets-more (a .out .now) (c .before .before .before .before .before .loop .out) (c .before .before .put-record .last .0) (a .at)
     (a .at + c .before .before .before .before .before .loop .j * (6 + 4 * a .w))
     (recordsOf (a .kind) (a .node) (heldIn layout (a .w) (c .before .before .before .before .before .loop .j) (a .area .now) (a .node)))
-    (changeRecord (a .kind) (a .node) (fields (a .w) (a .area .now) (a .node * placeSize + c .before .before .before .before .before .loop .j * 4)))
+    (changeRecord (a .kind) (a .node) (fields (a .w) (a .area .now) (a .node * placeSize + c .before .before .before .before .before .loop .j * stride)))
     (c .before .before .before .before .before .loop .inv .2)
     (ap (λ (k : ℕ). a .at + k) (sym (held-size (a .kind) (a .node) (a .w) (c .before .before .before .before .before .loop .j) (a .area .now)))) (c .before .before .put-record .ensures) in (
       omega arith,
@@ -79,7 +79,7 @@ loop-again c =
       here ∙ ap (sets (a .out .now) (a .at)) (sym (records-more (a .kind) (a .node) (a .w) (c .before .before .before .before .before .loop .j) (a .area .now))),
       ap length (c .before .before .put-record .ensures) ∙ length-sets (c .before .before .before .before .before .loop .out)
           (a .at + c .before .before .before .before .before .loop .j * (6 + 4 * a .w))
-          (changeRecord (a .kind) (a .node) (fields (a .w) (a .area .now) (a .node * placeSize + c .before .before .before .before .before .loop .j * 4)))
+          (changeRecord (a .kind) (a .node) (fields (a .w) (a .area .now) (a .node * placeSize + c .before .before .before .before .before .loop .j * stride)))
           ∙ c .before .before .before .before .before .loop .inv .3,
     )
 

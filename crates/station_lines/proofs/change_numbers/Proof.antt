@@ -45,7 +45,7 @@ mul-numbers-2 : tie.Need-mul-numbers-2 Inv-loop μ-loop
 mul-numbers-2 c = omega (arith, c .before .loop-test .taken, c .before .before .before .pre .0)
 
 array-write-numbers-2 : tie.Need-array-write-numbers-2 Inv-loop μ-loop
-array-write-numbers-2 c = let a = (c .before .before .before .args) in let size : length (c .before .before .loop .numbers) ≡ 5 = ap length (c .before .before .loop .inv .1)
+array-write-numbers-2 c = let a = (c .before .before .before .args) in let size : length (c .before .before .loop .numbers) ≡ 1 + maxWidth = ap length (c .before .before .loop .inv .1)
     ∙ length-padded (1 + maxWidth) (a .node ∷ fields (c .before .before .loop .k) (a .words .now) (a .from))
     (omega (arith, length-fields (c .before .before .loop .k) (a .words .now) (a .from), c .before .before .loop .inv .0, c .before .before .before .pre .0)) in omega
     (arith, c .before .loop-test .taken, c .before .before .before .pre .0, size)

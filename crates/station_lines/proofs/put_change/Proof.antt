@@ -31,7 +31,7 @@ array-share-prefix-numbers c = search needs
 
 slice-aggregate-put-line-at-2 : tie.Need-slice-aggregate-put-line-at-2
 slice-aggregate-put-line-at-2 c = let a = (c .before .before .before .before .before .before .args) in let size : length (c .before .before .before .change-numbers .result)
-    ≡ 5 = ap length (c .before .before .before .change-numbers .ensures) ∙ length-padded (1 + maxWidth) (a .node ∷ fields (a .w) (a .words .now) (a .from))
+    ≡ 1 + maxWidth = ap length (c .before .before .before .change-numbers .ensures) ∙ length-padded (1 + maxWidth) (a .node ∷ fields (a .w) (a .words .now) (a .from))
     (omega (arith, length-fields (a .w) (a .words .now) (a .from), c .before .before .before .before .before .before .pre .0)) in sym
     (length-take-le (a .w + 1) (c .before .before .before .change-numbers .result) (omega (arith, size, c .before .before .before .before .before .before .pre .0)))
 
