@@ -10,16 +10,17 @@ use Rattle.network.specs.declared.Network.{Network}
 use Rattle.network.specs.declared.Reading.{Reading}
 use Rattle.model.specs.Network.{AllFit, readNetwork, widths}
 use Rattle.model.specs.Areas.{Areas, gainedCount, goodArea, goodForm, goodStamps, goodWorked, layout, lostCount, rowCount}
-use Rattle.network.specs.Reading.{Built, networkOf, nodesOf, verdictOf}
+use Rattle.network.specs.Reading.{Built, networkOf, nodesOf}
+use Rattle.verdicts.specs.Verdicts.{verdictOf}
 use Rattle.model.specs.Record.{Bytes, isAccepted, Verdict}
 use Rattle.admission.specs.Admission.{Changes, Admits}
 use Rattle.coherence.specs.Held.{Checkable, Places}
 use Rattle.areas.proofs.Good.{long-parts}
 use Rattle.model.specs.Calls.{afterForm, formVerdict}
 use Rattle.areas.specs.Lent.{lent}
-use Rattle.model.proofs.Fits.{read-fits, length-widths}
+use Rattle.laws.proofs.Fits.{read-fits, length-widths}
 use Rattle.states.proofs.Fitted.{form-parts, place-good, few-at}
-use Rattle.coherence.proofs.Coherent.{nodes-count, narrow-widths, width-is}
+use Rattle.network.proofs.Nodes.{nodes-count, narrow-widths, width-is}
 use Rattle.model.specs.Network as model
 use Rattle.model.specs.Areas.{areaSize, headWords}
 use Rattle.model.specs.Row.{maxNodes, maxWidth}

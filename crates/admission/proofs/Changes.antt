@@ -11,8 +11,9 @@ use Rattle.model.specs.Delta.{Change, changeAt}
 use Rattle.admission.specs.Admission.{changeIn}
 use Rattle.model.specs.Row.{Relation}
 use Rattle.model.specs.Network.{Node, widths}
-use Rattle.model.proofs.Fits.{length-widths}
-use Rattle.coherence.proofs.Coherent.{nodes-count, width-is, relation-at, relations-length}
+use Rattle.laws.proofs.Fits.{length-widths}
+use Rattle.network.proofs.Nodes.{nodes-count, width-is}
+use Rattle.laws.proofs.Relations.{relation-at, relations-length}
 use Rattle.areas.specs.Lent.{lent}
 
 zip-at : (a b : List Relation) (i : ℕ) → i < length a → i < length b → changeAt (zipWith (λ g l. record { gained = g; lost = l }) a b) i

@@ -10,7 +10,8 @@ use Rattle.model.specs.Delta.{Change}
 use Rattle.model.specs.Areas.{Areas, layout, longEnough, goodForm, gainedCount, heldIn, lostCount, areaSize, headWords}
 use Rattle.model.specs.Calls.{formVerdict}
 use Rattle.model.specs.Row.{maxRows}
-use Rattle.network.specs.Reading.{verdictOf, networkOf, nodesOf, Built}
+use Rattle.network.specs.Reading.{networkOf, nodesOf, Built}
+use Rattle.verdicts.specs.Verdicts.{verdictOf}
 use Rattle.network.specs.declared.Network.{Network}
 use Rattle.network.specs.declared.Reading.{Reading}
 

@@ -7,7 +7,7 @@ use Rattle.model.specs.Network.{Network}
 use Rattle.model.specs.Station.{step}
 use Rattle.model.specs.Areas.{layout, stateIn}
 use Rattle.model.specs.Calls.{Applied, Keeps, Promise, Result, applyPromise, promiseOf, settled}
-use Rattle.network.specs.Reading.{verdictOf}
+use Rattle.verdicts.specs.Verdicts.{verdictOf}
 use Rattle.network.specs.declared.Reading.{Reading}
 use Rattle.areas.specs.Lent.{lent}
 use Rattle.batch.specs.Applying.{Applicable, AppliedTo}

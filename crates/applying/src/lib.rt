@@ -2,7 +2,7 @@
 ghost use Rattle.model.specs.Calls.{Applied};
 ghost use Rattle.network.specs.Reading.{resultWith};
 ghost use Rattle.areas.specs.Lent.{lent};
-use network::Verdict;
+use verdicts::Verdict;
 
 // Applies a batch: refusals 1 to 14, or the next state.
 pub fn apply(

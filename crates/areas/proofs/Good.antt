@@ -12,11 +12,11 @@ use Rattle.model.specs.Row.{allOf, numbersBelow, maxNodes, maxRows, maxWidth}
 use Rattle.model.specs.Areas.{allZero, emptyPlace, goodArea, goodPlace, heldIn, layout, goodForm, goodStamps, goodWorked, longEnough}
 use Rattle.rows.specs.Rows.{firstRows, goodRows}
 use Rattle.rows.proofs.Checked.{place-checked}
-use Rattle.areas.proofs.All.{all-ext}
+use Rattle.laws.proofs.All.{all-ext}
 use Rattle.model.specs.Network.{Node, widths}
-use Rattle.model.proofs.Sets.{and-first, and-second}
+use Rattle.laws.proofs.Sets.{and-first, and-second}
 use Rattle.areas.specs.Lent.{countsFrom, lent, placeAt}
-use Rattle.model.proofs.Fits.{length-widths}
+use Rattle.laws.proofs.Fits.{length-widths}
 use Rattle.model.specs.Areas.{areaSize, headWords, placeSize, stride}
 
 -- ---- long enough

@@ -6,12 +6,12 @@ ghost use Prim.Native.Nat.{_+_, _-_, _*_, _≤_, _<_};
 ghost use lib.Dec.{ltb, leb, eqb};
 ghost use lib.ListN.{length, getD, take};
 ghost use Rattle.model.specs.Network.{Node, widths};
-ghost use Rattle.model.specs.Areas.{layout, longEnough, goodPlace, emptyPlace, goodArea, goodStamps, goodWorked, goodForm, stampAt, workedAt};
+ghost use Rattle.model.specs.Areas.{layout, longEnough, goodPlace, emptyPlace, goodArea, goodStamps, goodWorked};
+ghost use Rattle.model.specs.Areas.{goodForm, stampAt, workedAt};
 ghost use Rattle.model.specs.Areas.{areaSize, headWords};
-ghost use Rattle.model.specs.Row.{maxNodes, maxWidth};
-ghost use Rattle.nodes.specs.Nodes.{Narrow};
+ghost use Rattle.model.specs.Row.{maxNodes, maxWidth, Narrow};
 ghost use Rattle.areas.specs.Lent.{lent, countsFrom};
-use nodes::MAX_NODES;
+use rows::MAX_NODES;
 use rows::MAX_ROWS;
 use rows::STRIDE;
 
@@ -98,7 +98,8 @@ fn good_node(area: &[u32], widths: &[usize], n: usize, head: &[u32], first: usiz
     empty_place(area, i, count)
 }
 
-// Whether every place of an area is of good form, in a network of n nodes, the counts standing in the head from a word on.
+// Whether every place of an area is of good form, in a network of n nodes, the counts standing in the head from a word
+// on.
 fn good_area(area: &[u32], widths: &[usize], n: usize, head: &[u32], first: usize) -> bool
     requires { ⌜ (areaSize ≤ length (now area)) × (n ≤ length (now widths)) × Narrow (now widths)
         × (headWords ≤ length (now head)) × (first ≤ headWords - maxNodes) ⌝ }
@@ -186,7 +187,8 @@ pub fn good_form(
 ) -> bool
     requires { ⌜ (n ≤ length (now widths)) × Narrow (now widths)
         × (longEnough layout (lent (now rows) (now gained) (now lost) (now head)) ≡ true) ⌝ }
-    ensures tells { λ r. ⌜ ((nodes : List Node) → take n (now (widths .entry)) ≡ Rattle.model.specs.Network.widths nodes →
+    ensures tells { λ r. ⌜ ((nodes : List Node) →
+        take n (now (widths .entry)) ≡ Rattle.model.specs.Network.widths nodes →
         r ≡ goodForm layout nodes (lent (now (rows .entry)) (now (gained .entry)) (now (lost .entry))
         (now (head .entry)))) ⌝ }
 {

@@ -10,9 +10,9 @@ use Rattle.model.specs.Areas.{Areas}
 use Rattle.model.specs.Record.{Bytes, SmallVerdict, accepted, refused, isAccepted, Verdict}
 use Rattle.model.specs.Calls.{Result, checkCall, openCall, readCall, reportCall, CheckAnswer, ReadAnswer, ReportAnswer}
 use Rattle.model.specs.Network.{Node, levels, nodesIn, kindOf, widths, levelOf}
-use Rattle.model.proofs.Bounds.{ByteList, count-most, form-small, kinds-read, levels-read, network-small, open-small, report-small, widths-read}
-use Rattle.model.proofs.Fits.{read-accepted, read-small, length-widths}
-use Rattle.model.proofs.Build.{length-build}
+use Rattle.laws.proofs.Bounds.{ByteList, count-most, form-small, kinds-read, levels-read, network-small, open-small, report-small, widths-read}
+use Rattle.laws.proofs.Fits.{read-accepted, read-small, length-widths}
+use Rattle.laws.proofs.Build.{length-build}
 use Rattle.rows.proofs.Place.{length-padded}
 use Rattle.packing.specs.Packing.{Answers, ReadFits, half, readWords}
 use Rattle.bagwezin.specs.Answers.{bit, readVerdict, readAfter}

@@ -115,7 +115,7 @@ pub extern "C" fn bagwezin_read(net: &[u8], answer: &mut [u32]) -> u64
     if answer.len() < WORDS {
         return packing::pack(1, 0, 0);
     }
-    let read = network::read(net);
+    let read = reader::read(net);
     if read.number != 0 {
         return packing::pack(read.number, read.place, 0);
     }

@@ -25,11 +25,12 @@ use Rattle.working.specs.Worked.{WorkedTo}
 use Rattle.new_rows.specs.Working.{working}
 use Rattle.coherence.specs.Held.{rowsHeld}
 use Rattle.model.specs.Evaluation.{overfull, evaluate}
-use Rattle.evaluation.proofs.Fresh.{same-eq}
-use Rattle.model.proofs.Bounds.{over-below}
-use Rattle.model.proofs.Sets.{and-second}
+use Rattle.laws.proofs.Fresh.{same-eq}
+use Rattle.laws.proofs.Bounds.{over-below}
+use Rattle.laws.proofs.Sets.{and-second}
 use Rattle.propagation.proofs.News.{new-fresh}
-use Rattle.coherence.proofs.Coherent.{nodes-count, rows-length}
+use Rattle.coherence.proofs.Coherent.{rows-length}
+use Rattle.network.proofs.Nodes.{nodes-count}
 use Rattle.states.proofs.Tables.{all-under}
 use Rattle.states.specs.Fitting.{Fitting}
 use Rattle.states.proofs.Written.{area-length}
@@ -37,7 +38,7 @@ use Rattle.propagation.proofs.Network.{new-fits, new-many as news-many}
 use Rattle.changes.specs.Written.{WorkedOut}
 use Rattle.areas.proofs.Good.{long-parts}
 use Rattle.changes.proofs.Out.{changes-count, gained-fit, lost-fit}
-use Rattle.model.proofs.Parts.{length-counted}
+use Rattle.laws.proofs.Parts.{length-counted}
 use Rattle.model.specs.Areas.{areaSize, headWords}
 use Rattle.states.proofs.Changes.{stamps-length}
 use Rattle.states.proofs.Head.{head-size, head-length}

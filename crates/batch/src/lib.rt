@@ -4,14 +4,15 @@ ghost use Rattle.network.specs.Reading.{resultWith};
 ghost use Rattle.batch.specs.Applying.{Applicable, AppliedTo, Unrefused};
 use areas::AREA;
 use network::Network;
-use network::Verdict;
-use nodes::MAX_NODES;
 use propagation::Propagated;
+use rows::MAX_NODES;
+use verdicts::Verdict;
 
 // The largest batch number.
 const LAST: u32 = 4294967295;
 
-// The nodes worked and written: refusal 14, or the next state. The areas are written once nothing can be refused any more.
+// The nodes worked and written: refusal 14, or the next state. The areas are written once nothing can be refused any
+// more.
 fn advance(
     net: Network,
     bytes: &[u8],
@@ -52,10 +53,7 @@ pub fn apply_batch(
         (resultWith r (lent (now (rows .exit)) (now (gained .exit)) (now (lost .exit)) (now (head .exit)))) ⌝ }
 {
     if head[0] == LAST {
-        return Verdict {
-            number: 9,
-            place: 0,
-        };
+        return verdicts::refused(9, 0);
     }
     let read = events::read_batch(net, bytes);
     if read.number != 0 {

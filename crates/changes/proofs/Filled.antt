@@ -14,7 +14,7 @@ use Rattle.places.specs.Places.{Place, relationIn}
 use Rattle.places.proofs.Places.{place-few, place-count, place-is, place-wide}
 use Rattle.rows.proofs.Checked.{rest-zero}
 use Rattle.states.proofs.Written.{place-none, Sized, sized-tail, flat-length}
-use Rattle.model.proofs.Parts.{flat-append, flat-one}
+use Rattle.laws.proofs.Parts.{flat-append, flat-one}
 
 drop-take : (a b : ℕ) (l : List ℕ) → drop a (take (a + b) l) ≡ take b (drop a l)
 drop-take zero b l = ap (λ (k : ℕ). take k l) (zero-add b)

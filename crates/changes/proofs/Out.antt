@@ -17,8 +17,9 @@ use Rattle.changes.specs.Written.{WorkedOut, gainedOf, lostOf, WritesNod
 use Rattle.areas.specs.Lent.{lent, placeAt}
 use Rattle.network.specs.Reading.{nodesOf, Built}
 use Rattle.areas.proofs.Good.{long-parts}
-use Rattle.model.proofs.Fits.{length-widths}
-use Rattle.coherence.proofs.Coherent.{nodes-count, width-is, relation-at}
+use Rattle.laws.proofs.Fits.{length-widths}
+use Rattle.network.proofs.Nodes.{nodes-count, width-is}
+use Rattle.laws.proofs.Relations.{relation-at}
 use Rattle.states.proofs.Fitted.{form-parts, area-fits, area-place}
 use Rattle.states.specs.Fitting.{Fitting}
 use Rattle.states.proofs.Written.{sized}
@@ -29,12 +30,12 @@ use Rattle.working.specs.Worked.{Worked}
 use Rattle.new_rows.specs.Working.{working, oldRows}
 use Rattle.places.specs.Places.{Place, relationIn}
 use Rattle.working.proofs.Differ.{fills-place, same-flag}
-use Rattle.model.proofs.Sets.{ascending-holds}
+use Rattle.laws.proofs.Sets.{ascending-holds}
 use Rattle.places.proofs.Places.{place-count}
 use Rattle.changes.proofs.Filled.{filled-later, filled-length, filled-more, filled-none}
 use Rattle.changes.specs.declared.Sizes.{Sizes}
 use Rattle.states.proofs.Head.{padded-length}
-use Rattle.model.proofs.Parts.{map-append}
+use Rattle.laws.proofs.Parts.{map-append}
 use Rattle.model.specs.Areas.{areaSize, headWords}
 
 lengths-more : (rels : List Relation) (i : ℕ) → i < length rels → map length (take (i + 1) rels) ≡ map length (take i rels) ++ (length (getD rels i []) ∷ [])

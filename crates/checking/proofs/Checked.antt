@@ -7,7 +7,7 @@ use Rattle.model.specs.Record.{Bytes}
 use Rattle.model.specs.Network.{Network, nodesIn}
 use Rattle.model.specs.Areas.{Areas, coherent, layout, rowsIn}
 use Rattle.model.specs.Calls.{checkCall}
-use Rattle.network.specs.Reading.{verdictOf}
+use Rattle.verdicts.specs.Verdicts.{verdictOf}
 use Rattle.network.specs.declared.Reading.{Reading}
 use Rattle.areas.specs.Lent.{lent}
 use Rattle.coherence.specs.Held.{freshIn}

@@ -12,16 +12,16 @@ use Rattle.places.specs.Places.{Fills}
 use Rattle.model.specs.Row.{Relation, sameRow, sameRows, maxRows, maxWidth, Wide}
 use Rattle.network.specs.declared.Slot.{Slot}
 use Rattle.rows.specs.Rows.{firstRows}
-use Rattle.rows.proofs.Checked.{bool-same, placed-rows, place-length}
+use Rattle.rows.proofs.Checked.{placed-rows, place-length}
 use Rattle.words.specs.Runs.{sameFirst}
 use Rattle.rows.proofs.Place.{held-wide, length-held}
 use Rattle.model.specs.Areas.{layout, placeOf, rowCount, placeSize, stride}
 use Rattle.model.specs.Network.{leftOf, rightOf}
-use Rattle.model.proofs.ByKind.{on-wide}
+use Rattle.laws.proofs.ByKind.{on-wide}
 use Rattle.coherence.proofs.Placed.{rows-few, words-at}
 use Rattle.areas.specs.Lent.{placeAt}
-use Rattle.model.proofs.Order.{sameRow-eq, sameRow-refl}
-use Rattle.model.proofs.Sets.{sameRows-eq, sameRows-refl}
+use Rattle.laws.proofs.Order.{sameRow-eq, sameRow-refl}
+use Rattle.laws.proofs.Sets.{sameRows-eq, sameRows-refl, bool-same}
 use Rattle.network.specs.Reading.{slotNode}
 use Rattle.rows.proofs.Padding.{unpadded}
 

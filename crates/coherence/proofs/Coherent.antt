@@ -1,82 +1,33 @@
 -- Areas whose rows are of good form: coherence judged node by node. Assumes nothing.
--- two tests that say the same of the numbers below n
 use mathlib.Core.Bool.{Bool, false, true, cond}
-use mathlib.Core.List.{List, [], map, _∷_}
+use mathlib.Core.List.{List}
 use mathlib.Core.Path.{ap, refl, sym, _∙_, _≡_}
-use Prim.Native.Nat.{_<_, suc, zero, ℕ, _≤_, zero-le}
-use native.Mathlib.Nat.{le-of-suc-le-suc, not-suc-le-zero, zero-add}
+use Prim.Native.Nat.{_<_, suc, ℕ}
+use native.Mathlib.Nat.{zero-add}
 use native.Mathlib.Omega.{arith}
-use lib.ListN.{getD, length, take, length-map, List·getD-eq-default}
-use lib.Seq.{getD-take, length-take-le}
-use lib.Dec.{ltb}
-use borrow.Author.Tests.{ltb-true, ltb-false}
-use Rattle.rows.proofs.Place.{all-below, below-all}
-use Rattle.model.specs.Network.{AllFit, isTable, nodeAt, table, widths, Node, highest, inputsOf, levelOf, levels}
+use lib.ListN.{getD, length, take}
+use Rattle.laws.proofs.All.{all-below, below-all}
+use Rattle.model.specs.Network.{AllFit, isTable, nodeAt, widths, highest, inputsOf, levels}
 use Rattle.network.specs.declared.Network.{Network}
 use Rattle.network.specs.Reading.{Built, noSlot, nodesOf, slotNode}
 use Rattle.coherence.specs.Held.{Derived, freshIn, heldAt, rowsHeld, slotAgrees}
-use Rattle.model.specs.Row.{allOf, numbersBelow, maxWidth}
+use Rattle.model.specs.Row.{allOf, numbersBelow}
 use Rattle.network.specs.declared.Slot.{Slot}
-use Rattle.evaluation.proofs.Fresh.{agreesAt, columns-fit, fresh-checked, inputs-before, width-at}
-use Rattle.rows.proofs.Checked.{bool-same}
-use Rattle.model.proofs.Build.{build-at}
+use Rattle.laws.proofs.Fresh.{agreesAt, columns-fit, fresh-checked, inputs-before, width-at}
+use Rattle.laws.proofs.Sets.{bool-same}
 use Rattle.model.specs.Network.{fitsOn, leftOf, rightOf, widthOn}
-use Rattle.model.specs.Areas.{heldIn, layout, relationsIn, rowCount}
-use Rattle.model.proofs.Fits.{length-widths}
+use Rattle.model.specs.Areas.{heldIn, layout, rowCount}
+use Rattle.laws.proofs.Fits.{length-widths}
 use Rattle.model.specs.Evaluation.{rowsAt}
-use Rattle.model.proofs.Parts.{length-counted, counted-at}
+use Rattle.laws.proofs.Relations.{relation-at, relations-length}
+use Rattle.network.proofs.Nodes.{level-at, nodes-count, slot-node, width-is}
 
+-- two tests that say the same of the numbers below n
 all-same : (p q : ℕ → Bool) (n : ℕ) → ((j : ℕ) → j < n → p j ≡ q j) → allOf p (numbersBelow n) ≡ allOf q (numbersBelow n)
 all-same p q n f =
     bool-same (allOf p (numbersBelow n)) (allOf q (numbersBelow n))
     (λ e. below-all q 0 n (λ j h. rw (zero-add j) (sym (f j h) ∙ ap p (sym (zero-add j)) ∙ all-below p 0 n e j h)))
     (λ e. below-all p 0 n (λ j h. rw (zero-add j) (f j h ∙ ap q (sym (zero-add j)) ∙ all-below q 0 n e j h)))
-
-getD-map : (l : List Slot) (i : ℕ) → i < length l → getD (map slotNode l) i (table 0) ≡ slotNode (getD l i noSlot)
-getD-map [] i h = absurd (not-suc-le-zero h)
-getD-map (x ∷ l) zero h = refl
-getD-map (x ∷ l) (suc i) h = getD-map l i (le-of-suc-le-suc h)
-
--- the relation of a node among those of an area
-pub relation-at : (ws : List ℕ) (count : ℕ → ℕ) (area : List ℕ) (i : ℕ) → i < length ws → getD (relationsIn layout ws count area) i [] ≡ heldIn layout (getD ws i 0) (count i) area i
-unfolding relationsIn
-relation-at ws count area i h = counted-at [] (λ j. heldIn layout (getD ws j 0) (count j) area j) 0 (length ws) i h ∙ ap (λ (j : ℕ). heldIn layout (getD ws j 0) (count j) area j)
-    (zero-add i)
-
-pub relations-length : (ws : List ℕ) (count : ℕ → ℕ) (area : List ℕ) → length (relationsIn layout ws count area) ≡ length ws
-unfolding relationsIn
-relations-length ws count area = length-counted (λ j. heldIn layout (getD ws j 0) (count j) area j) 0 (length ws)
-
-module _ (net : Network) (b : Built net) where
-  pub nodes-count : length (nodesOf net) ≡ net .count
-  nodes-count = length-map (take (net .count) (net .slots)) slotNode ∙ length-take-le (net .count) (net .slots) (omega (arith, b .sound .few, b .slots-length))
-
-  pub slot-node : (i : ℕ) → i < net .count → nodeAt (nodesOf net) i ≡ slotNode (getD (net .slots) i noSlot)
-  slot-node i h =
-      getD-map (take (net .count) (net .slots)) i (rw (length-take-le (net .count) (net .slots) (omega (arith, b .sound .few, b .slots-length))) h)
-      ∙ ap slotNode (getD-take (net .count) (net .slots) i noSlot h)
-
-  -- a width of the model's network is that of the array
-  pub width-is : (i : ℕ) → i < net .count → getD (widths (nodesOf net)) i 0 ≡ getD (net .widths) i 0
-  width-is i h = ap (λ (l : List ℕ). getD l i 0) (sym (b .sound .widths)) ∙ getD-take (net .count) (net .widths) i 0 h
-
-  pub narrow-widths : (i : ℕ) → getD (widths (nodesOf net)) i 0 ≤ maxWidth
-  narrow-widths i = go (ltb i (net .count)) refl
-    where
-      go : (t : Bool) → ltb i (net .count) ≡ t → getD (widths (nodesOf net)) i 0 ≤ maxWidth
-      go true e = rw (width-is i (ltb-true i (net .count) e)) (b .narrow i)
-      go false e = rw (List·getD-eq-default (widths (nodesOf net)) 0 {n = i} (rw (length-widths (nodesOf net), nodes-count) (ltb-false i (net .count) e))) zero-le
-
-  -- a node's level is 0 exactly if it is a table
-  pub level-at : (i : ℕ) → i < net .count → getD (net .levels) i 0
-      ≡ cond (isTable (slotNode (getD (net .slots) i noSlot))) 0 (suc (highest (take i (levels (nodesOf net))) (inputsOf (slotNode (getD (net .slots) i noSlot)))))
-  unfolding levels
-  level-at i h =
-      let k : i < length (nodesOf net) = rw (nodes-count) h in
-      sym (getD-take (net .count) (net .levels) i 0 h)
-      ∙ ap (λ (l : List ℕ). getD l i 0) (b .sound .levels)
-      ∙ build-at levelOf i (nodesOf net) 0 k
-      ∙ ap (λ (n : Node). levelOf n (take i (levels (nodesOf net)))) (slot-node i h)
 
 module _ (net : Network) (b : Built net) (fit : AllFit (nodesOf net)) where
   -- a derived node of a network that reading accepts

@@ -10,7 +10,7 @@ use lib.Seq.{length-take-le}
 use borrow.Author.Tests.{leb-true}
 use Rattle.places.specs.Places.{Place, relationIn}
 use Rattle.coherence.specs.Held.{Places, heldAt}
-use Rattle.model.proofs.Sets.{and-first}
+use Rattle.laws.proofs.Sets.{and-first}
 use Rattle.model.specs.Row.{ascending, maxRows}
 use Rattle.model.specs.Areas.{goodPlace, layout, placeOf, rowCount, unusedZero, placeSize}
 use Rattle.rows.proofs.Place.{length-held}

@@ -4,9 +4,9 @@ use mathlib.Core.Bool.{Bool, true, false, cond}
 use mathlib.Core.List.{List}
 use Prim.Native.Nat.{ℕ, _≤_, _<_}
 use lib.ListN.{getD, length}
-use Rattle.model.specs.Row.{Relation, sameRows, maxNodes}
-use Rattle.model.specs.Areas.{layout, heldIn, goodPlace, rowCount, relationsIn, sameRelations, tablesOf, areaSize, headWords}
-use Rattle.nodes.specs.Nodes.{Narrow}
+use Rattle.model.specs.Row.{Relation, sameRows, maxNodes, Narrow}
+use Rattle.model.specs.Areas.{layout, heldIn, goodPlace, rowCount, relationsIn, sameRelations, tablesOf, areaSize}
+use Rattle.model.specs.Areas.{headWords}
 use Rattle.network.specs.Reading.{slotNode, Shaped, nodesOf, Built}
 use Rattle.network.specs.declared.Slot.{Slot}
 use Rattle.network.specs.declared.Network.{Network}

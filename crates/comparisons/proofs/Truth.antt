@@ -8,8 +8,8 @@ use lib.Dec.{eqb}
 use lib.ListN.{getD}
 use Rattle.model.specs.Row.{allOf, countFrom}
 use Rattle.model.specs.Algebra.{holdsOf, outcomeColumn}
-use Rattle.model.proofs.Sets.{and-first, and-second}
-use Rattle.rows.proofs.Place.{all-below}
+use Rattle.laws.proofs.Sets.{and-first, and-second}
+use Rattle.laws.proofs.All.{all-below}
 
 -- the code's table
 abbrev pub table : List ℕ

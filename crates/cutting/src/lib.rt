@@ -1,53 +1,13 @@
-// Steps of the station program: the beginning, and the next piece of the file.
+// Steps of the station program: the next piece of the file.
 ghost use Prim.Native.Nat.{_≤_};
 ghost use lib.ListN.{length};
 ghost use Rattle.areas.specs.Lent.{lent};
 ghost use Rattle.station_lines.specs.Lines.{nodeRoom};
-ghost use Rattle.stages.specs.declared.Stage.the-variants.{Begin, Cut, Tell};
+ghost use Rattle.stages.specs.declared.Stage.the-variants.{Cut};
 ghost use Rattle.stages.specs.Stages.{Opened, Ready, Says, Applies, files};
 use pieces::Piece;
 use stages::Said;
 use stages::Stage;
-
-// Before everything: "no input", or the areas are opened and a refused network is told.
-pub fn begin(
-    n: bool,
-    b: bool,
-    net: &[u8],
-    file: &[u8],
-    rows: &mut [u32],
-    gained: &mut [u32],
-    lost: &mut [u32],
-    head: &mut [u32],
-    out: &mut [u8],
-) -> Said
-    requires { ⌜ Ready (files n b (now net) (now file)) Begin (lent (now rows) (now gained) (now lost) (now head))
-        × (nodeRoom ≤ length (now out)) ⌝ }
-    ensures { λ r. ⌜ Says (files n b (now (net .entry)) (now (file .entry))) Begin
-        (lent (now (rows .entry)) (now (gained .entry)) (now (lost .entry)) (now (head .entry)))
-        (lent (now (rows .exit)) (now (gained .exit)) (now (lost .exit)) (now (head .exit))) (now (out .entry))
-        (now (out .exit)) r ⌝ }
-{
-    if !stages::has_input(n, b, net, file) {
-        let size = lines::put_line_at(out, 0, b"no input", &[]);
-        return Said {
-            size,
-            stage: Stage::End,
-        };
-    }
-    let opened = opening::open(net, rows, gained, lost, head);
-    if opened.number != 0 {
-        let size = station_lines::put_refused(out, opened.number, opened.place);
-        return Said {
-            size,
-            stage: Stage::End,
-        };
-    }
-    Said {
-        size: 0,
-        stage: Stage::Cut(0),
-    }
-}
 
 // Applies a batch and tells its number, or its refusal; then its nodes' lines, or the piece that starts at an offset.
 fn apply(
@@ -69,13 +29,13 @@ fn apply(
 {
     let verdict = applying::apply(net, batch, rows, gained, lost, head);
     if verdict.number != 0 {
-        let size = station_lines::put_refused(out, verdict.number, verdict.place);
+        let size = verdict_lines::put_refused(out, verdict.number, verdict.place);
         return Said {
             size,
             stage: Stage::Cut(next),
         };
     }
-    let size = station_lines::put_batch(out, head[0] as usize);
+    let size = verdict_lines::put_batch(out, head[0] as usize);
     Said {
         size,
         stage: Stage::Tell(0, next),
@@ -114,7 +74,7 @@ pub fn cut(
             out,
         ),
         Piece::Broken(at) => {
-            let size = station_lines::put_refused(out, 10, at);
+            let size = verdict_lines::put_refused(out, 10, at);
             Said {
                 size,
                 stage: Stage::End,

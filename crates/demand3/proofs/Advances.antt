@@ -16,14 +16,14 @@ use Rattle.model.specs.Delta.{Change, changeAt, isChanged, netChange, netChange
 use Rattle.model.specs.Row.{Relation, allOf, sameRows, isEmpty}
 use Rattle.model.specs.Station.{State, advance, stampOf, hasChangedInput, workedList}
 use Rattle.model.specs.Evaluation.{builtOn, evaluate, rowsAt}
-use Rattle.model.proofs.Build.{build-at, length-build, length-evaluate}
-use Rattle.model.proofs.Delta.{change-disjoint}
-use Rattle.model.proofs.Folded.{folds}
-use Rattle.model.proofs.Fits.{length-widths}
-use Rattle.model.proofs.Sets.{Ascending, and-first, and-second, ascending-holds, sameRows-eq}
+use Rattle.laws.proofs.Build.{build-at, length-build, length-evaluate}
+use Rattle.laws.proofs.Delta.{change-disjoint}
+use Rattle.laws.proofs.Folded.{folds}
+use Rattle.laws.proofs.Fits.{length-widths}
+use Rattle.laws.proofs.Sets.{Ascending, and-first, and-second, ascending-holds, sameRows-eq}
 use Rattle.model.specs.Network.{Inputs, evaluateOn, firstOf, lastOf, leftOf, listed, noInput, oneInput, rightOf, twoInputs, usesOf}
-use Rattle.model.proofs.Inputs.{inputs-high}
-use Rattle.evaluation.proofs.Fresh.{fresh-derived, fresh-table, inputs-before}
+use Rattle.laws.proofs.Inputs.{inputs-high}
+use Rattle.laws.proofs.Fresh.{fresh-derived, fresh-table, inputs-before}
 use Rattle.states.proofs.Changes.{changed-is, changes-at, changes-length, no-change, stamps-at}
 use Rattle.states.proofs.Worked.{isOn, worked-is}
 use Rattle.demand3.specs.Demand3.{Advances, changeOf, freshOf, isUntouched, rowsOf, workedOf}

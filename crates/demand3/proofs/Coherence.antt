@@ -9,18 +9,18 @@ use lib.ListN.{List·getD-eq-default, getD, length}
 use lib.Dec.{eqb, leb, ltb}
 use borrow.Author.Tests.{leb-true, lt-ltb, ltb-false, ltb-true}
 use Rattle.model.specs.Network.{Node, widths}
-use Rattle.rows.proofs.Place.{all-below}
+use Rattle.laws.proofs.All.{all-below}
 use Rattle.model.specs.Areas.{Areas, batchNumber, changesIn, coherent, gainedCount, goodArea, goodForm, goodStamps, goodWorked, layout, lostCount, relationsIn, rowCount, rowsIn}
 use Rattle.model.specs.Areas.{sameRelations, stampAt, stateIn, tablesOf, workedAt, workedCount}
 use Rattle.states.specs.Fitting.{Fitting}
 use Rattle.demand3.proofs.Holds.{Proper}
 use Rattle.model.specs.Row.{allOf, numbersBelow, maxNodes}
-use Rattle.model.proofs.Fits.{Small, length-widths}
-use Rattle.model.proofs.Sets.{and-first, and-second}
+use Rattle.laws.proofs.Fits.{Small, length-widths}
+use Rattle.laws.proofs.Sets.{and-first, and-second}
 use Rattle.model.specs.Evaluation.{evaluate}
-use Rattle.evaluation.proofs.Fresh.{same-eq}
+use Rattle.laws.proofs.Fresh.{same-eq}
 use Rattle.states.proofs.Fitted.{area-fits, only-length, only-twice, map-gained, map-lost, form-parts}
-use Rattle.model.proofs.Parts.{length-counted, counted-at}
+use Rattle.laws.proofs.Parts.{length-counted, counted-at}
 
 module _ (nodes : List Node) (small : Small nodes) (a : Areas) (c : coherent layout nodes a ≡ true) where
   pub form : goodForm layout nodes a ≡ true

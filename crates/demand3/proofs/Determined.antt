@@ -16,15 +16,16 @@ use Rattle.model.specs.Delta.{Change}
 use Rattle.model.specs.Station.{State}
 use Rattle.model.specs.Areas.{Areas, areaOf, batchNumber, changesIn, coherent, emptyPlace, gainedCount, goodArea, goodPlace, goodStamps, goodWorked, headOf, holding, layout}
 use Rattle.model.specs.Areas.{longEnough, lostCount, over, placeOf, relationsIn, rowCount, rowsIn, stampAt, stateIn, unusedZero, workedAt, workedCount}
-use Rattle.model.proofs.Sets.{and-first, and-second}
-use Rattle.model.proofs.Parts.{length-counted, counted-at}
-use Rattle.model.proofs.Fits.{Small}
+use Rattle.laws.proofs.Sets.{and-first, and-second}
+use Rattle.laws.proofs.Parts.{length-counted, counted-at}
+use Rattle.laws.proofs.Fits.{Small}
 use Rattle.model.specs.Areas.{areaSize, headWords, placeSize}
-use Rattle.rows.proofs.Place.{all-below, length-held}
+use Rattle.rows.proofs.Place.{length-held}
+use Rattle.laws.proofs.All.{all-below}
 use Rattle.places.proofs.Places.{place-is}
 use Rattle.areas.specs.Lent.{placeAt}
 use Rattle.areas.proofs.Good.{long-parts}
-use Rattle.coherence.proofs.Coherent.{relation-at, relations-length}
+use Rattle.laws.proofs.Relations.{relation-at, relations-length}
 use Rattle.states.proofs.Written.{area-length, flat-none, place-none}
 use Rattle.states.proofs.Fitted.{area-place, area-empty, area-fits, map-gained, map-lost}
 use Rattle.demand3.proofs.Holds.{Proper, gained-count, gained-none, head-words, lost-count, lost-none, number-is, padded-at, rows-count, rows-none, stamp-word, worked-is}

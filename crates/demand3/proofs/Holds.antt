@@ -11,7 +11,7 @@ use lib.Dec.{eqb, leb, ltb}
 use lib.Seq.{ext-getD, drop-at}
 use borrow.Author.Tests.{le-leb, lt-ltb, ltb-false, ltb-true}
 use Rattle.model.specs.Network.{Node, AllFit, widths, isTable, nodeAt}
-use Rattle.rows.proofs.Place.{below-all}
+use Rattle.laws.proofs.All.{below-all}
 use Rattle.model.specs.Areas.{Areas, batchNumber, changesIn, gainedCount, goodArea, goodForm, goodStamps, goodWorked, headOf, holding, layout, longEnough, lostCount, padded}
 use Rattle.model.specs.Areas.{rowCount, rowsIn, stampAt, tablesOf, workedAt, workedCount, HoldsState, coherent, sameRelations, stateIn, over, areaOf}
 use Rattle.model.specs.Delta.{Change}
@@ -19,13 +19,13 @@ use Rattle.states.specs.Fitting.{Fitting}
 use Rattle.states.proofs.Written.{written-back, written-good, written-long, area-length}
 use Rattle.model.specs.Row.{Relation, allOf, countFrom, numbersBelow, maxNodes}
 use Rattle.model.specs.Station.{State}
-use Rattle.model.proofs.Sets.{and-both}
+use Rattle.laws.proofs.Sets.{and-both}
 use Rattle.model.specs.Evaluation.{evaluate, rowsAt}
 use Rattle.areas.proofs.Good.{form-last, long-last}
 use Rattle.states.proofs.Head.{head-length, padded-length, padded-zero, word-b, word-first, word-p, word-q, word-r, word-s, word-t, head-size}
-use Rattle.model.proofs.Fits.{length-widths}
-use Rattle.evaluation.proofs.Fresh.{fresh-table, same-refl, tables-at}
-use Rattle.model.proofs.Build.{length-evaluate}
+use Rattle.laws.proofs.Fits.{length-widths}
+use Rattle.laws.proofs.Fresh.{fresh-table, same-refl, tables-at}
+use Rattle.laws.proofs.Build.{length-evaluate}
 use Rattle.model.specs.Areas.{areaSize, headWords}
 use Rattle.states.proofs.Fitted.{only-length}
 use Rattle.states.proofs.Changes.{map-twice, lengths-at}

@@ -14,12 +14,12 @@ use Rattle.states.specs.Fitting.{Fitting}
 use Rattle.states.proofs.Written.{flat-none}
 use Rattle.demand3.proofs.Holds.{Proper}
 use Rattle.model.specs.Row.{Relation, maxNodes, maxWidth}
-use Rattle.model.proofs.Fits.{Small, length-widths}
+use Rattle.laws.proofs.Fits.{Small, length-widths}
 use Rattle.model.specs.Evaluation.{evaluate, rowsAt}
-use Rattle.evaluation.proofs.Fresh.{fresh-derived, fresh-table, inputs-before}
-use Rattle.model.proofs.Build.{length-evaluate}
-use Rattle.model.proofs.ByKind.{on-none}
-use Rattle.model.proofs.Parts.{same-at}
+use Rattle.laws.proofs.Fresh.{fresh-derived, fresh-table, inputs-before}
+use Rattle.laws.proofs.Build.{length-evaluate}
+use Rattle.laws.proofs.ByKind.{on-none}
+use Rattle.laws.proofs.Parts.{same-at}
 use Rattle.model.specs.Station.{opened}
 use Rattle.model.specs.Areas.{placeSize}
 use Rattle.states.proofs.Worked.{worked-few, worked-low}

@@ -7,7 +7,7 @@ use native.Mathlib.Omega.{arith}
 use lib.Dec.{eqb}
 use lib.ListN.{getD, length}
 use Rattle.model.specs.Network.{Node, AllFit, widths, nodeAt, isTable}
-use Rattle.model.proofs.Sets.{Ascending, ascending-holds, ascending-true}
+use Rattle.laws.proofs.Sets.{Ascending, ascending-holds, ascending-true}
 use Rattle.model.specs.Record.{Bytes, isAccepted, refused}
 use Rattle.model.specs.Delta.{netChanges}
 use Rattle.states.specs.Fitting.{Fitting}
@@ -18,9 +18,9 @@ use Rattle.states.proofs.Tables.{Tables, actAll-tables, fresh-asc, fresh-wide, 
 use Rattle.model.specs.Batch.{actAll, readBatch}
 use Rattle.states.proofs.Batches.{batch-good, batch-high}
 use Rattle.model.specs.Evaluation.{evaluate, overfull, rowsAt}
-use Rattle.evaluation.proofs.Fresh.{fresh-table, tables-at}
-use Rattle.model.proofs.Build.{length-evaluate}
-use Rattle.model.proofs.Fits.{length-widths}
+use Rattle.laws.proofs.Fresh.{fresh-table, tables-at}
+use Rattle.laws.proofs.Build.{length-evaluate}
+use Rattle.laws.proofs.Fits.{length-widths}
 use Rattle.states.proofs.Worked.{worked-few, worked-low}
 use Rattle.states.proofs.Changes.{changes-size, gained-fits, lost-fits, stamps-length, stamps-below}
 

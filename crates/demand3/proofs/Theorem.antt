@@ -13,10 +13,11 @@ use Rattle.model.specs.Batch.{actAll}
 use Rattle.model.specs.Evaluation.{evaluate}
 use Rattle.model.specs.Station.{Call, State, advance, apply, opened, stateAfter, step, stepOf, verdicts}
 use Rattle.model.specs.Areas.{Areas, HoldsState, cleared, coherent, goodForm, holding, layout, longEnough, rowsIn, sameRelations, stateIn, tablesOf}
+use Rattle.laws.proofs.Verdicts.{form-good}
 use Rattle.model.specs.Calls.{Keeps, Promise, Result, applyPromise, formVerdict, free, freelyAccepted, openCall, openVerdict, orElse, promiseOf, resultOf, settled, unless}
-use Rattle.model.proofs.Fits.{read-fits, read-small}
-use Rattle.model.proofs.Sets.{and-both, and-first}
-use Rattle.evaluation.proofs.Fresh.{same-refl}
+use Rattle.laws.proofs.Fits.{read-fits, read-small}
+use Rattle.laws.proofs.Sets.{and-both, and-first}
+use Rattle.laws.proofs.Fresh.{same-refl}
 use Rattle.demand3.specs.Runs.{Meets, Runs, endOf, neverEight}
 use Rattle.demand3.specs.Demand3.{Advances, Answers, eventsOf, Demand3, StartsFrom, Throughout}
 use Rattle.demand3.proofs.Holds.{Proper, holding-again, holding-coherent, holding-long, holding-state, holds-state, tables-back}
@@ -44,8 +45,7 @@ module _ (net : Bytes) (accepts : readNetwork net .verdict .number ≡ 0) where
 
   -- 1 to 8 let pass
   form-passes : (a : Areas) → longEnough layout a ≡ true → goodForm layout (nodesIn net) a ≡ true → formVerdict net a ≡ accepted
-  unfolding formVerdict openVerdict
-  form-passes a l g = rw (l, g, eq-eqb (readNetwork net .verdict .number) 0 accepts)
+  form-passes a l g = form-good net a (readNetwork net .verdict) l refl (eq-eqb (readNetwork net .verdict .number) 0 accepts) g
 
   -- on coherent areas all is settled
   pub settled-on : (a : Areas) (b : Bytes) → longEnough layout a ≡ true → coherent layout (nodesIn net) a ≡ true → applyPromise net b a

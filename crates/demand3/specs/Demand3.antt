@@ -12,7 +12,8 @@ use Rattle.model.specs.Evaluation.{evaluate, rowsAt, builtOn}
 use Rattle.model.specs.Batch.{Event, readBatch, foldChanges}
 use Rattle.model.specs.Delta.{Change, changeAt, netChange, noChange, isChanged}
 use Rattle.model.specs.Station.{State, Call, apply, stepOf, verdicts, stateAfter, stampOf, hasChangedInput, workedList}
-use Rattle.model.specs.Areas.{Areas, layout, longEnough, coherent, rowsIn, changesIn, tablesOf, batchNumber, stampAt, stateIn, holding}
+use Rattle.model.specs.Areas.{Areas, layout, longEnough, coherent, rowsIn, changesIn, tablesOf, batchNumber, stampAt}
+use Rattle.model.specs.Areas.{stateIn, holding}
 use Rattle.model.specs.Areas.{HoldsState}
 use Rattle.model.specs.Calls.{Result}
 use Rattle.demand3.specs.Runs.{endOf, neverEight}
@@ -91,7 +92,8 @@ pub record Answers (nodes : List Node) (s : State) (c : Call) (before : Areas) (
   -- "A refused batch changes no word"
   pub refused : isAccepted (r .verdict) ≡ false → r .areas ≡ before
 
--- every call of a list, one result for each: the state goes on as the plain station's, the areas as the calls leave them
+-- every call of a list, one result for each: the state goes on as the plain station's, the areas as the calls leave
+-- them
 abbrev pub Throughout : List Node → State → Areas → List Call → List Result → Type 0
 Throughout nodes s a [] [] = Unit {0}
 Throughout nodes s a [] (r ∷ results) = ⊥

@@ -15,7 +15,7 @@ use Rattle.nodes.specs.declared.Operand.the-variants.{Column, Constant}
 use Rattle.joins.specs.declared.Joining.{Joining}
 use Rattle.model.specs.Network.{columnsBelow, operandBelow, pairsBelow, fitsOn, maxPairs}
 use Rattle.model.specs.Algebra.{Pair}
-use Rattle.model.proofs.Sets.{and-both, and-first, and-second}
+use Rattle.laws.proofs.Sets.{and-both, and-first, and-second}
 use Rattle.joins.proofs.Rows.{columns-more}
 use Rattle.nodes.specs.Nodes.{operandOf, pairsOf}
 use Rattle.model.specs.Row.{maxWidth}

@@ -7,7 +7,6 @@ ghost use Rattle.network.specs.Reading.{slotNode, Shaped};
 ghost use Rattle.places.specs.Places.{Place, Blank, relationIn, Makes};
 use joins::Joining;
 use network::Slot;
-use nodes::Inputs;
 use nodes::Node;
 use nodes::SetOperation;
 use places::Made;
@@ -16,6 +15,12 @@ use places::Made;
 pub struct Held {
     pub width: usize,
     pub count: usize,
+}
+
+// A node's first and its last input.
+pub struct Inputs {
+    pub left: usize,
+    pub right: usize,
 }
 
 // The rows of a set operation on two places of one width, in an empty place: how many, or that they are more than 64.
@@ -44,14 +49,19 @@ fn set_rows(
 
 // The node's first and its last input, both the only one if there is one; 0 of a table.
 pub fn inputs_of(slot: Slot) -> Inputs
-    ensures { λ r. ⌜ (r .left ≡ leftOf (slotNode slot)) × (r .right ≡ rightOf (slotNode slot)) ⌝ }
+    ensures left { λ r. ⌜ r .left ≡ leftOf (slotNode slot) ⌝ }
+    ensures right { λ r. ⌜ r .right ≡ rightOf (slotNode slot) ⌝ }
 {
     let node = slot.node;
     let parts = nodes::parts_of(node);
-    parts.inputs
+    Inputs {
+        left: parts.left,
+        right: parts.right,
+    }
 }
 
-// A derived node's rows from those of its inputs, in an empty place: how many, or that they are more than 64. A table's kind gives none.
+// A derived node's rows from those of its inputs, in an empty place: how many, or that they are more than 64. A table's
+// kind gives none.
 pub fn evaluate(slot: Slot, left: &[u32], l: Held, right: &[u32], r: Held, out: &mut [u32]) -> Made
     requires { ⌜ Shaped slot × Place (l .width) (now left) (l .count) × Place (r .width) (now right) (r .count)
         × (fitsOn (l .width) (r .width) (slotNode slot) ≡ true) × Blank (now out) ⌝ }

@@ -18,7 +18,7 @@ use Rattle.records.proofs.Header.{Whole, whole}
 use Rattle.events.specs.Reading.{ReadsEvent, isTableIn, numberOf, sizeOf}
 use Rattle.events.specs.declared.EventRecord.{EventRecord}
 use Rattle.events.specs.declared.EventRecord.the-variants.{Event as Brought, Broken, NoEvent, TooMany, Misfit}
-use Rattle.coherence.proofs.Coherent.{level-at, nodes-count, slot-node, width-is}
+use Rattle.network.proofs.Nodes.{level-at, nodes-count, slot-node, width-is}
 use Rattle.records.proofs.Offsets.{remaining, remaining-all, remaining-broken, remaining-none, remaining-whole}
 use Rattle.network.specs.declared.Network.{Network}
 use Rattle.model.specs.Network as model

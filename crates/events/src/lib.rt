@@ -5,15 +5,15 @@ ghost use Prim.Native.Nat.{_+_, _*_, _≤_, _<_};
 ghost use lib.ListN.{length};
 ghost use Rattle.model.specs.Record.{isBroken};
 ghost use Rattle.model.specs.Batch.{isEventKind, eventFitsBy, readBatch};
-ghost use Rattle.model.specs.Row.{maxNodes};
-ghost use Rattle.nodes.specs.Nodes.{Narrow};
-ghost use Rattle.network.specs.Reading.{verdictOf, nodesOf, Built};
+ghost use Rattle.model.specs.Row.{maxNodes, Narrow};
+ghost use Rattle.network.specs.Reading.{nodesOf, Built};
+ghost use Rattle.verdicts.specs.Verdicts.{verdictOf};
 ghost use Rattle.events.specs.Reading.{isTableIn, ReadsEvent, numberOf};
 use network::Network;
-use network::Verdict;
 use records::MAX_EVENTS;
 use records::PUT;
 use records::REMOVE;
+use verdicts::Verdict;
 
 // Whether a record of at least a header's length names a table and has its table's length: rule 13.
 fn event_fits(bytes: &[u8], at: usize, count: usize, widths: &[usize], levels: &[usize]) -> bool
@@ -110,16 +110,10 @@ pub fn read_batch(net: Network, bytes: &[u8]) -> Verdict
         let here = at;
         let reading = read_event(bytes, here, before, count, &net.widths, &levels);
         let EventRecord::Event(size) = reading else {
-            return Verdict {
-                number: number_of(reading),
-                place: here,
-            };
+            return verdicts::refused(number_of(reading), here);
         };
         before += 1;
         at = here + size;
     }
-    Verdict {
-        number: 0,
-        place: 0,
-    }
+    verdicts::accepted()
 }

@@ -6,23 +6,24 @@ use Prim.Native.Nat.{ℕ, _+_, _-_, _≤_, _<_}
 use native.Mathlib.Omega.{arith}
 use lib.Dec.{ltb, eqb}
 use lib.ListN.{length, take, getD, List·getD-append, length-map}
-use lib.Seq.{length-take-le, getD-append-add}
+use lib.Seq.{getD-append-add}
 use borrow.Author.Tests.{ltb-true, ltb-false}
 use Rattle.model.specs.Row.{Row, Relation, keep, keepIf, maxWidth, Wide}
 use Rattle.model.specs.Algebra.{columnsOf, Pair, agree, joinOne, joinRows}
 use Rattle.model.specs.Areas.{padded, stride}
-use Rattle.model.proofs.Sets.{and-first, and-second}
+use Rattle.laws.proofs.Sets.{and-first, and-second}
 use Rattle.model.specs.Network.{pairsBelow}
-use Rattle.rows.specs.Rows.{rowsFrom, firstRows}
-use Rattle.model.proofs.Widths.{wide-keep, wide-each}
+use Rattle.rows.specs.Rows.{firstRows}
+use Rattle.laws.proofs.Widths.{wide-keep, wide-each}
 use Rattle.rows.proofs.Padding.{field-padded, keep-padded}
 use Rattle.nodes.specs.Nodes.{pairsOf}
-use Rattle.places.specs.Places.{relationIn, Place, insertAll}
+use Rattle.places.specs.Places.{relationIn, Place, Stored, Makes, insertAll}
+use Rattle.places.specs.declared.Made.{Made}
 use Rattle.places.proofs.Places.{place-rows, place-wide}
-use Rattle.places.proofs.Puts.{putFrom, made-is, made-wide}
-use Rattle.joins.specs.Joins.{joinedField, joinedRow, JoinFits, JoinsIn, joinedWith}
+use Rattle.places.proofs.Puts.{putUpTo, made-is, made-wide, model-makes}
+use Rattle.joins.specs.Joins.{joinedField, joinedRow, JoinFits, JoinsIn, joinedWith, joinedRows}
 use Rattle.joins.specs.declared.Joining.{Joining}
-use Rattle.joins.proofs.Rows.{columns-same, joined-length}
+use Rattle.joins.proofs.Rows.{columns-same, few-columns, joined-length}
 
 -- the row that a left and a right row make, if they agree
 abbrev pub joinedIf : Joining → Row → Row → List Row
@@ -30,7 +31,7 @@ joinedIf how l r = keepIf (agree (pairsOf (how .p) (how .pairs)) l r) (joinedRow
 
 module _ (how : Joining) (fits : JoinFits how) where
   pub few-given : length (take (how .n) (how .columns)) ≤ maxWidth
-  few-given = rw (length-take-le (how .n) (how .columns) (fits .columns-long)) (fits .few)
+  few-given = few-columns (how .n) (how .columns) (fits .few) (fits .columns-long)
 
   pub wide-joined : (l r : Row) → length r ≡ stride → Wide stride (joinedIf how l r)
   wide-joined l r e = go (agree (pairsOf (how .p) (how .pairs)) l r)
@@ -40,7 +41,7 @@ module _ (how : Joining) (fits : JoinFits how) where
       go false = tt
 
   -- a left row with all right rows
-  each-joined : (l : Row) (right : List Row) → flatMap (joinedIf how l) right ≡ joinedWith how right l
+  pub each-joined : (l : Row) (right : List Row) → flatMap (joinedIf how l) right ≡ joinedWith how right l
   unfolding flatMap
   each-joined l [] = refl
   each-joined l (r ∷ right) = go (agree (pairsOf (how .p) (how .pairs)) l r) (each-joined l right)
@@ -54,10 +55,8 @@ module _ (how : Joining) (fits : JoinFits how) where
   pub wide-with : (right : List Row) (l : Row) → length l ≡ stride → Wide stride right → Wide stride (joinedWith how right l)
   wide-with right l e h = rw (← each-joined l right) (wide-each stride (joinedIf how l) right stride h (wide-joined l))
 
-  pub joined-from : (l : Row) (b : List Row) (right : List ℕ) (m : ℕ) → putFrom (joinedIf how l) b right m 0 ≡ insertAll (joinedWith how (firstRows right m) l) b
-  joined-from l b right m =
-      let k : m - 0 ≡ m = omega arith in
-      ap (λ (i : ℕ). insertAll (flatMap (joinedIf how l) (rowsFrom stride right 0 i)) b) k ∙ ap (λ (x : List Row). insertAll x b) (each-joined l (firstRows right m))
+  pub joined-from : (l : Row) (b : List Row) (right : List ℕ) (m : ℕ) → putUpTo (joinedIf how l) b right m ≡ insertAll (joinedWith how (firstRows right m) l) b
+  joined-from l b right m = ap (λ (x : List Row). insertAll x b) (each-joined l (firstRows right m))
 
 agree-padded : (pairs : List Pair) (v w : ℕ) (l r : Row) → pairsBelow v w pairs ≡ true → length l ≡ v → length r ≡ w → agree pairs (padded stride l) (padded stride r) ≡ agree pairs l r
 agree-padded [] v w l r e f g = refl
@@ -109,16 +108,23 @@ module _ (how : Joining) (w : ℕ) (left : List ℕ) (n : ℕ) (right : List ℕ
   unfolding joinOne
   one-wide l f = map-wide l (keep (agree (pairsOf (how .p) (how .pairs)) l) (relationIn w right m))
 
-  pub join-is : putFrom (joinedWith how (firstRows right m)) [] left n 0
+  join-is : joinedRows how (firstRows left n) (firstRows right m)
       ≡ map (padded stride) (joinRows (pairsOf (how .p) (how .pairs)) (take (how .n) (how .columns)) (relationIn (how .split) left n) (relationIn w right m))
   unfolding joinRows
   join-is =
       made-is (joinedWith how (firstRows right m)) (joinOne (pairsOf (how .p) (how .pairs)) (take (how .n) (how .columns)) (relationIn w right m)) (how .split)
       (length (take (how .n) (how .columns))) left n pl one-padded one-wide
 
-  pub join-wide : Wide (length (take (how .n) (how .columns)))
+  join-wide : Wide (length (take (how .n) (how .columns)))
       (joinRows (pairsOf (how .p) (how .pairs)) (take (how .n) (how .columns)) (relationIn (how .split) left n) (relationIn w right m))
   unfolding joinRows
   join-wide =
       made-wide (joinedWith how (firstRows right m)) (joinOne (pairsOf (how .p) (how .pairs)) (take (how .n) (how .columns)) (relationIn w right m)) (how .split)
       (length (take (how .n) (how .columns))) left n pl one-padded one-wide
+
+  pub join-makes : JoinFits how → (out : List ℕ) (made : Made) → Stored (joinedRows how (firstRows left n) (firstRows right m)) out made →
+      Makes (joinRows (pairsOf (how .p) (how .pairs)) (take (how .n) (how .columns)) (relationIn (how .split) left n) (relationIn w right m)) out made
+  join-makes fits =
+      model-makes (joinedRows how (firstRows left n) (firstRows right m))
+      (joinRows (pairsOf (how .p) (how .pairs)) (take (how .n) (how .columns)) (relationIn (how .split) left n) (relationIn w right m))
+      (length (take (how .n) (how .columns))) (few-given how fits) join-wide join-is

@@ -1,3 +1,4 @@
 pub mod Joins
+pub mod Masks
 pub mod Projects
 pub mod Rows

@@ -10,7 +10,7 @@ use lib.Dec.{eqb, ltb}
 use lib.ListN.{length, getD, set, take, drop, replicate, length-map}
 use lib.Seq.{length-take-le, take-all, take-suc, drop-drop, getD-drop}
 use borrow.Author.Tests.{lt-ltb, ltb-true}
-use Rattle.model.proofs.Sets.{and-first, and-second, and-both}
+use Rattle.laws.proofs.Sets.{and-first, and-second, and-both}
 use Rattle.model.specs.Algebra.{agree}
 use Rattle.model.specs.Areas.{padded, stride}
 use Rattle.model.specs.Network.{columnsBelow, pairsBelow}
@@ -56,6 +56,9 @@ columns-more k m [] h e = refl
 columns-more k m (c ∷ columns) h e =
     and-both (ltb c m) (columnsBelow m columns) (lt-ltb c m (le-trans (ltb-true c k (and-first (ltb c k) (columnsBelow k columns) e)) h))
     (columns-more k m columns h (and-second (ltb c k) (columnsBelow k columns) e))
+
+pub few-columns : (n : ℕ) (columns : List ℕ) → n ≤ maxWidth → n ≤ length columns → length (take n columns) ≤ maxWidth
+few-columns n columns h g = rw (length-take-le n columns g) h
 
 pub joined-length : (split : ℕ) (columns : List ℕ) (l r : Row) → length columns ≤ maxWidth → length (joinedRow split columns l r) ≡ stride
 joined-length split columns l r h = length-padded stride (map (joinedField split l r) columns) (rw (length-map columns (joinedField split l r)) h)

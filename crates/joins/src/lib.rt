@@ -11,9 +11,12 @@ ghost use Rattle.model.specs.Areas.{placeSize, stride};
 ghost use Rattle.rows.specs.Rows.{rowAt, firstRows};
 ghost use Rattle.nodes.specs.Nodes.{pairsOf};
 ghost use Rattle.places.specs.Places.{Place, Blank, relationIn, Stands, Stored, Makes, insertAll};
-ghost use Rattle.joins.specs.Joins.{joinedField, joinedRow, joinedWith, JoinFits, JoinsIn};
+ghost use Rattle.joins.specs.Joins.{joinedField, joinedRow, joinedWith, joinedRows, JoinFits, JoinsIn};
+ghost use Rattle.joins.specs.Joins.{leavesColumn, leavesRows};
+ghost use Rattle.joins.specs.Joins.{maskedRows, Mask, Keeps, KeepsPairs, KeepsColumns, Uses};
 use nodes::MAX_PAIRS;
 use places::Made;
+use rows::MAX_ROWS;
 use rows::STRIDE;
 
 // Column c of row i of the left place followed by row j of the right one, where the left row has split fields.
@@ -55,6 +58,27 @@ fn columns_row(
     row
 }
 
+// Some columns of each row followed by zeros, in an empty place: how many rows, or that they are more than 64.
+fn mask_rows(input: &[u32], n: usize, columns: &[usize], c: usize, out: &mut [u32]) -> Made
+    requires { ⌜ (n * stride ≤ length (now input)) × (c ≤ maxWidth) × (c ≤ length (now columns))
+        × (columnsBelow (stride + stride) (take c (now columns)) ≡ true) × Blank (now out) ⌝ }
+    ensures { λ r. ⌜ Stored (maskedRows (take c (now (columns .entry))) (firstRows (now (input .entry)) n))
+        (now (out .exit)) r ⌝ }
+{
+    let zeros = [0u32; STRIDE];
+    let mut count = 0;
+    let mut i = 0;
+    while i < n {
+        let row = columns_row(input, i, &zeros, 0, STRIDE, columns, c);
+        let Made::Rows(more) = places::put_row(out, count, &row, 0) else {
+            return Made::Over;
+        };
+        count = more;
+        i += 1;
+    }
+    Made::Rows(count)
+}
+
 // The named columns of a place's rows, in an empty place: how many rows, or that they are more than 64.
 pub fn project_rows(input: &[u32], n: usize, columns: &[usize], c: usize, out: &mut [u32]) -> Made
     requires { ⌜ (n * stride ≤ length (now input)) × (c ≤ maxWidth) × (c ≤ length (now columns))
@@ -63,17 +87,7 @@ pub fn project_rows(input: &[u32], n: usize, columns: &[usize], c: usize, out: &
         Makes (projectRows (take c (now (columns .entry))) (relationIn w (now (input .entry)) n))
         (now (out .exit)) r) ⌝ }
 {
-    let mut count = 0;
-    let mut i = n;
-    while 0 < i {
-        i -= 1;
-        let row = columns_row(input, i, input, i, STRIDE, columns, c);
-        let Made::Rows(more) = places::put_row(out, count, &row, 0) else {
-            return Made::Over;
-        };
-        count = more;
-    }
-    Made::Rows(count)
+    mask_rows(input, n, columns, c, out)
 }
 
 // Whether row i of the left place and row j of the right one agree on pair k; the pairs' columns stand in turn.
@@ -132,11 +146,12 @@ fn join_row(
         (now (out .exit)) r ⌝ }
 {
     let mut rows = count;
-    let mut j = m;
-    while 0 < j {
-        j -= 1;
-        if rows_agree(left, i, right, j, &how.pairs, how.p) {
-            let row = columns_row(left, i, right, j, how.split, &how.columns, how.n);
+    let mut j = 0;
+    while j < m {
+        let at = j;
+        j += 1;
+        if rows_agree(left, i, right, at, &how.pairs, how.p) {
+            let row = columns_row(left, i, right, at, how.split, &how.columns, how.n);
             let Made::Rows(more) = places::put_row(out, rows, &row, 0) else {
                 return Made::Over;
             };
@@ -144,6 +159,124 @@ fn join_row(
         }
     }
     Made::Rows(rows)
+}
+
+// The rows that all left and right rows make, in an empty place: how many, or that they are more than 64.
+fn join_all(left: &[u32], n: usize, right: &[u32], m: usize, how: Joining, out: &mut [u32]) -> Made
+    requires { ⌜ (n * stride ≤ length (now left)) × (m * stride ≤ length (now right)) × JoinFits how
+        × Blank (now out) ⌝ }
+    ensures { λ r. ⌜ Stored (joinedRows how (firstRows (now (left .entry)) n) (firstRows (now (right .entry)) m))
+        (now (out .exit)) r ⌝ }
+{
+    let mut count = 0;
+    let mut i = 0;
+    while i < n {
+        let Made::Rows(more) = join_row(left, i, right, m, how, out, count) else {
+            return Made::Over;
+        };
+        count = more;
+        i += 1;
+    }
+    Made::Rows(count)
+}
+
+// A mask made to keep the columns of pairs on a side, left 0 or right 1.
+fn keep_pairs(used: &mut [usize; STRIDE], pairs: &[usize], p: usize, side: usize)
+    requires { ⌜ Mask (now used) × (2 * p ≤ length (now pairs)) × (side ≤ 1)
+        × (pairsBelow stride stride (pairsOf p (now pairs)) ≡ true) ⌝ }
+    ensures mask { λ _. ⌜ Mask (now (used .exit)) ⌝ }
+    ensures keeps { λ _. ⌜ KeepsPairs (now (used .exit)) (now (pairs .entry)) p side ⌝ }
+{
+    let mut j = 0;
+    while j < p {
+        let c = pairs[2 * j + side];
+        used[c] = c;
+        j += 1;
+    }
+}
+
+// A mask made to keep those columns, counted from the first, that are below the end.
+fn keep_columns(used: &mut [usize; STRIDE], columns: &[usize], n: usize, first: usize, end: usize)
+    requires { ⌜ Mask (now used) × (n ≤ length (now columns)) × (end ≤ first + stride) ⌝ }
+    ensures mask { λ _. ⌜ Mask (now (used .exit)) ⌝ }
+    ensures kept { λ _. ⌜ ((c : ℕ) → Keeps (now (used .entry)) c → Keeps (now (used .exit)) c) ⌝ }
+    ensures keeps { λ _. ⌜ KeepsColumns (now (used .exit)) (now (columns .entry)) n first end ⌝ }
+{
+    let mut j = 0;
+    while j < n {
+        let c = columns[j];
+        if first <= c {
+            if c < end {
+                used[c - first] = c - first;
+            }
+        }
+        j += 1;
+    }
+}
+
+// The mask of what a join uses of a side, whose columns are from the first up to the end.
+fn used_columns(how: Joining, side: usize, first: usize, end: usize) -> [usize; STRIDE]
+    requires { ⌜ JoinFits how × (side ≤ 1) × (end ≤ first + stride) ⌝ }
+    ensures { λ r. ⌜ Uses how side first end r ⌝ }
+{
+    let mut used = [STRIDE; STRIDE];
+    keep_pairs(&mut used, &how.pairs, how.p, side);
+    keep_columns(&mut used, &how.columns, how.n, first, end);
+    used
+}
+
+// Whether a mask leaves column k of every row as it is: it keeps the column, or every field there is 0.
+fn leaves_column(rows: &[u32], n: usize, used: &[usize; STRIDE], k: usize) -> bool
+    requires { ⌜ (n * stride ≤ length (now rows)) × (k < stride) ⌝ }
+    ensures { λ r. ⌜ r ≡ leavesColumn (now (used .entry)) (firstRows (now (rows .entry)) n) k ⌝ }
+{
+    if used[k] != STRIDE {
+        return true;
+    }
+    rows::zero_field(rows, n, k)
+}
+
+// Whether a mask leaves every row as it is.
+fn leaves_rows(rows: &[u32], n: usize, used: &[usize; STRIDE]) -> bool
+    requires { ⌜ n * stride ≤ length (now rows) ⌝ }
+    ensures { λ r. ⌜ r ≡ leavesRows (now (used .entry)) (firstRows (now (rows .entry)) n) ⌝ }
+{
+    let mut k = 0;
+    while k < STRIDE {
+        if !leaves_column(rows, n, used, k) {
+            return false;
+        }
+        k += 1;
+    }
+    true
+}
+
+// The same, with the right rows masked if that brings anything.
+fn join_masked(
+    left: &[u32],
+    n: usize,
+    right: &[u32],
+    m: usize,
+    how: Joining,
+    out: &mut [u32],
+) -> Made
+    requires { ⌜ (n * stride ≤ length (now left)) × (m * stride ≤ length (now right)) × JoinFits how
+        × Blank (now out) ⌝ }
+    ensures { λ r. ⌜ Stored (joinedRows how (firstRows (now (left .entry)) n) (firstRows (now (right .entry)) m))
+        (now (out .exit)) r ⌝ }
+{
+    if n <= 1 {
+        return join_all(left, n, right, m, how, out);
+    }
+    let used = used_columns(how, 1, how.split, how.split + STRIDE);
+    if leaves_rows(right, m, &used) {
+        return join_all(left, n, right, m, how, out);
+    }
+    let mut masked = [0u32; MAX_ROWS * STRIDE];
+    let Made::Rows(k) = mask_rows(right, m, &used, STRIDE, &mut masked) else {
+        return join_all(left, n, right, m, how, out);
+    };
+    join_all(left, n, &masked, k, how, out)
 }
 
 // The rows of a join, in an empty place: how many, or that they are more than 64.
@@ -162,14 +295,16 @@ pub fn join_rows(
         Makes (joinRows (pairsOf (how .p) (how .pairs)) (take (how .n) (how .columns))
         (relationIn (how .split) (now (left .entry)) n) (relationIn w (now (right .entry)) m)) (now (out .exit)) r) ⌝ }
 {
-    let mut count = 0;
-    let mut i = n;
-    while 0 < i {
-        i -= 1;
-        let Made::Rows(more) = join_row(left, i, right, m, how, out, count) else {
-            return Made::Over;
-        };
-        count = more;
+    if m <= 1 {
+        return join_masked(left, n, right, m, how, out);
     }
-    Made::Rows(count)
+    let used = used_columns(how, 0, 0, how.split);
+    if leaves_rows(left, n, &used) {
+        return join_masked(left, n, right, m, how, out);
+    }
+    let mut masked = [0u32; MAX_ROWS * STRIDE];
+    let Made::Rows(k) = mask_rows(left, n, &used, STRIDE, &mut masked) else {
+        return join_masked(left, n, right, m, how, out);
+    };
+    join_masked(&masked, k, right, m, how, out)
 }

@@ -11,7 +11,7 @@ use lib.ListN.{length, length-append, drop, getD, set, take}
 use lib.Seq.{drop-cons, getD-at, getD-take, length-take-le, set-comm, sets, take-all, take-at, take-suc, take-take}
 use borrow.Author.Tests.{eq-eqb, ltb-false, ltb-true, ne-eqb}
 use Rattle.model.specs.Text.{decimal, digits, line, newline, space}
-use Rattle.model.proofs.Parts.{flat-append, flat-one, sets-more}
+use Rattle.laws.proofs.Parts.{flat-append, flat-one, sets-more}
 use Rattle.lines.specs.Numbers.{numbersText}
 
 -- ---- enough digits

@@ -5,10 +5,12 @@ ghost use lib.ListN.{length};
 ghost use lib.Seq.{sets};
 ghost use Rattle.model.specs.Text.{decimal, line};
 ghost use Rattle.lines.specs.Numbers.{numbersText};
+ghost use Rattle.lines.specs.Written.{Put, PutLine};
 
 // How many digits a number has.
 fn digit_count(x: usize) -> usize
-    ensures { λ r. ⌜ (r ≡ length (decimal x)) × (r ≤ 20) ⌝ }
+    ensures counts { λ r. ⌜ r ≡ length (decimal x) ⌝ }
+    ensures few { λ r. ⌜ r ≤ 20 ⌝ }
 {
     let mut count = 1;
     let mut rest = x / 10;
@@ -36,8 +38,7 @@ fn put_digits(out: &mut [u8], at: usize, x: usize, count: usize)
 // A number in decimal from an offset on: where the bytes after it begin.
 fn put_number(out: &mut [u8], at: usize, x: usize) -> usize
     requires { ⌜ at + 20 ≤ length (now out) ⌝ }
-    ensures { λ r. ⌜ (now (out .exit) ≡ sets (now (out .entry)) at (decimal x)) × (r ≡ at + length (decimal x))
-        × (r ≤ at + 20) ⌝ }
+    ensures { λ r. ⌜ Put (decimal x) 20 at (now (out .entry)) (now (out .exit)) r ⌝ }
 {
     let count = digit_count(x);
     put_digits(out, at, x, count);
@@ -47,8 +48,8 @@ fn put_number(out: &mut [u8], at: usize, x: usize) -> usize
 // Some bytes from an offset on: where the bytes after them begin.
 fn put_bytes(out: &mut [u8], at: usize, text: &[u8]) -> usize
     requires { ⌜ at + length (now text) ≤ length (now out) ⌝ }
-    ensures { λ r. ⌜ (now (out .exit) ≡ sets (now (out .entry)) at (now (text .entry)))
-        × (r ≡ at + length (now (text .entry))) ⌝ }
+    ensures bytes { λ _. ⌜ now (out .exit) ≡ sets (now (out .entry)) at (now (text .entry)) ⌝ }
+    ensures next { λ r. ⌜ r ≡ at + length (now (text .entry)) ⌝ }
 {
     let n = text.len();
     let mut k = 0;
@@ -62,8 +63,8 @@ fn put_bytes(out: &mut [u8], at: usize, text: &[u8]) -> usize
 // Numbers, a space before each, from an offset on: where the bytes after them begin.
 fn put_numbers(out: &mut [u8], at: usize, numbers: &[usize]) -> usize
     requires { ⌜ at + 21 * length (now numbers) ≤ length (now out) ⌝ }
-    ensures { λ r. ⌜ (now (out .exit) ≡ sets (now (out .entry)) at (numbersText (now (numbers .entry))))
-        × (r ≡ at + length (numbersText (now (numbers .entry)))) × (r ≤ at + 21 * length (now (numbers .entry))) ⌝ }
+    ensures { λ r. ⌜ Put (numbersText (now (numbers .entry))) (21 * length (now (numbers .entry))) at
+        (now (out .entry)) (now (out .exit)) r ⌝ }
 {
     let n = numbers.len();
     let mut to = at;
@@ -79,9 +80,8 @@ fn put_numbers(out: &mut [u8], at: usize, numbers: &[usize]) -> usize
 // A line: a word, then numbers, from an offset on: where the bytes after it begin.
 pub fn put_line_at(out: &mut [u8], at: usize, word: &[u8], numbers: &[usize]) -> usize
     requires { ⌜ at + length (now word) + 21 * length (now numbers) < length (now out) ⌝ }
-    ensures { λ r. ⌜ (now (out .exit) ≡ sets (now (out .entry)) at (line (now (word .entry)) (now (numbers .entry))))
-        × (r ≡ at + length (line (now (word .entry)) (now (numbers .entry))))
-        × (r ≤ at + length (now (word .entry)) + 21 * length (now (numbers .entry)) + 1) ⌝ }
+    ensures { λ r. ⌜ PutLine (line (now (word .entry)) (now (numbers .entry))) (now (word .entry))
+        (length (now (numbers .entry))) at (now (out .entry)) (now (out .exit)) r ⌝ }
 {
     let from = put_bytes(out, at, word);
     let end = put_numbers(out, from, numbers);
@@ -92,8 +92,8 @@ pub fn put_line_at(out: &mut [u8], at: usize, word: &[u8], numbers: &[usize]) ->
 // A line from the first byte on: its length.
 pub fn put_line(out: &mut [u8], word: &[u8], numbers: &[usize]) -> usize
     requires { ⌜ length (now word) + 21 * length (now numbers) < length (now out) ⌝ }
-    ensures { λ r. ⌜ (now (out .exit) ≡ sets (now (out .entry)) 0 (line (now (word .entry)) (now (numbers .entry))))
-        × (r ≡ length (line (now (word .entry)) (now (numbers .entry)))) × (r ≤ length (now (out .entry))) ⌝ }
+    ensures { λ r. ⌜ Put (line (now (word .entry)) (now (numbers .entry))) (length (now (out .entry))) 0
+        (now (out .entry)) (now (out .exit)) r ⌝ }
 {
     put_line_at(out, 0, word, numbers)
 }

@@ -6,7 +6,8 @@ use Prim.Native.Nat.{ℕ}
 use native.Mathlib.Omega.{arith}
 use lib.ListN.{getD, set, replicate, take, drop, take-append-drop}
 use Rattle.model.specs.Row.{Relation}
-use Rattle.model.specs.Network.{Node, nodesIn, readNetwork}
+use Rattle.model.specs.Algebra.{constant}
+use Rattle.model.specs.Network.{Node, nodesIn, readNetwork, table, select, project, setOperation, difference}
 use Rattle.model.specs.Evaluation.{evaluate}
 use Rattle.model.specs.Delta.{Change, noChange}
 use Rattle.model.specs.Station.{State}
@@ -25,12 +26,34 @@ small : Layout
 small = record { stride = 2; capacity = 3 }
 
 nodesN : List Node
-unfolding readNetwork networkN
-nodesN = nodesIn networkN
+nodesN =
+    table 2
+    ∷ select 0 1 5 (constant 8)
+    ∷ project 1 (0 ∷ [])
+    ∷ table 1
+    ∷ setOperation difference 2 3
+    ∷ []
+
+nodes-read : nodesIn networkN ≡ nodesN
+unfolding readNetwork networkN nodesN
+nodes-read = refl
+
+-- the change of nodes 0 and 1
+abbrev lostRow : Change
+lostRow = record { gained = []; lost = (5 ∷ 9 ∷ []) ∷ [] }
 
 stateN : State
-unfolding after networkN batch1 batch2
-stateN = after networkN (batch1 ∷ batch2 ∷ [])
+stateN = record {
+  tables = ((5 ∷ 12 ∷ []) ∷ []) ∷ [] ∷ [] ∷ [] ∷ [] ∷ [];
+  number = 2;
+  stamps = 2 ∷ 2 ∷ 1 ∷ 0 ∷ 1 ∷ [];
+  changes = lostRow ∷ lostRow ∷ noChange ∷ noChange ∷ noChange ∷ [];
+  worked = 1 ∷ 2 ∷ [];
+}
+
+state-after : after networkN (batch1 ∷ batch2 ∷ []) ≡ stateN
+unfolding after networkN batch1 batch2 stateN
+state-after = refl
 
 -- areas one word longer than named, whose words are all x, but the last is y
 areasOf : ℕ → ℕ → Areas
@@ -39,9 +62,25 @@ areasOf x y =
     let words : List ℕ = replicate (areaWords small) x ++ (y ∷ []) in
     record { rows = words; gained = words; lost = words; head = replicate headWords x ++ (y ∷ []) }
 
+-- the words that hold N's state: node i's words are at 6 × i, row j's at 2 × j from there; zeros between; the word past the named ones is as it was
 areasN : Areas
-unfolding holding small nodesN stateN areasOf
-areasN = holding small nodesN stateN (areasOf 9 8)
+areasN = record {
+  rows = (5 ∷ 12 ∷ 0 ∷ 0 ∷ 0 ∷ 0 ∷ []) ++ (5 ∷ 12 ∷ 0 ∷ 0 ∷ 0 ∷ 0 ∷ []) ++ (5 ∷ replicate 11 0) ++ (5 ∷ replicate 167 0) ++ (8 ∷ []);
+  gained = replicate 192 0 ++ (8 ∷ []);
+  lost = (5 ∷ 9 ∷ 0 ∷ 0 ∷ 0 ∷ 0 ∷ []) ++ (5 ∷ 9 ∷ replicate 184 0) ++ (8 ∷ []);
+  head =
+      (2 ∷ [])  -- batch number
+      ++ (1 ∷ 1 ∷ 1 ∷ 0 ∷ 1 ∷ replicate 27 0)  -- row counts
+      ++ (2 ∷ 2 ∷ 1 ∷ 0 ∷ 1 ∷ replicate 27 0)  -- stamps
+      ++ replicate 32 0  -- gained counts
+      ++ (1 ∷ 1 ∷ replicate 30 0)  -- lost counts
+      ++ (2 ∷ 1 ∷ 2 ∷ replicate 30 0)  -- worked list
+      ++ (8 ∷ []);
+}
+
+words-held : holding small nodesN stateN (areasOf 9 8) ≡ areasN
+unfolding holding small nodesN stateN areasOf areasN
+words-held = refl
 
 -- the areas with one word of the rows, of gained, of lost, or of the head changed
 withRows : ℕ → ℕ → Areas
@@ -107,42 +146,11 @@ last-node : isForm (withRows 24 6) ≡ true
 unfolding isForm areasN withRows
 last-node = refl
 
--- ---- the words that hold a state
-
--- node i's words are at 6 × i, row j's at 2 × j from there; zeros between; the word past the named ones is as it was
-words-held :
-    areasN
-    ≡ record {
-      rows = (5 ∷ 12 ∷ 0 ∷ 0 ∷ 0 ∷ 0 ∷ []) ++ (5 ∷ 12 ∷ 0 ∷ 0 ∷ 0 ∷ 0 ∷ []) ++ (5 ∷ replicate 11 0) ++ (5 ∷ replicate 167 0) ++ (8 ∷ []);
-      gained = replicate 192 0 ++ (8 ∷ []);
-      lost = (5 ∷ 9 ∷ 0 ∷ 0 ∷ 0 ∷ 0 ∷ []) ++ (5 ∷ 9 ∷ replicate 184 0) ++ (8 ∷ []);
-      head =
-          (2 ∷ [])  -- batch number
-          ++ (1 ∷ 1 ∷ 1 ∷ 0 ∷ 1 ∷ replicate 27 0)  -- row counts
-          ++ (2 ∷ 2 ∷ 1 ∷ 0 ∷ 1 ∷ replicate 27 0)  -- stamps
-          ++ replicate 32 0  -- gained counts
-          ++ (1 ∷ 1 ∷ replicate 30 0)  -- lost counts
-          ++ (2 ∷ 1 ∷ 2 ∷ replicate 30 0)  -- worked list
-          ++ (8 ∷ []);
-    }
-unfolding areasN
-words-held = refl
-
--- the change of nodes 0 and 1
-abbrev lostRow : Change
-lostRow = record { gained = []; lost = (5 ∷ 9 ∷ []) ∷ [] }
+-- ---- the words that hold a state, read back
 
 -- what these words say, read back: the tables' rows, number, stamps, gained and lost rows, worked list
-words-read :
-    stateIn small nodesN areasN
-    ≡ record {
-      tables = ((5 ∷ 12 ∷ []) ∷ []) ∷ [] ∷ [] ∷ [] ∷ [] ∷ [];
-      number = 2;
-      stamps = 2 ∷ 2 ∷ 1 ∷ 0 ∷ 1 ∷ [];
-      changes = lostRow ∷ lostRow ∷ noChange ∷ noChange ∷ noChange ∷ [];
-      worked = 1 ∷ 2 ∷ [];
-    }
-unfolding stateIn small nodesN areasN
+words-read : stateIn small nodesN areasN ≡ stateN
+unfolding stateIn small nodesN areasN stateN
 words-read = refl
 
 -- opening sets all named words to 0, and no other

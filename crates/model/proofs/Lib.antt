@@ -1,17 +1,3 @@
-pub mod Order
-pub mod Sets
-pub mod Algebra
-pub mod Build
-pub mod Delta
-pub mod Folded
-pub mod Widths
-pub mod ByKind
-pub mod Inputs
-pub mod Fits
-pub mod Parts
-pub mod Watched
-pub mod Events
-pub mod Bounds
 pub mod ReadExamples
 pub mod StationExamples
 pub mod AreaExamples

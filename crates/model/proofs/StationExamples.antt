@@ -1,9 +1,10 @@
 -- Computed examples of batches, changes and the plain station, beyond the order's starred ones. Each says in its comment what it pins.
 use mathlib.Core.Path.{_≡_, refl}
-use mathlib.Core.Bool.{Bool, true}
+use mathlib.Core.Bool.{Bool, true, false}
 use mathlib.Core.List.{List, [], _∷_, _++_, map}
 use Prim.Native.Nat.{ℕ}
-use Rattle.model.specs.Row.{sameRows, allOf}
+use Rattle.model.specs.Row.{sameRows, allOf, numbersBelow}
+use Rattle.model.specs.Algebra.{holdsOf, compareFields}
 use Rattle.model.specs.Record.{Bytes}
 use Rattle.model.specs.Evaluation.{builtOn}
 use Rattle.model.specs.Delta.{noChange, netChange}
@@ -36,6 +37,21 @@ networkL =
     ++ recordBytes 2 (1 ∷ 0 ∷ 5 ∷ 0 ∷ 0 ∷ [])
     ++ recordBytes 6 (0 ∷ 2 ∷ [])
     ++ recordBytes 6 (2 ∷ 0 ∷ [])
+
+-- ---- comparisons
+
+-- what each code says of 4, 5 and 6, held against 5
+comparisons-of-5 :
+    map (λ code. map (λ x. holdsOf code (compareFields x 5)) (4 ∷ 5 ∷ 6 ∷ [])) (numbersBelow 6)
+    ≡ (false ∷ true ∷ false ∷ [])  -- equal: 5
+    ∷ (true ∷ false ∷ true ∷ [])  -- unequal: 4 and 6
+    ∷ (true ∷ false ∷ false ∷ [])  -- less: 4
+    ∷ (true ∷ true ∷ false ∷ [])  -- at most: 4 and 5
+    ∷ (false ∷ false ∷ true ∷ [])  -- greater: 6
+    ∷ (false ∷ true ∷ true ∷ [])  -- at least: 5 and 6
+    ∷ []
+unfolding holdsOf compareFields
+comparisons-of-5 = refl
 
 -- ---- rows, changes, levels, worked lists
 

@@ -76,7 +76,8 @@ selectRows c code operand input = keep (passes c code operand) input
 unfoldable pub projectRows : List ℕ → Relation → Relation
 projectRows columns input = setOf (map (columnsOf columns) input)
 
--- one left row with each right row that agrees: "writes the right row after the left, and gives the named columns of that"
+-- one left row with each right row that agrees: "writes the right row after the left, and gives the named columns of
+-- that"
 unfoldable pub joinOne : List Pair → List ℕ → Relation → Row → List Row
 joinOne pairs columns right l = map (λ r. columnsOf columns (l ++ r)) (keep (agree pairs l) right)
 

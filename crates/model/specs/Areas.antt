@@ -108,7 +108,8 @@ workedAt head k = getD head (130 + k) 0
 abbrev pub allZero : List ℕ → Bool
 allZero words = allOf (λ x. eqb x 0) words
 
--- the words of row j of a place that are not used: of the first rows, as many as the count, those past the width; of the others all
+-- the words of row j of a place that are not used: of the first rows, as many as the count, those past the width; of
+-- the others all
 unfoldable pub unusedOf : Layout → ℕ → ℕ → List ℕ → ℕ → ℕ → List ℕ
 unfolding fields
 unusedOf L w count area i j = cond (ltb j count) (fields (L .stride - w) area (rowStart L i j + w))
@@ -210,8 +211,9 @@ unfolding goodForm rowsIn tablesOf evaluate
 coherent L nodes a = goodForm L nodes a
     && sameRelations (rowsIn L nodes a) (evaluate nodes (tablesOf nodes (rowsIn L nodes a)))
 
--- "The areas hold the plain station's state when they are of good form, each node's rows are its fresh evaluation on the plain station's tables,
--- and batch number, stamps, gained, lost and worked list are the plain station's, with their counts"
+-- "The areas hold the plain station's state when they are of good form, each node's rows are its fresh evaluation on
+-- the plain station's tables, and batch number, stamps, gained, lost and worked list are the plain station's, with
+-- their counts"
 pub record HoldsState (L : Layout) (nodes : List Node) (a : Areas) (s : State) : Type 0 where
   pub form : goodForm L nodes a ≡ true
   pub rows : rowsIn L nodes a ≡ evaluate nodes (s .tables)

@@ -5,7 +5,8 @@ use Prim.Native.Nat.{ℕ, zero, suc, _+_, _*_}
 use lib.Dec.{leb, ltb, eqb}
 use lib.ListN.{getD, length, set}
 use Rattle.model.specs.Row.{maxRows, Row, Relation, member, insertRow, deleteRow}
-use Rattle.model.specs.Record.{Bytes, u32, lengthAt, kindAt, fieldAt, isBroken, offsets, Verdict, accepted, refused, rule, firstBroken}
+use Rattle.model.specs.Record.{Bytes, u32, lengthAt, kindAt, fieldAt, isBroken, offsets, Verdict, accepted}
+use Rattle.model.specs.Record.{refused, rule, firstBroken}
 use Rattle.model.specs.Network.{Node, isTable, widths, nodeAt}
 use Rattle.model.specs.Delta.{Change, noChange, deltaUnion}
 
@@ -110,7 +111,8 @@ abbrev pub tableOf : Event → ℕ
 tableOf (put t r) = t
 tableOf (remove t r) = t
 
--- the one-row change of an event on its table's rows: the row put that was not there, or the row removed that was; else nothing
+-- the one-row change of an event on its table's rows: the row put that was not there, or the row removed that was; else
+-- nothing
 unfoldable pub oneRowChange : Event → Relation → Change
 oneRowChange (put t r) rel = cond (member r rel) noChange (record { gained = r ∷ []; lost = [] })
 oneRowChange (remove t r) rel = cond (member r rel) (record { gained = []; lost = r ∷ [] }) noChange

@@ -1,4 +1,5 @@
--- What each call promises, for every input: its answer, and all lent memory afterwards. Document 01, "Refused, in this checking order".
+-- What each call promises, for every input: its answer, and all lent memory afterwards. Document 01, "Refused, in this
+-- checking order".
 use mathlib.Core.Path.{_≡_}
 use mathlib.Core.Bool.{Bool, true, false, not, _&&_, _||_, cond}
 use mathlib.Core.List.{List, [], _++_, map, flatMap}
@@ -7,11 +8,13 @@ use lib.Dec.{leb, ltb, eqb}
 use lib.ListN.{length, drop}
 use Rattle.model.specs.Row.{Row, maxNodes}
 use Rattle.model.specs.Record.{Bytes, bytes16, bytes32, Verdict, accepted, refused, isAccepted}
-use Rattle.model.specs.Network.{Node, Network, Reading, readNetwork, nodesIn, kindOf, widths, levels, signOf, within}
+use Rattle.model.specs.Network.{Node, Network, Reading, readNetwork, nodesIn, kindOf, widths, levels, signOf}
+use Rattle.model.specs.Network.{within}
 use Rattle.model.specs.Delta.{Change, changeAt}
 use Rattle.model.specs.Watched.{Direction, wasGained, wasLost, WatchedChange, changesOf}
 use Rattle.model.specs.Station.{Step, step}
-use Rattle.model.specs.Areas.{Areas, layout, goodForm, coherent, stateIn, changesIn, holding, cleared, padded, longEnough, KeepsRest}
+use Rattle.model.specs.Areas.{Areas, layout, goodForm, coherent, stateIn, changesIn, holding, cleared, padded}
+use Rattle.model.specs.Areas.{longEnough, KeepsRest}
 
 -- ---- refusals that calls share
 
@@ -80,7 +83,8 @@ openCall net a = record {
 
 -- ---- the batch call: 1 to 14
 
--- what a call settles: its whole result, or that the result is free as far as `Free` says, for a network of so many nodes
+-- what a call settles: its whole result, or that the result is free as far as `Free` says, for a network of so many
+-- nodes
 pub data Promise : Type 0 where
   settled : Result → Promise
   free : ℕ → Promise

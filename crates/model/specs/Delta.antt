@@ -1,4 +1,5 @@
--- Net changes and delta-union: document 01, "Records" (last sentence) and "The plain station"; document 000's delta-sets.
+-- Net changes and delta-union: document 01, "Records" (last sentence) and "The plain station"; document 000's
+-- delta-sets.
 use mathlib.Core.Bool.{Bool, _&&_, not}
 use mathlib.Core.List.{List, [], zipWith}
 use Prim.Native.Nat.{ℕ}

@@ -1,4 +1,5 @@
--- The starred examples of document 01 as one table: from bytes to what they must give, with one test over the whole table.
+-- The starred examples of document 01 as one table: from bytes to what they must give, with one test over the whole
+-- table.
 use mathlib.Core.Path.{_≡_, refl}
 use mathlib.Core.Bool.{Bool, true, _&&_}
 use mathlib.Core.List.{List, [], _∷_, _++_, map, flatMap}
@@ -46,7 +47,8 @@ networkN =
     ++ recordBytes 7 (2 ∷ 3 ∷ [])  -- node 4 is 2 without 3
     ++ recordBytes 9 (4 ∷ 3 ∷ [])  -- watch on 4, sign 3
 
--- two tables of width 1, node 2 table 0 without itself, node 3 table 0 joined with itself on the pair (0,0), node 4 the union of both tables
+-- two tables of width 1, node 2 table 0 without itself, node 3 table 0 joined with itself on the pair (0,0), node 4 the
+-- union of both tables
 unfoldable pub networkS : Bytes
 unfolding recordBytes
 networkS =

@@ -6,8 +6,10 @@ use Prim.Native.Nat.{ℕ, zero, suc, _+_, _*_, max, _<_}
 use lib.Dec.{leb, ltb, eqb}
 use lib.ListN.{getD, length, set, take}
 use Rattle.model.specs.Row.{Relation, maxWidth, maxNodes, allOf, isEmpty, place}
-use Rattle.model.specs.Algebra.{Operand, constant, column, Pair, selectRows, projectRows, joinRows, unionRows, differenceRows, intersectRows}
-use Rattle.model.specs.Record.{Bytes, u32, lengthAt, kindAt, fieldAt, fieldsAt, isBroken, offsets, Verdict, accepted, refused, rule}
+use Rattle.model.specs.Algebra.{Operand, constant, column, Pair, selectRows, projectRows, joinRows, unionRows}
+use Rattle.model.specs.Algebra.{differenceRows, intersectRows}
+use Rattle.model.specs.Record.{Bytes, u32, lengthAt, kindAt, fieldAt, fieldsAt, isBroken, offsets, Verdict}
+use Rattle.model.specs.Record.{accepted, refused, rule}
 use Rattle.model.specs.Record.{firstBroken}
 
 -- ---- nodes
@@ -328,7 +330,8 @@ abbrev pub withItem : Network → Item → Network
 withItem net (nodeItem n) = record { nodes = net .nodes ++ (n ∷ []); signs = net .signs ++ (0 ∷ []) }
 withItem net (watchItem w) = record { nodes = net .nodes; signs = set (net .signs) (w .node) (w .sign) }
 
--- the lowest number that the record at an offset breaks, 0 if none, given the widths and the signs of the nodes before it
+-- the lowest number that the record at an offset breaks, 0 if none, given the widths and the signs of the nodes before
+-- it
 unfoldable pub recordFault : List ℕ → List ℕ → Bytes → ℕ → ℕ
 unfolding isBroken isUnknown hasShape itemAt itemFits
 recordFault ws signs bs at =

@@ -50,7 +50,8 @@ fieldsAt bs at k (suc n) = fieldAt bs at k ∷ fieldsAt bs at (suc k) n
 unfoldable pub isBroken : Bytes → ℕ → Bool
 isBroken bs at = ltb (length bs - at) 4 || ltb (lengthAt bs at) 4 || ltb (length bs - at) (lengthAt bs at)
 
--- the offsets of the records from an offset on, each behind the one before, as far as the first broken one; n bounds their number
+-- the offsets of the records from an offset on, each behind the one before, as far as the first broken one; n bounds
+-- their number
 unfoldable pub offsetsFrom : ℕ → Bytes → ℕ → List ℕ
 unfolding isBroken
 offsetsFrom zero bs at = []

@@ -1,11 +1,11 @@
--- Rows, their order, and relations: document 01, "Rows, nodes, levels".
--- A relation, a set of rows of one width, is written as the strictly ascending list of its rows, so that each set has exactly one form.
+-- Rows, their order, and relations: document 01, "Rows, nodes, levels". A relation, a set of rows of one width, is
+-- written as the strictly ascending list of its rows, so that each set has exactly one form.
 use mathlib.Core.Path.{_≡_}
 use mathlib.Core.Bool.{Bool, true, false, not, _&&_, _||_}
 use mathlib.Core.List.{List, [], _∷_}
-use Prim.Native.Nat.{ℕ, zero, suc, compare, Ordering, Ordering·lt, Ordering·eq, Ordering·gt}
+use Prim.Native.Nat.{ℕ, zero, suc, _≤_, compare, Ordering, Ordering·lt, Ordering·eq, Ordering·gt}
 use lib.Dec.{isEq}
-use lib.ListN.{length}
+use lib.ListN.{length, getD}
 
 -- "A row has 1 to 4 fields", each an unsigned 32-bit number
 abbrev pub Row : Type 0
@@ -31,6 +31,10 @@ maxNodes = 32
 abbrev pub Wide : ℕ → List Row → Type 0
 Wide w [] = Unit {0}
 Wide w (r ∷ l) = (length r ≡ w) × Wide w l
+
+-- every width of a list is at most the largest
+abbrev pub Narrow : List ℕ → Type 0
+Narrow ws = (i : ℕ) → getD ws i 0 ≤ maxWidth
 
 -- ---- the order of rows
 

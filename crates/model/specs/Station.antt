@@ -11,8 +11,8 @@ use Rattle.model.specs.Evaluation.{evaluate, overfull}
 use Rattle.model.specs.Batch.{Event, BatchReading, readBatch, actAll}
 use Rattle.model.specs.Delta.{Change, noChange, netChanges, isChanged, changeAt}
 
--- "It keeps each table's rows, a batch number, a worked list, and for each node a change stamp, gained rows and lost rows"
--- The tables' rows stand at their node numbers, and nothing at those of derived nodes.
+-- "It keeps each table's rows, a batch number, a worked list, and for each node a change stamp, gained rows and lost
+-- rows" The tables' rows stand at their node numbers, and nothing at those of derived nodes.
 pub record State : Type 0 where
   pub tables : List Relation
   pub number : ℕ

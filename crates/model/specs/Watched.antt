@@ -1,4 +1,5 @@
--- Watched changes, in the order of reports and of the station program. Document 01, "Areas the caller lends", "Examples".
+-- Watched changes, in the order of reports and of the station program. Document 01, "Areas the caller lends",
+-- "Examples".
 use mathlib.Core.Bool.{Bool, _||_, cond}
 use mathlib.Core.List.{List, [], _++_, map, flatMap}
 use Prim.Native.Nat.{ℕ}

@@ -12,9 +12,9 @@ use lib.Dec.{ltb}
 use borrow.Author.Tests.{ltb-false, ltb-true, not-true, not-false}
 use Rattle.model.specs.Record.{Bytes, fieldsAt}
 use Rattle.model.specs.Network.{nodeItem, watchItem, widthOf, widthOn, levelOf, levels, widths, highest, inputsOf, isTable, leftOf, rightOf, nodeFits, fitsOn, pairsAt}
-use Rattle.model.proofs.Build.{build-more}
-use Rattle.model.proofs.Fits.{widths-more}
-use Rattle.model.proofs.Inputs.{inputs-below, inputs-fit, inputs-high, inputs-highest}
+use Rattle.laws.proofs.Build.{build-more}
+use Rattle.laws.proofs.Fits.{widths-more}
+use Rattle.laws.proofs.Inputs.{inputs-below, inputs-fit, inputs-high, inputs-highest}
 use Rattle.nodes.specs.Nodes.{nodeInRecord, listsOf, withLists, NodeFits, PartsAre}
 use Rattle.nodes.specs.declared.Parts.{Parts}
 use Rattle.network.specs.Reading.{slotNode, nodesOf, Sound, Built, Extends, NextSlot, InputsBelow, WidthIs, LevelIs, Ends, Shaped, noSlot}
@@ -171,21 +171,21 @@ level-low n ws ls f low = go (isTable n) refl
 
 -- a node's width and level, from its parts
 module _ (n : Node) (r : Parts) (are : PartsAre n r) where
-  pub width-first : (ws : List ℕ) → r .width .inherited ≡ true → WidthIs n ws (getD ws (r .inputs .left) 0)
+  pub width-first : (ws : List ℕ) → r .inherited ≡ true → WidthIs n ws (getD ws (r .left) 0)
   width-first ws e columns pairs h =
       let v : ℕ = getD ws (leftOf (withLists n columns pairs)) 0 in
-      let w : v ≡ widthOn v (withLists n columns pairs) = ap (λ (t : Bool). cond t v (r .width .own)) (sym e) ∙ are .width columns pairs v h in
+      let w : v ≡ widthOn v (withLists n columns pairs) = ap (λ (t : Bool). cond t v (r .width)) (sym e) ∙ are .width columns pairs v h in
       ap (λ (i : ℕ). getD ws i 0) (are .left columns pairs) ∙ w
 
-  pub width-own : (ws : List ℕ) → r .width .inherited ≡ false → WidthIs n ws (r .width .own)
+  pub width-own : (ws : List ℕ) → r .inherited ≡ false → WidthIs n ws (r .width)
   width-own ws e columns pairs h =
       let v : ℕ = getD ws (leftOf (withLists n columns pairs)) 0 in
-      ap (λ (t : Bool). cond t v (r .width .own)) (sym e) ∙ are .width columns pairs v h
+      ap (λ (t : Bool). cond t v (r .width)) (sym e) ∙ are .width columns pairs v h
 
-  pub level-none : (ls : List ℕ) → r .inputs .derived ≡ false → LevelIs n ls 0
+  pub level-none : (ls : List ℕ) → r .derived ≡ false → LevelIs n ls 0
   level-none ls e columns pairs = rw (not-false (isTable (withLists n columns pairs)) (sym (are .derived columns pairs) ∙ e))
 
-  pub level-next : (ls : List ℕ) → r .inputs .derived ≡ true → LevelIs n ls (max (getD ls (r .inputs .left) 0) (getD ls (r .inputs .right) 0) + 1)
+  pub level-next : (ls : List ℕ) → r .derived ≡ true → LevelIs n ls (max (getD ls (r .left) 0) (getD ls (r .right) 0) + 1)
   level-next ls e columns pairs =
       let m : model.Node = withLists n columns pairs in
       let d : isTable m ≡ false = not-true (isTable m) (sym (are .derived columns pairs) ∙ e) in

@@ -1,3 +1,4 @@
 pub mod Building
 pub mod ReadAll
 pub mod Kept
+pub mod Nodes

@@ -1,4 +1,4 @@
--- What the reader's networks mean: the model's network, reading and answer.
+-- What the reader's networks mean: the model's network and reading.
 use mathlib.Core.Path.{_≡_}
 use mathlib.Core.List.{List, [], map}
 use Prim.Native.Nat.{ℕ, _*_, _≤_, _<_}
@@ -7,19 +7,18 @@ use Rattle.model.specs.Record.{Bytes}
 use Rattle.model.specs.Algebra.{Pair}
 use Rattle.model.specs.Network.{Item, readNetwork, maxPairs}
 use Rattle.model.specs.Areas.{Areas}
-use Rattle.model.specs.Calls.{ReadAnswer, Result}
-use Rattle.nodes.specs.Nodes.{nodeOf, NodeFits, Narrow, listsOf, withLists}
+use Rattle.model.specs.Calls.{Result}
+use Rattle.nodes.specs.Nodes.{nodeOf, NodeFits, listsOf, withLists}
 use Rattle.nodes.specs.declared.Node.{Node}
 use Rattle.nodes.specs.declared.Node.the-variants.{Table}
 use Rattle.nodes.specs.declared.Item.the-variants.{Node as NodeBrought, Watch as WatchBrought}
 use Rattle.network.specs.declared.Slot.{Slot}
 use Rattle.network.specs.declared.Network.{Network}
-use Rattle.network.specs.declared.Verdict.{Verdict}
+use Rattle.verdicts.specs.declared.Verdict.{Verdict}
+use Rattle.verdicts.specs.Verdicts.{verdictOf}
 use Rattle.network.specs.declared.Reading.{Reading}
-use Rattle.network.specs.declared.Answer.{Answer}
-use Rattle.model.specs.Record as modelRecord
 use Rattle.model.specs.Network as model
-use Rattle.model.specs.Row.{maxNodes, maxWidth}
+use Rattle.model.specs.Row.{maxNodes, maxWidth, Narrow}
 use Rattle.nodes.specs.declared.Item as declaredItem
 
 -- ---- networks
@@ -39,10 +38,6 @@ nodesOf net = map slotNode (take (net .count) (net .slots))
 -- the model's network
 abbrev pub networkOf : Network → model.Network
 networkOf net = record { nodes = nodesOf net; signs = take (net .count) (net .signs) }
-
--- the order's number and place
-abbrev pub verdictOf : Verdict → modelRecord.Verdict
-verdictOf v = record { number = v .number; place = v .place }
 
 -- a verdict, with the areas that a call leaves
 abbrev pub resultWith : Verdict → Areas → Result
@@ -126,15 +121,3 @@ pub record NextSlot (net : Network) (slot : Slot) (width level : ℕ) : Type 0 w
 pub record ReadsNetwork (bs : Bytes) (r : Reading) : Type 0 where
   pub is : readingOf r ≡ readNetwork bs
   pub built : Built (r .network)
-
--- ---- the reader's answer
-
--- the model's answer
-abbrev pub answerOf : Answer → ReadAnswer
-answerOf a = record {
-  verdict = record { number = a .number; place = a .place };
-  count = a .count;
-  kinds = a .kinds;
-  widths = a .widths;
-  levels = a .levels;
-}

@@ -1,22 +1,21 @@
 // Networks read from bytes: refusals 2 to 7.
 ghost use mathlib.Core.Path.{_≡_};
-ghost use mathlib.Core.List.{map};
 ghost use Prim.Native.Nat.{ℕ, _+_, _*_, _≤_, _<_, max};
 ghost use lib.ListN.{length, getD};
-ghost use Rattle.model.specs.Network.{noNetwork, refusedReading, kindOf, maxPairs};
+ghost use Rattle.model.specs.Network.{noNetwork, refusedReading, maxPairs};
 ghost use Rattle.model.specs.Record.{fieldsAt};
 ghost use Rattle.model.specs.Areas.{padded};
-ghost use Rattle.model.specs.Calls.{readCall};
 ghost use Rattle.model.specs.Row.{maxNodes, maxWidth};
 ghost use Rattle.nodes.specs.Nodes.{nodeInRecord, listsOf, ListsFit};
-ghost use Rattle.network.specs.Reading.{ReadsNetwork, slotNode, Shaped, InputsBelow, WidthIs, LevelIs, Built, nodesOf, networkOf, readingOf};
-ghost use Rattle.network.specs.Reading.{answerOf};
+ghost use Rattle.network.specs.Reading.{ReadsNetwork, Built, networkOf, readingOf};
+ghost use Rattle.network.specs.Reading.{slotNode, Shaped, InputsBelow, WidthIs, LevelIs};
 use nodes::Item;
-use nodes::MAX_NODES;
 use nodes::MAX_PAIRS;
-use nodes::MAX_WIDTH;
 use nodes::Node;
 use nodes::Record;
+use rows::MAX_NODES;
+use rows::MAX_WIDTH;
+use verdicts::Verdict;
 
 // A node with its columns, and its pairs as left and right columns in turn.
 pub struct Slot {
@@ -32,12 +31,6 @@ pub struct Network {
     pub widths: [usize; MAX_NODES],
     pub levels: [usize; MAX_NODES],
     pub signs: [usize; MAX_NODES],
-}
-
-// 0 and 0, or a refusal's number and its place.
-pub struct Verdict {
-    pub number: usize,
-    pub place: usize,
 }
 
 // The verdict, and the network where it is accepted.
@@ -79,12 +72,12 @@ fn pairs_of(bytes: &[u8], at: usize, n: usize) -> [usize; 2 * MAX_PAIRS]
 // A node with its lists, read from its record.
 fn slot_at(bytes: &[u8], at: usize, node: Node) -> Slot
     requires { ⌜ ListsFit (listsOf node) (now bytes) at ⌝ }
-    ensures { λ r. ⌜ (slotNode r ≡ nodeInRecord node (now (bytes .entry)) at) × Shaped r ⌝ }
+    ensures brings { λ r. ⌜ slotNode r ≡ nodeInRecord node (now (bytes .entry)) at ⌝ }
+    ensures shaped { λ r. ⌜ Shaped r ⌝ }
 {
     let parts = nodes::parts_of(node);
-    let lists = parts.lists;
-    let pairs = pairs_of(bytes, at, lists.pairs);
-    let columns = columns_of(bytes, at, lists.from + 2 * lists.pairs, lists.columns);
+    let pairs = pairs_of(bytes, at, parts.pairs);
+    let columns = columns_of(bytes, at, parts.from + 2 * parts.pairs, parts.columns);
     Slot {
         node,
         columns,
@@ -98,13 +91,11 @@ fn width_of(node: Node, widths: &[usize]) -> usize
     ensures { λ r. ⌜ WidthIs node (now (widths .entry)) r ⌝ }
 {
     let parts = nodes::parts_of(node);
-    let width = parts.width;
-    if width.inherited {
-        let inputs = parts.inputs;
-        let left = inputs.left;
+    if parts.inherited {
+        let left = parts.left;
         return widths[left];
     }
-    width.own
+    parts.width
 }
 
 // The greater of two numbers.
@@ -121,10 +112,9 @@ fn level_of(node: Node, levels: &[usize]) -> usize
     ensures { λ r. ⌜ LevelIs node (now (levels .entry)) r ⌝ }
 {
     let parts = nodes::parts_of(node);
-    let inputs = parts.inputs;
-    if inputs.derived {
-        let left = inputs.left;
-        let right = inputs.right;
+    if parts.derived {
+        let left = parts.left;
+        let right = parts.right;
         return greater(levels[left], levels[right]) + 1;
     }
     0
@@ -132,7 +122,8 @@ fn level_of(node: Node, levels: &[usize]) -> usize
 
 // A network with no node.
 fn no_network() -> Network
-    ensures { λ r. ⌜ Built r × (networkOf r ≡ noNetwork) ⌝ }
+    ensures built { λ r. ⌜ Built r ⌝ }
+    ensures empty { λ r. ⌜ networkOf r ≡ noNetwork ⌝ }
 {
     let slot = Slot {
         node: Node::Table { width: 0 },
@@ -150,10 +141,11 @@ fn no_network() -> Network
 
 // A refusal, with no network beside it.
 pub fn refused_reading(number: usize, place: usize) -> Reading
-    ensures { λ r. ⌜ (readingOf r ≡ refusedReading number place) × Built (r .network) ⌝ }
+    ensures refuses { λ r. ⌜ readingOf r ≡ refusedReading number place ⌝ }
+    ensures built { λ r. ⌜ Built (r .network) ⌝ }
 {
     Reading {
-        verdict: Verdict { number, place },
+        verdict: verdicts::refused(number, place),
         network: no_network(),
     }
 }
@@ -191,60 +183,7 @@ pub fn read_network(bytes: &[u8]) -> Reading
         }
     }
     Reading {
-        verdict: Verdict {
-            number: 0,
-            place: 0,
-        },
+        verdict: verdicts::accepted(),
         network: net,
-    }
-}
-
-// ---- the reader's answer
-
-// The numbers of the nodes' kinds, then zeros.
-fn kinds_of(net: Network) -> [usize; MAX_NODES]
-    requires { ⌜ Built net ⌝ }
-    ensures { λ r. ⌜ r ≡ padded maxNodes (map kindOf (nodesOf net)) ⌝ }
-{
-    let mut kinds = [0usize; MAX_NODES];
-    let count = net.count;
-    let mut i = 0;
-    while i < count {
-        let slot = net.slots[i];
-        let node = slot.node;
-        let parts = nodes::parts_of(node);
-        kinds[i] = parts.kind;
-        i += 1;
-    }
-    kinds
-}
-
-// What the reader answers: the node count, and each node's kind, width and level, 0 past the last; zeros beside a refusal.
-pub struct Answer {
-    pub number: usize,
-    pub place: usize,
-    pub count: usize,
-    pub kinds: [usize; MAX_NODES],
-    pub widths: [usize; MAX_NODES],
-    pub levels: [usize; MAX_NODES],
-}
-
-// The reader: refusals 2 to 7, or what it answers.
-pub fn read(bytes: &[u8]) -> Answer
-    ensures answers { λ r. ⌜ answerOf r ≡ readCall (now (bytes .entry)) ⌝ }
-{
-    let reading = read_network(bytes);
-    let verdict = reading.verdict;
-    let net = reading.network;
-    let kinds = kinds_of(net);
-    let widths = net.widths;
-    let levels = net.levels;
-    Answer {
-        number: verdict.number,
-        place: verdict.place,
-        count: net.count,
-        kinds,
-        widths,
-        levels,
     }
 }

@@ -16,7 +16,7 @@ use Rattle.areas.specs.Lent.{placeAt}
 use Rattle.tables.specs.Fold.{StandsFolded, Foldable, Table, foldRows, foldAt}
 use Rattle.places.proofs.Places.{place-few, place-wide, rows-ascend, place-rows, stored-blank}
 use Rattle.tables.proofs.Folds.{stands-table}
-use Rattle.model.proofs.Sets.{ascending-holds}
+use Rattle.laws.proofs.Sets.{ascending-holds}
 use Rattle.model.specs.Areas.{padded, placeOf, layout, areaSize, foldedSize, placeSize, stride}
 use Rattle.tables.proofs.Acts.{fold-padded, fold-wide}
 use Rattle.rows.proofs.Place.{length-map-padded, wide-padded}

@@ -5,10 +5,9 @@ use mathlib.Core.List.{List}
 use Prim.Native.Nat.{ℕ, _≤_, _<_}
 use lib.Dec.{eqb}
 use lib.ListN.{getD, length}
-use Rattle.model.specs.Row.{Relation, maxNodes}
+use Rattle.model.specs.Row.{Relation, maxNodes, Narrow}
 use Rattle.model.specs.Record.{Bytes, offsets}
 use Rattle.model.specs.Areas.{rowCount, areaSize, headWords}
-use Rattle.nodes.specs.Nodes.{Narrow}
 use Rattle.network.specs.declared.Slot.{Slot}
 use Rattle.network.specs.Reading.{slotNode}
 use Rattle.areas.specs.Lent.{placeAt}

@@ -12,8 +12,8 @@ use Rattle.model.specs.Record.{Bytes, u32, lengthAt, fieldAt, fieldsAt}
 use Rattle.model.specs.Network.{hasShape, projectShape, joinShape, itemAt, itemFits, nodeFits, watchFits, fitsOn, columnsBelow, pairsBelow, pairsAt, setAt, select, operandBelow, nodeItem}
 use Rattle.model.specs.Network.{watchItem}
 use Rattle.model.specs.Algebra.{Operand, constant, column}
-use Rattle.model.proofs.Sets.{and-first, and-second}
-use Rattle.model.proofs.ByKind.{item-narrow}
+use Rattle.laws.proofs.Sets.{and-first, and-second}
+use Rattle.laws.proofs.ByKind.{item-narrow}
 use Rattle.model.specs.Row.{maxWidth}
 use Rattle.nodes.specs.Nodes.{NodeRecord, WatchRecord, ListsFit, listsOf, nodeInRecord, operationOf, setKind, bodyFault, selectFits, ReadsBody}
 use Rattle.nodes.specs.declared.Operand.the-variants.{Constant, Column}

@@ -10,7 +10,7 @@ use borrow.Author.Tests.{le-leb, lt-leb, ne-eqb}
 use Rattle.model.specs.Row.{allOf, countFrom, maxNodes}
 use Rattle.model.specs.Record.{Bytes, kindAt, fieldAt, isBroken}
 use Rattle.model.specs.Network.{kinds, isUnknown, isNode, recordFault, itemAt, nodeItem, watchItem}
-use Rattle.rows.proofs.Place.{all-below}
+use Rattle.laws.proofs.All.{all-below}
 use Rattle.nodes.specs.Nodes.{numberOf, nodeInRecord, itemOf, bodyFault, Room, ReadsBody, ReadsRecord}
 use Rattle.nodes.specs.declared.Record.{Record}
 use Rattle.nodes.specs.declared.Item.the-variants.{Node as NodeBrought, Watch as WatchBrought}

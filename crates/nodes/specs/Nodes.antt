@@ -16,14 +16,13 @@ use Rattle.nodes.specs.declared.SetOperation.{SetOperation}
 use Rattle.nodes.specs.declared.SetOperation.the-variants.{Union, Difference, Intersection}
 use Rattle.nodes.specs.declared.Node.{Node}
 use Rattle.nodes.specs.declared.Node.the-variants.{Table, Select, Project, Join, Set}
-use Rattle.nodes.specs.declared.ListSizes.{ListSizes}
 use Rattle.nodes.specs.declared.Parts.{Parts}
 use Rattle.nodes.specs.declared.Record.{Record}
 use Rattle.nodes.specs.declared.Item.the-variants.{Node as NodeBrought, Watch as WatchBrought}
 use Rattle.nodes.specs.declared.Record.the-variants.{Item as Brought, Refused}
 use Rattle.model.specs.Network as model
 use Rattle.model.specs.Algebra as algebra
-use Rattle.model.specs.Row.{maxNodes, maxWidth}
+use Rattle.model.specs.Row.{maxNodes, maxWidth, Narrow}
 use Rattle.nodes.specs.declared.Item as declaredItem
 
 -- ---- nodes
@@ -51,6 +50,12 @@ setKind o = kindOf (setOperation (operationOf o) 0 0)
 abbrev pub pairsOf : ℕ → List ℕ → List Pair
 pairsOf zero l = []
 pairsOf (suc n) l = record { left = getD l 0 0; right = getD l 1 0 } ∷ pairsOf n (drop 2 l)
+
+-- how many pairs and columns a node's record has: the pairs from field 3 on, the columns behind them from a field on
+pub record ListSizes : Type 0 where
+  pub pairs : ℕ
+  pub columns : ℕ
+  pub from : ℕ
 
 -- the lists of a node's record
 abbrev pub listsOf : Node → ListSizes
@@ -80,13 +85,15 @@ nodeInRecord n bs at =
 
 -- the parts of a node
 pub record PartsAre (n : Node) (r : Parts) : Type 0 where
-  pub lists : r .lists ≡ listsOf n
   pub kind : (columns : List ℕ) (pairs : List Pair) → r .kind ≡ kindOf (withLists n columns pairs)
-  pub derived : (columns : List ℕ) (pairs : List Pair) → r .inputs .derived ≡ not (isTable (withLists n columns pairs))
-  pub left : (columns : List ℕ) (pairs : List Pair) → r .inputs .left ≡ leftOf (withLists n columns pairs)
-  pub right : (columns : List ℕ) (pairs : List Pair) → r .inputs .right ≡ rightOf (withLists n columns pairs)
+  pub derived : (columns : List ℕ) (pairs : List Pair) → r .derived ≡ not (isTable (withLists n columns pairs))
+  pub left : (columns : List ℕ) (pairs : List Pair) → r .left ≡ leftOf (withLists n columns pairs)
+  pub right : (columns : List ℕ) (pairs : List Pair) → r .right ≡ rightOf (withLists n columns pairs)
   pub width : (columns : List ℕ) (pairs : List Pair) (v : ℕ) → length columns ≡ listsOf n .columns →
-      cond (r .width .inherited) v (r .width .own) ≡ widthOn v (withLists n columns pairs)
+      cond (r .inherited) v (r .width) ≡ widthOn v (withLists n columns pairs)
+  pub pairs : r .pairs ≡ listsOf n .pairs
+  pub columns : r .columns ≡ listsOf n .columns
+  pub from : r .from ≡ listsOf n .from
 
 -- ---- records
 
@@ -117,10 +124,6 @@ numberOf (Refused k) = k
 unfoldable pub selectFits : List ℕ → Bytes → ℕ → Bool
 selectFits ws bs at = ltb (fieldAt bs at 0) (length ws) && ltb (fieldAt bs at 1) (getD ws (fieldAt bs at 0) 0)
     && ltb (fieldAt bs at 2) 6
-
--- no width is above 4
-abbrev pub Narrow : List ℕ → Type 0
-Narrow ws = (i : ℕ) → getD ws i 0 ≤ maxWidth
 
 -- rules 6 and 7 on a record of a kind
 unfoldable pub bodyFault : List ℕ → List ℕ → ℕ → Bytes → ℕ → ℕ

@@ -6,12 +6,10 @@ ghost use Prim.Native.Nat.{ℕ, _+_, _*_, _≤_, _<_};
 ghost use lib.ListN.{length, take};
 ghost use Rattle.model.specs.Network.{columnsBelow, pairsBelow, pairsAt, projectShape, joinShape};
 ghost use Rattle.model.specs.Record.{fieldsAt, isBroken};
-ghost use Rattle.nodes.specs.Nodes.{ReadsBody, ReadsRecord, selectFits, Narrow, selectKind, setKind, PartsAre, numberOf};
-
-// The most fields of a row, and the most nodes of a network.
-pub const MAX_WIDTH: usize = 4;
-
-pub const MAX_NODES: usize = 32;
+ghost use Rattle.model.specs.Row.{Narrow};
+ghost use Rattle.nodes.specs.Nodes.{ReadsBody, ReadsRecord, selectFits, selectKind, setKind, PartsAre, numberOf};
+use rows::MAX_NODES;
+use rows::MAX_WIDTH;
 
 // The most pairs of a join.
 pub const MAX_PAIRS: usize = 2;
@@ -412,61 +410,20 @@ fn read_node(kind: usize, bytes: &[u8], at: usize, count: usize, widths: &[usize
 
 // ---- what goes by a node's kind, but for its rows
 
-// Whether a node has inputs, and the first and the last of them, 0 if it has none.
-pub struct Inputs {
-    pub derived: bool,
-    pub left: usize,
-    pub right: usize,
-}
-
-// A node's own width, or that it has its first input's.
-pub struct Width {
-    pub inherited: bool,
-    pub own: usize,
-}
-
-// How many pairs and columns a node's record has: the pairs from field 3 on, the columns from a field on, behind the pairs.
-pub struct ListSizes {
-    pub pairs: usize,
-    pub columns: usize,
-    pub from: usize,
-}
-
 // A node's kind, inputs, width and lists.
 pub struct Parts {
     pub kind: usize,
-    pub inputs: Inputs,
-    pub width: Width,
-    pub lists: ListSizes,
-}
-
-// The inputs by their parts.
-fn uses(derived: bool, left: usize, right: usize) -> Inputs
-    ensures { λ r. ⌜ r ≡ record { derived = derived; left = left; right = right } ⌝ }
-{
-    Inputs {
-        derived,
-        left,
-        right,
-    }
-}
-
-// A width by its parts.
-fn wide(inherited: bool, own: usize) -> Width
-    ensures { λ r. ⌜ r ≡ record { inherited = inherited; own = own } ⌝ }
-{
-    Width { inherited, own }
-}
-
-// The sizes of lists by their parts.
-fn listed(pairs: usize, columns: usize, from: usize) -> ListSizes
-    ensures { λ r. ⌜ r ≡ record { pairs = pairs; columns = columns; from = from } ⌝ }
-{
-    ListSizes {
-        pairs,
-        columns,
-        from,
-    }
+    // Whether it has inputs, and the first and the last of them, 0 if it has none.
+    pub derived: bool,
+    pub left: usize,
+    pub right: usize,
+    // Its own width, or that it has its first input's.
+    pub inherited: bool,
+    pub width: usize,
+    // How many pairs and columns its record has: the pairs from field 3 on, the columns behind them from a field on.
+    pub pairs: usize,
+    pub columns: usize,
+    pub from: usize,
 }
 
 // The number of a select's kind.
@@ -490,15 +447,38 @@ fn set_kind(operation: SetOperation) -> usize
     }
 }
 
-// A node's parts put together.
-fn made(kind: usize, inputs: Inputs, width: Width, lists: ListSizes) -> Parts
-    ensures { λ r. ⌜ r ≡ record { kind = kind; inputs = inputs; width = width; lists = lists } ⌝ }
+// The parts of a node with inputs: its own width is the number of its columns.
+fn derived(
+    kind: usize,
+    left: usize,
+    right: usize,
+    inherited: bool,
+    pairs: usize,
+    columns: usize,
+    from: usize,
+) -> Parts
+    ensures { λ r. ⌜ r ≡ record {
+      kind = kind;
+      derived = true;
+      left = left;
+      right = right;
+      inherited = inherited;
+      width = columns;
+      pairs = pairs;
+      columns = columns;
+      from = from;
+    } ⌝ }
 {
     Parts {
         kind,
-        inputs,
-        width,
-        lists,
+        derived: true,
+        left,
+        right,
+        inherited,
+        width: columns,
+        pairs,
+        columns,
+        from,
     }
 }
 
@@ -507,39 +487,35 @@ pub fn parts_of(node: Node) -> Parts
     ensures { λ r. ⌜ PartsAre node r ⌝ }
 {
     match node {
-        Node::Table { width } => made(1, uses(false, 0, 0), wide(false, width), listed(0, 0, 0)),
+        Node::Table { width } => Parts {
+            kind: 1,
+            derived: false,
+            left: 0,
+            right: 0,
+            inherited: false,
+            width,
+            pairs: 0,
+            columns: 0,
+            from: 0,
+        },
         Node::Select {
             input,
             column: _,
             comparison: _,
             operand,
-        } => {
-            let kind = select_kind(operand);
-            let inputs = uses(true, input, input);
-            made(kind, inputs, wide(true, 0), listed(0, 0, 0))
-        }
-        Node::Project { input, columns } => {
-            let inputs = uses(true, input, input);
-            made(4, inputs, wide(false, columns), listed(0, columns, 2))
-        }
+        } => derived(select_kind(operand), input, input, true, 0, 0, 0),
+        Node::Project { input, columns } => derived(4, input, input, false, 0, columns, 2),
         Node::Join {
             left,
             right,
             pairs,
             columns,
-        } => {
-            let inputs = uses(true, left, right);
-            made(5, inputs, wide(false, columns), listed(pairs, columns, 4))
-        }
+        } => derived(5, left, right, false, pairs, columns, 4),
         Node::Set {
             operation,
             left,
             right,
-        } => {
-            let kind = set_kind(operation);
-            let inputs = uses(true, left, right);
-            made(kind, inputs, wide(true, 0), listed(0, 0, 0))
-        }
+        } => derived(set_kind(operation), left, right, true, 0, 0, 0),
     }
 }
 

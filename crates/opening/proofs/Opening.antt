@@ -13,7 +13,8 @@ use Rattle.model.specs.Record.{Bytes, Verdict, isAccepted, refused}
 use Rattle.model.specs.Calls.{Result, openCall, openVerdict, orElse, unless}
 use Rattle.model.specs.Network.{readNetwork}
 use Rattle.model.specs.Network as model
-use Rattle.network.specs.Reading.{ReadsNetwork, verdictOf}
+use Rattle.network.specs.Reading.{ReadsNetwork}
+use Rattle.verdicts.specs.Verdicts.{verdictOf}
 use Rattle.network.specs.declared.Reading.{Reading}
 
 -- the first words set to 0

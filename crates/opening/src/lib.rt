@@ -7,7 +7,7 @@ ghost use Rattle.network.specs.Reading.{resultWith};
 ghost use Rattle.areas.specs.Lent.{lent};
 use areas::AREA;
 use areas::HEAD;
-use network::Verdict;
+use verdicts::Verdict;
 
 // Every named word set to 0.
 fn clear(rows: &mut [u32], gained: &mut [u32], lost: &mut [u32], head: &mut [u32])
@@ -29,15 +29,13 @@ pub fn open(
     lost: &mut [u32],
     head: &mut [u32],
 ) -> Verdict
-    ensures opens { λ r. ⌜ resultWith r (lent (now (rows .exit)) (now (gained .exit)) (now (lost .exit)) (now (head .exit)))
+    ensures opens { λ r. ⌜ resultWith r
+        (lent (now (rows .exit)) (now (gained .exit)) (now (lost .exit)) (now (head .exit)))
         ≡ openCall (now (net .entry))
         (lent (now (rows .entry)) (now (gained .entry)) (now (lost .entry)) (now (head .entry))) ⌝ }
 {
     if !areas::long_enough(rows, gained, lost, head) {
-        return Verdict {
-            number: 1,
-            place: 0,
-        };
+        return verdicts::refused(1, 0);
     }
     let reading = network::read_network(net);
     let verdict = reading.verdict;

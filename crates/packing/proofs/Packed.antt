@@ -10,7 +10,7 @@ use lib.Seq.{sets, length-take-le, take-suc}
 use borrow.Author.Tests.{ne-eqb}
 use Rattle.model.specs.Record.{SmallVerdict, refused, isAccepted, Verdict}
 use Rattle.model.specs.Calls.{ReadAnswer}
-use Rattle.model.proofs.Parts.{sets-more, sets-first}
+use Rattle.laws.proofs.Parts.{sets-more, sets-first}
 use Rattle.packing.specs.Packing.{Answers, FitWords, ReadFits, half, lower, packed, readWords}
 
 -- ---- the two halves

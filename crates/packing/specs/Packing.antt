@@ -20,7 +20,8 @@ lower v value = cond (isAccepted v) value (v .place)
 abbrev pub packed : Verdict → ℕ → ℕ
 packed v value = v .number * half + lower v value
 
--- an answer: it is packed, its verdict is small, so that no bit is lost, and its halves give the number and the place or value back
+-- an answer: it is packed, its verdict is small, so that no bit is lost, and its halves give the number and the place
+-- or value back
 pub record Answers (v : Verdict) (value answer : ℕ) : Type 0 where
   pub packs : answer ≡ packed v value
   pub small : SmallVerdict v

@@ -5,9 +5,9 @@ ghost use Prim.Native.Nat.{_+_, _≤_, _<_};
 ghost use lib.ListN.{length, drop};
 ghost use lib.Seq.{sets};
 ghost use Rattle.model.specs.Record.{refused, SmallVerdict};
-ghost use Rattle.network.specs.Reading.{answerOf};
+ghost use Rattle.reader.specs.Answer.{answerOf};
 ghost use Rattle.packing.specs.Packing.{half, Answers, FitWords, ReadFits, readWords};
-use network::Answer;
+use reader::Answer;
 
 // The number in the upper 32 bits; below it the value, or beside a refusal the place.
 pub fn pack(number: usize, place: usize, value: usize) -> u64

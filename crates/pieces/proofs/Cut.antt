@@ -15,7 +15,7 @@ use Rattle.pieces.specs.Pieces.{Next, piecesOn}
 use Rattle.model.specs.Text.{piecesFrom, broken, isMark, batch, bytesBetween, unfinished, pieces}
 use Rattle.records.proofs.Offsets.{remaining, remaining-broken, remaining-whole, remaining-none, remaining-all}
 use Rattle.records.proofs.Header.{Whole, whole}
-use Rattle.model.proofs.Sets.{and-first}
+use Rattle.laws.proofs.Sets.{and-first}
 
 module _ (file : Bytes) (start : ℕ) where
   -- the search so far: no mark yet

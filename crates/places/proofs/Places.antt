@@ -11,11 +11,11 @@ use lib.Seq.{take-all, paste, length-paste}
 use borrow.Author.Tests.{leb-true}
 use Rattle.model.specs.Row.{Row, Relation, ascending, keep, keepIf, maxRows, maxWidth, Wide}
 use Rattle.model.specs.Areas.{layout, fields, unusedZero, goodPlace, padded, placeOf, placeSize, stride}
-use Rattle.model.proofs.Sets.{and-first, and-second}
+use Rattle.laws.proofs.Sets.{and-first, and-second}
 use Rattle.rows.specs.Rows.{rowAt, rowsFrom, firstRows, words, stored}
 use Rattle.rows.proofs.Words.{length-row, length-words, rows-snoc, wide-rows, stored-push, paste-sets, fields-part, drop-zeros}
-use Rattle.model.proofs.Widths.{wide-keep}
-use Rattle.model.proofs.Parts.{keep-append}
+use Rattle.laws.proofs.Widths.{wide-keep}
+use Rattle.laws.proofs.Parts.{keep-append}
 use Rattle.rows.proofs.Place.{held-wide, length-held, length-map-padded, place-words, words-map}
 use Rattle.rows.proofs.Padding.{ascending-padded, keep-padded}
 use Rattle.rows.proofs.Checked.{placed-rows}

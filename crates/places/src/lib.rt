@@ -7,7 +7,7 @@ ghost use Rattle.model.specs.Row.{ascending, insertRow};
 ghost use Rattle.model.specs.Areas.{placeSize, stride};
 ghost use Rattle.rows.specs.Rows.{rowAt, firstRows};
 ghost use Rattle.places.specs.Places.{Stands, Stored};
-use rows::Inserted;
+use insertions::Inserted;
 use rows::MAX_ROWS;
 
 // How many rows an operator made, or that they are more than 64.
@@ -23,7 +23,7 @@ pub fn put_row(out: &mut [u32], n: usize, src: &[u32], i: usize) -> Made
     ensures { λ r. ⌜ Stored (insertRow (rowAt stride (now (src .entry)) i) (firstRows (now (out .entry)) n))
         (now (out .exit)) r ⌝ }
 {
-    match rows::insert(out, n, src, i, MAX_ROWS) {
+    match insertions::insert(out, n, src, i, MAX_ROWS) {
         Inserted::New => Made::Rows(n + 1),
         Inserted::Present => Made::Rows(n),
         Inserted::Full => Made::Over,

@@ -15,12 +15,12 @@ use Rattle.model.specs.Station.{State, Step}
 use Rattle.model.specs.Areas.{Areas, layout, longEnough}
 use Rattle.model.specs.Text.{Piece, batch, broken, unfinished, bytesBetween, maxFile, batchWord, noInputWords, unfinishedWord, line, nodeLines}
 use Rattle.model.specs.Text.{programOutput, runFiles, runPieces, stepLines}
-use Rattle.model.proofs.Parts.{sets-first}
+use Rattle.laws.proofs.Parts.{sets-first}
 use Rattle.pieces.specs.declared.Piece as declared
 use Rattle.pieces.specs.declared.Piece.the-variants.{Batch, Broken, Unfinished}
 use Rattle.pieces.specs.declared.Piece.the-variants as piece
 use Rattle.pieces.specs.Pieces.{Next, piecesOn, refusalOf}
-use Rattle.model.proofs.Watched.{batch-by-node}
+use Rattle.laws.proofs.Watched.{batch-by-node}
 use Rattle.pieces.proofs.Cut.{found, pieces-all}
 use Rattle.stages.specs.declared.Stage.{Stage}
 use Rattle.stages.specs.declared.Stage.the-variants.{Begin, Cut, End, Tell}

@@ -11,7 +11,8 @@ use stages::Stage;
 // The most bytes that a step writes.
 pub const ROOM: usize = station_lines::NODE_ROOM;
 
-// A step of the program, given whether the network's file (n) and that of the batches (b) are there: what it prints is written from the first byte on.
+// A step of the program, given whether the network's file (n) and that of the batches (b) are there: what it prints is
+// written from the first byte on.
 pub fn step(
     n: bool,
     b: bool,
@@ -32,7 +33,7 @@ pub fn step(
         (now (out .exit)) r ⌝ }
 {
     match stage {
-        Stage::Begin => cutting::begin(n, b, net, file, rows, gained, lost, head, out),
+        Stage::Begin => beginning::begin(n, b, net, file, rows, gained, lost, head, out),
         Stage::Cut(start) => cutting::cut(n, b, net, file, start, rows, gained, lost, head, out),
         Stage::Tell(node, next) => telling::tell(
             n,

@@ -19,9 +19,10 @@ use Rattle.propagation.specs.declared.Propagated.the-variants.{All, Over
 use Rattle.network.specs.Reading.{nodesOf, Built, noSlot, slotNode}
 use Rattle.model.specs.Row.{Relation, ascending, sameRows, place, maxNodes, maxRows, Wide}
 use Rattle.coherence.specs.Held.{rowsHeld, Places, heldAt, Derived}
-use Rattle.coherence.proofs.Coherent.{nodes-count, rows-held, width-is, rows-length, slot-node, level-derived, level-table, narrow-widths}
-use Rattle.model.proofs.Fits.{length-widths}
-use Rattle.model.proofs.Parts.{same-at}
+use Rattle.coherence.proofs.Coherent.{rows-held, rows-length, level-derived, level-table}
+use Rattle.network.proofs.Nodes.{nodes-count, width-is, slot-node, narrow-widths}
+use Rattle.laws.proofs.Fits.{length-widths}
+use Rattle.laws.proofs.Parts.{same-at}
 use Rattle.model.specs.Evaluation.{rowsAt, overfull}
 use Rattle.states.specs.Fitting.{Fitting}
 use Rattle.states.proofs.Written.{sized}
@@ -35,12 +36,12 @@ use Rattle.model.specs.Batch.{readBatch}
 use Rattle.states.proofs.Batches.{batch-good}
 use Rattle.states.proofs.Fitted.{tables-fit, only-length}
 use Rattle.propagation.proofs.News.{new-wide, new-asc, new-table, new-derived, new-length}
-use Rattle.model.proofs.Sets.{Ascending, ascending-true}
+use Rattle.laws.proofs.Sets.{Ascending, ascending-true}
 use Rattle.working.proofs.Differ.{fills-place}
 use Rattle.network.specs.declared.Slot.{Slot}
 use Rattle.tables.proofs.Acts.{accepted-folds, acts-fold}
 use Rattle.tables.specs.Fold.{foldRows}
-use Rattle.evaluation.proofs.Fresh.{tables-at}
+use Rattle.laws.proofs.Fresh.{tables-at}
 
 module _ (net : Network) (rows head : List ℕ) (bs : Bytes) (ready : Propagatable net rows head bs) where
   abbrev nodes : List Node

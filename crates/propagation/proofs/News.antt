@@ -8,16 +8,16 @@ use lib.Seq.{length-take-le, getD-take, ext-getD}
 use native.Mathlib.Omega.{arith}
 use native.Mathlib.Nat.{not-suc-le-zero, le-refl}
 use Rattle.model.specs.Row.{Relation, Wide}
-use Rattle.model.proofs.Sets.{Ascending, ascending-holds}
+use Rattle.laws.proofs.Sets.{Ascending, ascending-holds}
 use Rattle.model.specs.Network.{Node, AllFit, nodeAt, isTable, widths, leftOf, rightOf, evaluateOn}
 use Rattle.propagation.specs.Propagated.{propagated, nextOf, changedIn}
-use Rattle.model.proofs.Build.{length-build, build-at, length-evaluate}
+use Rattle.laws.proofs.Build.{length-build, build-at, length-evaluate}
 use Rattle.model.specs.Evaluation.{rowsAt, evaluate}
-use Rattle.evaluation.proofs.Fresh.{givenBy, inputs-before, width-at, columns-fit, fresh-derived, fresh-table}
+use Rattle.laws.proofs.Fresh.{givenBy, inputs-before, width-at, columns-fit, fresh-derived, fresh-table}
 use Rattle.states.specs.Fitting.{Fitting}
 use Rattle.states.proofs.Tables.{Tables}
-use Rattle.model.proofs.ByKind.{on-asc, on-wide}
-use Rattle.model.proofs.Fits.{length-widths}
+use Rattle.laws.proofs.ByKind.{on-asc, on-wide}
+use Rattle.laws.proofs.Fits.{length-widths}
 use Rattle.working.proofs.Differ.{same-flag}
 
 module _ (nodes : List Node) (fit : AllFit nodes) (old copy : List Relation) where

@@ -2,14 +2,14 @@
 ghost use mathlib.Core.Path.{_≡_};
 ghost use mathlib.Core.Bool.{false};
 ghost use lib.ListN.{length, replicate};
-ghost use Rattle.network.specs.Reading.{verdictOf};
+ghost use Rattle.verdicts.specs.Verdicts.{verdictOf};
 ghost use Rattle.new_rows.specs.Working.{working};
 ghost use Rattle.propagation.specs.Propagated.{newRows, Propagatable, verdictBy, Propagates};
 ghost use Prim.Native.Nat.{_+_, _<_};
 ghost use Rattle.model.specs.Areas.{areaSize};
 ghost use Rattle.model.specs.Row.{maxNodes};
 use network::Network;
-use network::Verdict;
+use verdicts::Verdict;
 
 // Whether every node is worked, or the lowest node with more than 64 rows.
 pub enum Propagated {
@@ -22,14 +22,8 @@ pub fn verdict_of(done: Propagated) -> Verdict
     ensures { λ r. ⌜ verdictOf r ≡ verdictBy done ⌝ }
 {
     match done {
-        Propagated::All => Verdict {
-            number: 0,
-            place: 0,
-        },
-        Propagated::Over(node) => Verdict {
-            number: 14,
-            place: node,
-        },
+        Propagated::All => verdicts::accepted(),
+        Propagated::Over(node) => verdicts::refused(14, node),
     }
 }
 

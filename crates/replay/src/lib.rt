@@ -4,8 +4,8 @@ ghost use Rattle.model.specs.Text.{pieces};
 ghost use Rattle.areas.specs.Lent.{lent};
 ghost use Rattle.network.specs.Reading.{resultWith};
 ghost use Rattle.replay.specs.Replayed.{Reaches, Replayed, callsOf};
-use network::Verdict;
 use pieces::Piece;
+use verdicts::Verdict;
 
 // Every marked batch of a file applied in turn, refused ones too.
 fn replay_batches(
@@ -42,7 +42,8 @@ fn replay_batches(
     }
 }
 
-// Opens the areas and applies every marked batch of a file: refusals 1 to 7 of opening, or the plain station's state after the whole list.
+// Opens the areas and applies every marked batch of a file: refusals 1 to 7 of opening, or the plain station's state
+// after the whole list.
 pub fn replay(
     net: &[u8],
     file: &[u8],

@@ -10,12 +10,13 @@ use lib.Seq.{length-take-le}
 use borrow.Author.Tests.{le-leb, lt-leb, lt-ltb, ltb-false, ltb-true, ne-eqb}
 use Rattle.network.specs.declared.Network.{Network}
 use Rattle.model.specs.Areas.{changesIn, gainedCount, lostCount}
-use Rattle.network.specs.Reading.{Built, networkOf, nodesOf, verdictOf}
+use Rattle.network.specs.Reading.{Built, networkOf, nodesOf}
+use Rattle.verdicts.specs.Verdicts.{verdictOf}
 use Rattle.model.specs.Record.{Bytes, accepted, refused, Verdict}
 use Rattle.model.specs.Delta.{Change}
 use Rattle.reports.specs.Written.{reportSize}
 use Rattle.model.specs.Calls.{isWatched, reportBytes, reportCall, reportIn, reportOf, writtenTo, ReportAnswer}
-use Rattle.coherence.proofs.Coherent.{nodes-count}
+use Rattle.network.proofs.Nodes.{nodes-count}
 use Rattle.areas.specs.Lent.{lent}
 use Rattle.reports.proofs.Bytes.{report-length}
 use Rattle.network.specs.declared.Reading.{Reading}

@@ -13,12 +13,12 @@ use Rattle.model.specs.Calls.{formVerdict, isWatched, reportBytes, reportCall, 
 use Rattle.model.specs.Delta.{Change}
 use Rattle.model.specs.Network.{Node, readNetwork, nodesIn, signOf, widths}
 use Rattle.model.specs.Record.{Bytes, isAccepted}
-use Rattle.model.proofs.Fits.{length-widths, read-small}
-use Rattle.model.proofs.Sets.{and-first}
+use Rattle.laws.proofs.Fits.{length-widths, read-small}
+use Rattle.laws.proofs.Sets.{and-first}
 use Rattle.model.specs.Row.{maxNodes, maxRows}
 use Rattle.reports.proofs.Bytes.{allowed-bound, report-length}
 use Rattle.states.proofs.Fitted.{few-at, form-parts}
-use Rattle.admission.proofs.Verdicts.{form-holds, or-holds, unless-holds}
+use Rattle.laws.proofs.Verdicts.{form-holds, or-holds, unless-holds}
 use Rattle.admission.proofs.Changes.{change-held}
 
 module _ (net : Bytes) (a : Areas) where

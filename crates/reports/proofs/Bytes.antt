@@ -12,11 +12,11 @@ use Rattle.reports.specs.Written.{allowedOf, recordsOf, reportSize}
 use Rattle.model.specs.Record.{bytes16, bytes32}
 use Rattle.model.specs.Calls.{changeRecord, recordOf, reportBytes}
 use Rattle.model.specs.Watched.{allows, wasGained, wasLost}
-use Rattle.model.proofs.Watched.{flat-changes}
+use Rattle.laws.proofs.Watched.{flat-changes}
 use Rattle.model.specs.Delta.{Change}
 use Rattle.model.specs.Areas.{fields, heldIn, layout, placeSize, stride}
 use Rattle.rows.proofs.Place.{fields-split, held-wide, length-held}
-use Rattle.model.proofs.Parts.{flat-append, flat-one}
+use Rattle.laws.proofs.Parts.{flat-append, flat-one}
 
 -- ---- fields
 

@@ -1,5 +1,5 @@
 -- A place of good form, checked row by row and then in its unused words. Assumes nothing.
-use mathlib.Core.Bool.{_&&_, Bool, false, true}
+use mathlib.Core.Bool.{_&&_, Bool, true}
 use mathlib.Core.List.{_++_, List, [], map, _∷_}
 use mathlib.Core.Path.{ap, ap₂, refl, sym, _∙_, _≡_}
 use Prim.Native.Nat.{_*_, _+_, _-_, suc, ℕ, _≤_}
@@ -13,33 +13,12 @@ use Rattle.model.specs.Row.{Relation, Row, allOf, ascending, maxRows, maxWidth,
 use Rattle.rows.specs.Rows.{firstRows, goodRows, words}
 use Rattle.rows.proofs.Words.{length-rows, length-words, rows-words, wide-rows, words-rows}
 use Rattle.model.specs.Areas.{allZero, goodPlace, heldIn, layout, padded, placeOf, unusedZero, placeSize, stride}
-use Rattle.model.proofs.Sets.{and-both, and-first, and-second}
+use Rattle.laws.proofs.Sets.{and-both, and-first, and-second, bool-same}
 use Rattle.rows.proofs.Place.{held-wide, length-held, length-map-padded, place-clean, place-reads, place-words, wide-padded, words-map, zeros-are, zeros-zero}
-use Rattle.rows.proofs.Form.{slice-part}
+use Rattle.rows.proofs.Form.{slice-part, tail-padded, wide-take}
 use Rattle.rows.proofs.Padding.{unpadded}
 
--- two truths that follow from each other
-pub bool-same : (a b : Bool) → (a ≡ true → b ≡ true) → (b ≡ true → a ≡ true) → a ≡ b
-bool-same true true f g = refl
-bool-same true false f g = sym (f refl)
-bool-same false true f g = g refl
-bool-same false false f g = refl
-
 -- ---- rows with zeros past the width
-
-tail-padded : (w : ℕ) (l : List Row) → w ≤ maxWidth → Wide stride l → allOf (λ r. allZero (drop w r)) l ≡ true → map (padded stride) (map (take w) l) ≡ l
-tail-padded w [] h a z = refl
-tail-padded w (r ∷ l) h a z =
-    let zr : allZero (drop w r) ≡ true = and-first (allZero (drop w r)) (allOf (λ s. allZero (drop w s)) l) z in
-    let zl : allOf (λ s. allZero (drop w s)) l ≡ true = and-second (allZero (drop w r)) (allOf (λ s. allZero (drop w s)) l) z in
-    let size : length (take w r) ≡ w = length-take-le w r (rw (a .0) h) in
-    let rest : length (drop w r) ≡ stride - w = length-drop w r ∙ rw (a .0) refl in
-    let tail : replicate (stride - length (take w r)) 0 ≡ drop w r = ap (λ (k : ℕ). replicate (stride - k) 0) size ∙ ap (λ (k : ℕ). replicate k 0) (sym rest) ∙ sym (zeros-are (drop w r) zr) in
-    ap₂ {A = Row} {B = List Row} {C = List Row} (λ x y. x ∷ y) (ap (λ (t : List ℕ). take w r ++ t) tail ∙ take-append-drop w r) (tail-padded w l h (a .1) zl)
-
-wide-take : (w : ℕ) (l : List Row) → w ≤ maxWidth → Wide stride l → Wide w (map (take w) l)
-wide-take w [] h a = tt
-wide-take w (r ∷ l) h a = (length-take-le w r (rw (a .0) h), wide-take w l h (a .1))
 
 length-taken : (w : ℕ) (l : List Row) → length (map (take w) l) ≡ length l
 length-taken w [] = refl
@@ -108,7 +87,7 @@ module _ (w count : ℕ) (area : List ℕ) (i : ℕ) (narrow : w ≤ maxWidth) (
       let tails : allOf (λ r. allZero (drop w r)) (firstRows part count) ≡ true = and-second (ascending (map (take w) (firstRows part count)))
       (allOf (λ r. allZero (drop w r)) (firstRows part count)) good in
       let wide4 : Wide stride (firstRows part count) = wide-rows stride part 0 count in
-      let same : map (padded stride) (map (take w) (firstRows part count)) ≡ firstRows part count = tail-padded w (firstRows part count) narrow wide4 tails in
+      let same : map (padded stride) (map (take w) (firstRows part count)) ≡ firstRows part count = tail-padded stride w narrow (firstRows part count) wide4 tails in
       let size : length (map (take w) (firstRows part count)) ≡ count = length-taken w (firstRows part count) ∙ length-rows stride part 0 count in
       let front : words (firstRows part count) ≡ take (count * stride) part = words-rows stride part 0 count (rw part-size (omega (arith, zero-mul stride))) in
       let front-size : length (take (count * stride) part) ≡ count * stride = length-take-le (count * stride) part (rw part-size (omega arith)) in
@@ -120,7 +99,7 @@ module _ (w count : ℕ) (area : List ℕ) (i : ℕ) (narrow : w ≤ maxWidth) (
       ∙ ap₂ {A = List ℕ} {B = List ℕ} {C = List ℕ} (λ x y. x ++ y) (sym (ap words same ∙ front))
       (zeros ∙ ap (λ (k : ℕ). replicate (placeSize - k) 0) (sym (ap (λ (l : List Row). length (words l)) same ∙ ap length front ∙ front-size)))
       ∙ sym (place-split (map (take w) (firstRows part count))) in
-      let wide : Wide w (map (take w) (firstRows part count)) = wide-take w (firstRows part count) narrow wide4 in
+      let wide : Wide w (map (take w) (firstRows part count)) = wide-take stride w narrow (firstRows part count) wide4 in
       let held : heldIn layout w count area i ≡ map (take w) (firstRows part count) =
       ap (λ (k : ℕ). heldIn layout w k area i) (sym size) ∙ place-reads layout w area i (map (take w) (firstRows part count)) narrow wide (rw size few) long is in
       let clean : unusedZero layout w count area i ≡ true =

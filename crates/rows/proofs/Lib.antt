@@ -1,8 +1,7 @@
 pub mod Words
+pub mod Pairs
 pub mod Search
-pub mod Form
-pub mod Edit
 pub mod Place
 pub mod Padding
+pub mod Form
 pub mod Checked
-pub mod Stand

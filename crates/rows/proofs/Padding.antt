@@ -10,8 +10,8 @@ use lib.Seq.{set-at, take-at}
 use Rattle.model.specs.Row.{Row, Relation, andThen, order, isLess, sameRow, belowFirst, ascending, member, place, insertRow, keepIf, keep, setOf, deleteRow, Wide}
 use Rattle.model.specs.Algebra.{unionRows, differenceRows, intersectRows}
 use Rattle.model.specs.Areas.{padded}
-use Rattle.model.proofs.Order.{order-refl}
-use Rattle.model.proofs.Widths.{wide-setOf, wide-append}
+use Rattle.laws.proofs.Order.{order-refl}
+use Rattle.laws.proofs.Widths.{wide-setOf, wide-append}
 
 -- one number more, at the place of the first zero
 pub padded-more : (n : ℕ) (l : List ℕ) (x i : ℕ) → length l ≡ i → i < n → set (padded n l) i x ≡ padded n (l ++ (x ∷ []))

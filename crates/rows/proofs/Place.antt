@@ -10,28 +10,14 @@ use lib.Dec.{eqb, ltb}
 use lib.ListN.{length, getD, take, drop, replicate, length-append, length-replicate, getD-replicate, List·getD-append}
 use lib.Seq.{take-at, drop-at, length-take-le, getD-take, getD-drop, getD-append-add}
 use borrow.Author.Tests.{eqb-true, lt-ltb, le-ltb, ltb-true, ltb-false}
-use Rattle.model.specs.Row.{Row, Relation, allOf, countFrom, numbersBelow, Wide}
+use Rattle.model.specs.Row.{Row, Relation, countFrom, numbersBelow, Wide}
 use Rattle.model.specs.Areas.{Layout, placeWords, fields, rowStart, heldIn, allZero, unusedOf, unusedZero, padded, placeOf}
-use Rattle.model.proofs.Sets.{and-first, and-second, and-both}
+use Rattle.laws.proofs.Sets.{and-first, and-second}
+use Rattle.laws.proofs.All.{all-below, below-all}
 use Rattle.rows.specs.Rows.{rowAt, rowsFrom, words}
 use Rattle.rows.proofs.Words.{length-fields, words-append, words-rows, words-zeros, length-words, rows-words, rows-part}
 use Rattle.rows.proofs.Search.{row-at}
-use Rattle.model.proofs.Widths.{wide-append}
-
--- ---- every number below another
-
-pub all-below : (p : ℕ → Bool) (from n : ℕ) → allOf p (countFrom from n) ≡ true → (j : ℕ) → j < n → p (from + j) ≡ true
-all-below p from zero e j h = absurd (not-suc-le-zero h)
-all-below p from (suc n) e zero h = ap p (add-zero from) ∙ and-first (p from) (allOf p (countFrom (suc from) n)) e
-all-below p from (suc n) e (suc j) h =
-    let f : from + suc j ≡ suc from + j = omega arith in
-    ap p f ∙ all-below p (suc from) n (and-second (p from) (allOf p (countFrom (suc from) n)) e) j (le-of-suc-le-suc h)
-
-pub below-all : (p : ℕ → Bool) (from n : ℕ) → ((j : ℕ) → j < n → p (from + j) ≡ true) → allOf p (countFrom from n) ≡ true
-below-all p from zero e = refl
-below-all p from (suc n) e =
-    and-both (p from) (allOf p (countFrom (suc from) n)) (ap p (sym (add-zero from)) ∙ e 0 (suc-le-suc zero-le))
-    (below-all p (suc from) n (λ j h. let f : suc from + j ≡ from + suc j = omega arith in ap p f ∙ e (suc j) (suc-le-suc h)))
+use Rattle.laws.proofs.Widths.{wide-append}
 
 -- ---- words that are all 0
 

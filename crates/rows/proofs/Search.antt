@@ -9,8 +9,8 @@ use mathlib.Core.Logic.{⊎-elim}
 use native.Mathlib.Omega.{arith}
 use lib.ListN.{length, getD, take, drop}
 use Rattle.model.specs.Row.{Row, order, member, insertRow, deleteRow}
-use Rattle.model.proofs.Order.{flip, order-flip, order-eq, order-trans}
-use Rattle.model.proofs.Sets.{Above, Ascending, above-trans, above-not-member}
+use Rattle.laws.proofs.Order.{flip, order-flip, order-eq, order-trans}
+use Rattle.laws.proofs.Sets.{Above, Ascending, above-trans, above-not-member}
 use Rattle.rows.specs.Rows.{rowAt, rowsFrom, later, locateBy, locate}
 use Rattle.rows.specs.declared.Found.{Found}
 use Rattle.rows.specs.declared.Found.the-variants.{At, Missing}

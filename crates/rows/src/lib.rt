@@ -1,19 +1,27 @@
-// Relations as rows of words in a slice. A place for a relation is lent as a part of its area, so that nothing outside it can be touched.
+// Relations as rows of words in a slice. A place for a relation is lent as a part of its area, so that nothing outside
+// it can be touched.
 ghost use mathlib.Core.Path.{_≡_};
-ghost use mathlib.Core.Bool.{true, false};
-ghost use mathlib.Core.List.{_++_};
-ghost use Prim.Native.Nat.{_+_, _*_, _-_, _<_, _≤_};
-ghost use lib.ListN.{length, take, drop};
-ghost use lib.Seq.{slice};
-ghost use Rattle.model.specs.Row.{order, ascending};
-ghost use Rattle.model.specs.Areas.{fields, stride};
-ghost use Rattle.rows.specs.Rows.{rowAt, firstRows, orderOf, rowsFrom, locate, Inserts, Removes, goodRow, goodRows};
+ghost use mathlib.Core.Bool.{true};
+ghost use Prim.Native.Nat.{_+_, _*_, _<_, _≤_};
+ghost use lib.ListN.{length};
+ghost use Rattle.model.specs.Row.{order, isLess, ascending};
+ghost use Rattle.model.specs.Areas.{stride};
+ghost use Rattle.rows.specs.Rows.{Paired, rowAt, firstRows, orderOf, locate, zeroField, zeroPast, goodRows};
 
 // How many words a row takes.
 pub const STRIDE: usize = 4;
 
-// The most rows of a relation.
+// How many pairs of words a row has, and what a word counts up to.
+const PAIRS: usize = STRIDE / 2;
+
+const WORD: u64 = 4294967296;
+
+// The most fields of a row, rows of a relation and nodes of a network.
+pub const MAX_WIDTH: usize = 4;
+
 pub const MAX_ROWS: usize = 64;
+
+pub const MAX_NODES: usize = 32;
 
 // How a row compares with another.
 pub enum Order {
@@ -28,22 +36,23 @@ pub enum Found {
     Missing(usize),
 }
 
-// What inserting found.
-pub enum Inserted {
-    New,
-    Present,
-    Full,
+// The two words from index i on, as one number.
+fn pair(words: &[u32], i: usize) -> u64
+    requires { ⌜ i + 2 ≤ length (now words) ⌝ }
+    ensures { λ r. ⌜ Paired (now (words .entry)) i r ⌝ }
+{
+    (words[i] as u64) * WORD + words[i + 1] as u64
 }
 
-// How count words of a from index i on compare with those of b from index j on.
-fn compare_fields(a: &[u32], i: usize, b: &[u32], j: usize, count: usize) -> Order
-    requires { ⌜ (i + count ≤ length (now a)) × (j + count ≤ length (now b)) ⌝ }
-    ensures { λ r. ⌜ orderOf r ≡ order (fields count (now (a .entry)) i) (fields count (now (b .entry)) j) ⌝ }
+// How row i of a compares with row j of b, two words at a time.
+pub fn compare_rows(a: &[u32], i: usize, b: &[u32], j: usize) -> Order
+    requires { ⌜ (i * stride + stride ≤ length (now a)) × (j * stride + stride ≤ length (now b)) ⌝ }
+    ensures { λ r. ⌜ orderOf r ≡ order (rowAt stride (now (a .entry)) i) (rowAt stride (now (b .entry)) j) ⌝ }
 {
     let mut k = 0;
-    while k < count {
-        let x = a[i + k];
-        let y = b[j + k];
+    while k < PAIRS {
+        let x = pair(a, i * STRIDE + 2 * k);
+        let y = pair(b, j * STRIDE + 2 * k);
         if x < y {
             return Order::Less;
         }
@@ -53,14 +62,6 @@ fn compare_fields(a: &[u32], i: usize, b: &[u32], j: usize, count: usize) -> Ord
         k += 1;
     }
     Order::Equal
-}
-
-// How row i of a compares with row j of b.
-fn compare_rows(a: &[u32], i: usize, b: &[u32], j: usize) -> Order
-    requires { ⌜ (i * stride + stride ≤ length (now a)) × (j * stride + stride ≤ length (now b)) ⌝ }
-    ensures { λ r. ⌜ orderOf r ≡ order (rowAt stride (now (a .entry)) i) (rowAt stride (now (b .entry)) j) ⌝ }
-{
-    compare_fields(a, i * STRIDE, b, j * STRIDE, STRIDE)
 }
 
 // Where row at of src stands among the first n rows, which ascend, or where it belongs.
@@ -88,93 +89,61 @@ pub fn find(words: &[u32], n: usize, src: &[u32], at: usize) -> Found
     Found::Missing(low)
 }
 
-// Moves the words from index from up to index to one row up.
-fn open_gap(words: &mut [u32], from: usize, to: usize)
-    requires { ⌜ (from ≤ to) × (to + stride ≤ length (now words)) ⌝ }
-    ensures { λ _. ⌜ now (words .exit)
-        ≡ take (from + stride) (now (words .entry))
-        ++ (slice from to (now (words .entry)) ++ drop (to + stride) (now (words .entry))) ⌝ }
+// Whether row j is below the row after it.
+fn below_next(words: &[u32], j: usize) -> bool
+    requires { ⌜ (j + 1) * stride + stride ≤ length (now words) ⌝ }
+    ensures { λ r. ⌜ r ≡ isLess (order (rowAt stride (now (words .entry)) j)
+        (rowAt stride (now (words .entry)) (j + 1))) ⌝ }
 {
-    let mut k = to;
-    while from < k {
-        k -= 1;
-        words[k + STRIDE] = words[k];
-    }
-}
-
-// Moves the words from one row past index from up to index to one row down.
-fn close_gap(words: &mut [u32], from: usize, to: usize)
-    requires { ⌜ (from + stride ≤ to) × (to ≤ length (now words)) ⌝ }
-    ensures { λ _. ⌜ now (words .exit)
-        ≡ take from (now (words .entry))
-        ++ (slice (from + stride) to (now (words .entry)) ++ drop (to - stride) (now (words .entry))) ⌝ }
-{
-    let end = to - STRIDE;
-    let mut k = from;
-    while k < end {
-        words[k] = words[k + STRIDE];
-        k += 1;
-    }
-}
-
-// Row at of src put among the first n rows, which ascend, unless it is there or there are as many as there may be.
-pub fn insert(words: &mut [u32], n: usize, src: &[u32], at: usize, capacity: usize) -> Inserted
-    requires { ⌜ (n ≤ capacity) × (capacity * stride ≤ length (now words)) × (at * stride + stride ≤ length (now src))
-        × (ascending (firstRows (now words) n) ≡ true) ⌝ }
-    ensures { λ r. ⌜ Inserts capacity (rowAt stride (now (src .entry)) at) (firstRows (now (words .entry)) n)
-        (now (words .entry))
-        (now (words .exit)) r ⌝ }
-{
-    match find(words, n, src, at) {
-        Found::At(_) => Inserted::Present,
-        Found::Missing(p) => {
-            if capacity <= n {
-                return Inserted::Full;
-            }
-            open_gap(words, p * STRIDE, n * STRIDE);
-            words::copy_run(src, at * STRIDE, words, p * STRIDE, STRIDE);
-            Inserted::New
-        }
-    }
-}
-
-// Row at of src taken out of the first n rows, which ascend, and the place that becomes unused cleared: whether it was there.
-pub fn remove(words: &mut [u32], n: usize, src: &[u32], at: usize) -> bool
-    requires { ⌜ (n * stride ≤ length (now words)) × (at * stride + stride ≤ length (now src))
-        × (ascending (firstRows (now words) n) ≡ true) ⌝ }
-    ensures { λ r. ⌜ Removes (rowAt stride (now (src .entry)) at) (firstRows (now (words .entry)) n)
-        (now (words .entry)) (now (words .exit)) r ⌝ }
-{
-    match find(words, n, src, at) {
-        Found::Missing(_) => false,
-        Found::At(p) => {
-            let end = n * STRIDE;
-            close_gap(words, p * STRIDE, end);
-            words::clear_run(words, end - STRIDE, end);
-            true
-        }
-    }
-}
-
-// Whether row j of n has zeros past the width and is below the row after it, if there is one.
-fn good_row(words: &[u32], n: usize, j: usize, width: usize) -> bool
-    requires { ⌜ (j < n) × (n * stride ≤ length (now words)) × (width ≤ stride) ⌝ }
-    ensures { λ r. ⌜ r ≡ goodRow width (rowAt stride (now (words .entry)) j)
-        (rowsFrom stride (now (words .entry)) (j + 1) (n - (j + 1))) ⌝ }
-{
-    let at = j * STRIDE;
-    let next = at + STRIDE;
-    if !words::all_zero(words, at + width, next) {
-        return false;
-    }
-    if n <= j + 1 {
-        return true;
-    }
-    match compare_fields(words, at, words, next, width) {
+    match compare_rows(words, j, words, j + 1) {
         Order::Less => true,
         Order::Equal => false,
         Order::Greater => false,
     }
+}
+
+// Whether the first n rows strictly ascend.
+fn ascend(words: &[u32], n: usize) -> bool
+    requires { ⌜ n * stride ≤ length (now words) ⌝ }
+    ensures { λ r. ⌜ r ≡ ascending (firstRows (now (words .entry)) n) ⌝ }
+{
+    let mut j = 0;
+    while j + 1 < n {
+        if !below_next(words, j) {
+            return false;
+        }
+        j += 1;
+    }
+    true
+}
+
+// Whether field c is 0 in each of the first n rows: their bits are gathered, with no test at each row.
+pub fn zero_field(words: &[u32], n: usize, c: usize) -> bool
+    requires { ⌜ (n * stride ≤ length (now words)) × (c < stride) ⌝ }
+    ensures { λ r. ⌜ r ≡ zeroField c (firstRows (now (words .entry)) n) ⌝ }
+{
+    let mut bits = 0u32;
+    let mut j = 0;
+    while j < n {
+        bits |= words[j * STRIDE + c];
+        j += 1;
+    }
+    bits == 0
+}
+
+// Whether the first n rows have zeros past the width.
+fn zero_past(words: &[u32], n: usize, width: usize) -> bool
+    requires { ⌜ (n * stride ≤ length (now words)) × (width ≤ stride) ⌝ }
+    ensures { λ r. ⌜ r ≡ zeroPast width (firstRows (now (words .entry)) n) ⌝ }
+{
+    let mut c = width;
+    while c < STRIDE {
+        if !zero_field(words, n, c) {
+            return false;
+        }
+        c += 1;
+    }
+    true
 }
 
 // Whether the first n rows strictly ascend, with zeros past the width.
@@ -182,12 +151,8 @@ pub fn good_rows(words: &[u32], n: usize, width: usize) -> bool
     requires { ⌜ (n * stride ≤ length (now words)) × (width ≤ stride) ⌝ }
     ensures { λ r. ⌜ r ≡ goodRows width (firstRows (now (words .entry)) n) ⌝ }
 {
-    let mut j = 0;
-    while j < n {
-        if !good_row(words, n, j, width) {
-            return false;
-        }
-        j += 1;
+    if !zero_past(words, n, width) {
+        return false;
     }
-    true
+    ascend(words, n)
 }

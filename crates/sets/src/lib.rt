@@ -1,26 +1,55 @@
-// Set operations (kinds 6, 7, 8) on places.
+// Set operations (kinds 6, 7, 8) on places, by one pass over both.
 ghost use mathlib.Core.Path.{_≡_};
-ghost use mathlib.Core.Bool.{true, false, Bool·beq};
-ghost use Prim.Native.Nat.{ℕ, _+_, _*_, _≤_};
+ghost use mathlib.Core.Bool.{true};
+ghost use mathlib.Core.List.{[]};
+ghost use Prim.Native.Nat.{ℕ, _+_, _*_, _-_, _<_, _≤_};
 ghost use lib.ListN.{length};
-ghost use Rattle.model.specs.Row.{member, ascending, maxRows};
+ghost use Rattle.model.specs.Row.{ascending, keepIf, maxRows};
 ghost use Rattle.model.specs.Algebra.{unionRows, differenceRows, intersectRows};
 ghost use Rattle.model.specs.Areas.{stride};
-ghost use Rattle.rows.specs.Rows.{rowAt, firstRows};
-ghost use Rattle.places.specs.Places.{Place, Blank, relationIn, Fills, Kept, Makes};
+ghost use Rattle.rows.specs.Rows.{rowAt, rowsFrom, firstRows, orderOf};
+ghost use Rattle.places.specs.Places.{Place, Blank, relationIn, Fills, Stands, Makes};
+ghost use Rattle.sets.specs.Sets.{orderFirst, keptBy, Appends};
 use places::Made;
+use rows::MAX_ROWS;
+use rows::Order;
 use rows::STRIDE;
 
-// Whether row i of src is among the first n rows, which ascend.
-fn contains(words: &[u32], n: usize, src: &[u32], i: usize) -> bool
-    requires { ⌜ (n * stride ≤ length (now words)) × (i * stride + stride ≤ length (now src))
-        × (ascending (firstRows (now words) n) ≡ true) ⌝ }
-    ensures { λ r. ⌜ r ≡ member (rowAt stride (now (src .entry)) i) (firstRows (now (words .entry)) n) ⌝ }
+// How row i of left compares with row j of right's m rows; past the last of them it is less.
+fn compare_first(left: &[u32], i: usize, right: &[u32], m: usize, j: usize) -> Order
+    requires { ⌜ (i * stride + stride ≤ length (now left)) × (m * stride ≤ length (now right)) ⌝ }
+    ensures { λ r. ⌜ orderOf r ≡ orderFirst (rowAt stride (now (left .entry)) i)
+        (rowsFrom stride (now (right .entry)) j (m - j)) ⌝ }
 {
-    match rows::find(words, n, src, i) {
-        rows::Found::At(_) => true,
-        rows::Found::Missing(_) => false,
+    if j < m {
+        rows::compare_rows(left, i, right, j)
+    } else {
+        Order::Less
     }
+}
+
+// The rows of src from row i on, k of them, written behind the rows of a place.
+fn append_rows(src: &[u32], i: usize, k: usize, out: &mut [u32], count: usize)
+    requires { ⌜ Stands (firstRows (now out) count) (now out) count × (i * stride + k * stride ≤ length (now src))
+        × (count + k ≤ maxRows) ⌝ }
+    ensures { λ _. ⌜ Appends (rowsFrom stride (now (src .entry)) i k) (now (out .entry)) count
+        (now (out .exit)) (count + k) ⌝ }
+{
+    words::copy_run(src, i * STRIDE, out, count * STRIDE, k * STRIDE);
+}
+
+// Row i of src written behind the rows of a place, if it is wanted: how many they are then.
+fn append_wanted(src: &[u32], i: usize, wanted: bool, out: &mut [u32], count: usize) -> usize
+    requires { ⌜ Stands (firstRows (now out) count) (now out) count × (i * stride + stride ≤ length (now src))
+        × (count < maxRows) ⌝ }
+    ensures { λ r. ⌜ Appends (keepIf wanted (rowAt stride (now (src .entry)) i) []) (now (out .entry)) count
+        (now (out .exit)) r ⌝ }
+{
+    if !wanted {
+        return count;
+    }
+    append_rows(src, i, 1, out, count);
+    count + 1
 }
 
 // The rows of the left place that are in the right one, or those that are not, in an empty place: how many.
@@ -34,17 +63,27 @@ fn keep_rows(
 ) -> usize
     requires { ⌜ (n ≤ maxRows) × (n * stride ≤ length (now left)) × (m * stride ≤ length (now right))
         × (ascending (firstRows (now right) m) ≡ true) × Blank (now out) ⌝ }
-    ensures { λ r. ⌜ Kept (λ row. Bool·beq (member row (firstRows (now (right .entry)) m)) wanted)
-        (now (left .entry)) n (now (out .exit)) r ⌝ }
+    ensures { λ r. ⌜ (ascending (firstRows (now (left .entry)) n) ≡ true →
+        Stands (keptBy wanted (firstRows (now (left .entry)) n) (firstRows (now (right .entry)) m))
+        (now (out .exit)) r) ⌝ }
 {
     let mut count = 0;
     let mut i = 0;
+    let mut j = 0;
     while i < n {
-        let at = i;
-        i += 1;
-        if contains(right, m, left, at) == wanted {
-            words::copy_run(left, at * STRIDE, out, count * STRIDE, STRIDE);
-            count += 1;
+        match compare_first(left, i, right, m, j) {
+            Order::Less => {
+                count = append_wanted(left, i, !wanted, out, count);
+                i += 1;
+            }
+            Order::Equal => {
+                count = append_wanted(left, i, wanted, out, count);
+                i += 1;
+                j += 1;
+            }
+            Order::Greater => {
+                j += 1;
+            }
         }
     }
     count
@@ -80,15 +119,35 @@ pub fn union_rows(left: &[u32], n: usize, right: &[u32], m: usize, out: &mut [u3
         Makes (unionRows (relationIn w (now (left .entry)) n) (relationIn w (now (right .entry)) m))
         (now (out .exit)) r) ⌝ }
 {
-    words::copy_run(right, 0, out, 0, m * STRIDE);
-    let mut count = m;
-    let mut i = n;
-    while 0 < i {
-        i -= 1;
-        let Made::Rows(more) = places::put_row(out, count, left, i) else {
+    let mut count = 0;
+    let mut i = 0;
+    let mut j = 0;
+    while i < n {
+        if MAX_ROWS <= count {
             return Made::Over;
-        };
-        count = more;
+        }
+        let at = count;
+        count += 1;
+        match compare_first(left, i, right, m, j) {
+            Order::Less => {
+                append_rows(left, i, 1, out, at);
+                i += 1;
+            }
+            Order::Equal => {
+                append_rows(left, i, 1, out, at);
+                i += 1;
+                j += 1;
+            }
+            Order::Greater => {
+                append_rows(right, j, 1, out, at);
+                j += 1;
+            }
+        }
     }
-    Made::Rows(count)
+    let rest = m - j;
+    if MAX_ROWS - count < rest {
+        return Made::Over;
+    }
+    append_rows(right, j, rest, out, count);
+    Made::Rows(count + rest)
 }

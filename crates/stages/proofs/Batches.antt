@@ -8,7 +8,7 @@ use Rattle.model.specs.Network.{Node, readNetwork, nodesIn}
 use Rattle.model.specs.Station.{State, opened}
 use Rattle.model.specs.Areas.{Areas, holding, layout, longEnough, stateIn}
 use Rattle.model.specs.Calls.{Applied, Keeps, Result, applyPromise, openCall, openVerdict, orElse, resultOf, settled, unless}
-use Rattle.model.proofs.Fits.{read-fits, read-small}
+use Rattle.laws.proofs.Fits.{read-fits, read-small}
 use Rattle.demand3.proofs.Holds.{holding-coherent, holding-long, holding-state}
 use Rattle.model.specs.Batch.{actAll, readBatch}
 use Rattle.demand3.proofs.Steps.{Sound, step-sound}

@@ -16,11 +16,11 @@ use Rattle.model.specs.Delta.{Change, changeAt, noChange}
 use Rattle.model.specs.Areas.{Areas, changesIn, gainedCount, heldIn, layout, lostCount, relationsIn, stateIn}
 use Rattle.model.specs.Watched.{changesOf}
 use Rattle.model.specs.Text.{changeLine, nodeLines}
-use Rattle.model.proofs.Watched.{none-changed}
-use Rattle.model.proofs.Fits.{length-widths, read-small}
-use Rattle.model.proofs.Parts.{flat-append}
-use Rattle.model.proofs.Sets.{and-first, and-second}
-use Rattle.coherence.proofs.Coherent.{relation-at, relations-length}
+use Rattle.laws.proofs.Watched.{none-changed}
+use Rattle.laws.proofs.Fits.{length-widths, read-small}
+use Rattle.laws.proofs.Parts.{flat-append}
+use Rattle.laws.proofs.Sets.{and-first, and-second}
+use Rattle.laws.proofs.Relations.{relation-at, relations-length}
 use Rattle.stages.specs.Stages.{stateOf}
 
 -- a node without change prints nothing

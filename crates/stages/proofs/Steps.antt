@@ -15,15 +15,16 @@ use Rattle.model.specs.Areas.{Areas, coherent, goodForm, layout, longEnough, ro
 use Rattle.model.specs.Evaluation.{evaluate}
 use Rattle.model.specs.Calls.{Applied, Result, openCall, resultOf}
 use Rattle.model.specs.Text.{Piece, batch, batchWord, broken, bytesBetween, line, noInputWords, nodeLines, refusedLine, unfinished, unfinishedWord}
-use Rattle.model.proofs.Sets.{and-first}
+use Rattle.laws.proofs.Sets.{and-first}
 use Rattle.network.specs.Reading.{ReadsNetwork, networkOf, nodesOf}
 use Rattle.network.specs.declared.Reading.{Reading}
 use Rattle.areas.specs.Lent.{lent}
 use Rattle.areas.proofs.Good.{long-parts}
-use Rattle.coherence.proofs.Coherent.{nodes-count}
+use Rattle.network.proofs.Nodes.{nodes-count}
 use Rattle.admission.specs.Admission.{Changes}
 use Rattle.admission.proofs.Admitted.{changes-good}
-use Rattle.station_lines.specs.Lines.{Put, PutIfRoom, linesIn}
+use Rattle.lines.specs.Written.{Put, PutIfRoom}
+use Rattle.station_lines.specs.Lines.{linesIn}
 use Rattle.pieces.specs.Pieces.{piecesOn}
 use Rattle.stages.specs.declared.Said.{Said}
 use Rattle.stages.specs.declared.Stage.{Stage}

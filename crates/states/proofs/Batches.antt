@@ -12,8 +12,8 @@ use Rattle.model.specs.Network.{Node, widths, nodeAt, isTable, within}
 use Rattle.model.specs.Record.{Bytes, fieldAt, firstBroken, isBroken, kindAt, lengthAt, offsets, refused, rule, isAccepted}
 use Rattle.model.specs.Batch.{Event, eventAt, eventFault, eventFits, eventOf, maxEvents, readBatch, readEvents, rowIn}
 use Rattle.states.proofs.Tables.{GoodEvent, GoodEvents}
-use Rattle.model.proofs.Sets.{and-first, and-second}
-use Rattle.model.proofs.Events.{length-row-in}
+use Rattle.laws.proofs.Sets.{and-first, and-second}
+use Rattle.laws.proofs.Events.{length-row-in}
 
 last-holds : (a b c e : Bool) → firstBroken (rule 10 a ∷ rule 11 b ∷ rule 12 c ∷ rule 13 (not e) ∷ []) ≡ 0 → e ≡ true
 last-holds true b c e h = absurd (omega arith)

@@ -6,16 +6,15 @@ use Prim.Native.Nat.{_<_, suc, zero, zero-le, ℕ, _≤_}
 use native.Mathlib.Omega.{arith}
 use native.Mathlib.Nat.{le-of-suc-le-suc, le-refl, le-trans, not-suc-le-zero}
 use lib.ListN.{getD, length, length-map}
-use Rattle.model.proofs.Sets.{Ascending, ascending-holds, ascending-true, member-keep, ext, sameRows-refl, sameRows-eq}
+use Rattle.laws.proofs.Sets.{Ascending, ascending-holds, ascending-true, member-keep, ext, sameRows-refl, sameRows-eq, bool-same}
 use Rattle.model.specs.Delta.{Change, changeAt, isChanged, netChange, netChanges, noChange}
 use Rattle.states.specs.Fitting.{Fitting}
 use Rattle.model.specs.Row.{Relation, Row, keep, keepIf, member, sameRow, isEmpty, sameRows, maxRows, Wide}
 use Rattle.model.specs.Station.{stampOf}
-use Rattle.model.proofs.Widths.{wide-keep}
-use Rattle.model.proofs.Algebra.{asc-difference}
+use Rattle.laws.proofs.Widths.{wide-keep}
+use Rattle.laws.proofs.Algebra.{asc-difference}
 use Rattle.model.specs.Algebra.{differenceRows}
-use Rattle.model.proofs.Order.{sameRow-refl}
-use Rattle.rows.proofs.Checked.{bool-same}
+use Rattle.laws.proofs.Order.{sameRow-refl}
 
 keep-short : (p : Row → Bool) (l : List Row) → length (keep p l) ≤ length l
 keep-short p [] = zero-le

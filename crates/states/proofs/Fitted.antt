@@ -9,23 +9,24 @@ use lib.ListN.{getD, length, replicate}
 use lib.Dec.{leb, ltb, eqb}
 use borrow.Author.Tests.{leb-true, lt-ltb, le-ltb}
 use Rattle.model.specs.Network.{Node, isTable, widths, nodeAt}
-use Rattle.rows.proofs.Place.{all-below, held-wide, length-held, place-words}
+use Rattle.rows.proofs.Place.{held-wide, length-held, place-words}
+use Rattle.laws.proofs.All.{all-below}
 use Rattle.model.specs.Areas.{emptyPlace, goodArea, goodPlace, heldIn, layout, relationsIn, tablesOf, unusedZero, Areas, goodForm, rowCount, gainedCount, lostCount, goodStamps, goodWorked}
 use Rattle.model.specs.Areas.{areaSize, placeSize}
 use Rattle.states.specs.Fitting.{Fitting}
 use Rattle.states.proofs.Written.{place-none}
 use Rattle.model.specs.Row.{Relation, ascending, maxNodes, maxRows, maxWidth, Wide}
-use Rattle.model.proofs.Sets.{and-first, and-second, Ascending, ascending-holds}
+use Rattle.laws.proofs.Sets.{and-first, and-second, Ascending, ascending-holds}
 use Rattle.model.specs.Delta.{Change}
 use Rattle.states.proofs.Tables.{Tables}
-use Rattle.model.proofs.Fits.{length-widths}
-use Rattle.evaluation.proofs.Fresh.{tables-at}
+use Rattle.laws.proofs.Fits.{length-widths}
+use Rattle.laws.proofs.Fresh.{tables-at}
 use Rattle.places.specs.Places.{Place, relationIn}
 use Rattle.areas.specs.Lent.{placeAt}
 use Rattle.areas.proofs.Pasted.{place-long}
 use Rattle.areas.proofs.Good.{part-is}
 use Rattle.rows.proofs.Checked.{part-good, part-held}
-use Rattle.coherence.proofs.Coherent.{relation-at, relations-length}
+use Rattle.laws.proofs.Relations.{relation-at, relations-length}
 
 pub map-gained : (a b : List Relation) → length a ≡ length b → map (λ (c : Change). c .gained) (zipWith (λ g l. record { gained = g; lost = l }) a b) ≡ a
 unfolding zipWith

@@ -11,13 +11,13 @@ use lib.Seq.{getD-set-other, getD-set-same}
 use lib.Dec.{ltb}
 use borrow.Author.Tests.{ltb-false, ltb-true, le-ltb, lt-ltb}
 use Rattle.model.specs.Network.{Node, AllFit, widths, nodeAt, isTable, leftOf, rightOf}
-use Rattle.model.proofs.Sets.{Ascending, asc-delete, asc-insert}
+use Rattle.laws.proofs.Sets.{Ascending, asc-delete, asc-insert}
 use Rattle.model.specs.Batch.{Event, act, actAll, put, remove}
 use Rattle.model.specs.Row.{Relation, deleteRow, insertRow, maxRows, sameRow, Wide}
-use Rattle.model.proofs.Widths.{wide-insert, wide-keep}
-use Rattle.evaluation.proofs.Fresh.{columns-fit, fresh-derived, fresh-table, givenBy, inputs-before, width-at}
+use Rattle.laws.proofs.Widths.{wide-insert, wide-keep}
+use Rattle.laws.proofs.Fresh.{columns-fit, fresh-derived, fresh-table, givenBy, inputs-before, width-at}
 use Rattle.model.specs.Evaluation.{evaluate, overfull, rowsAt}
-use Rattle.model.proofs.ByKind.{on-wide, on-asc}
+use Rattle.laws.proofs.ByKind.{on-wide, on-asc}
 use Rattle.model.specs.Areas.{tablesOf}
 
 pub record Tables (nodes : List Node) (tables : List Relation) : Type 0 where

@@ -9,13 +9,14 @@ use lib.ListN.{drop, getD, length, length-append, length-replicate, replicate, r
 use lib.Seq.{drop-at, drop-drop, ext-getD, take-at}
 use lib.Dec.{leb, ltb}
 use borrow.Author.Tests.{le-leb, ltb-false, ltb-true}
-use Rattle.rows.proofs.Place.{below-all, place-clean, place-reads}
+use Rattle.rows.proofs.Place.{place-clean, place-reads}
+use Rattle.laws.proofs.All.{below-all}
 use Rattle.model.specs.Row.{Relation, ascending, numbersBelow, maxNodes, maxRows}
 use Rattle.states.specs.Fitting.{Fitting}
-use Rattle.model.proofs.Sets.{and-both}
+use Rattle.laws.proofs.Sets.{and-both}
 use Rattle.model.specs.Areas.{areaOf, emptyPlace, goodArea, goodPlace, heldIn, layout, over, placeOf, relationsIn, unusedZero}
 use Rattle.rows.proofs.Checked.{place-length}
-use Rattle.model.proofs.Parts.{length-counted, counted-at}
+use Rattle.laws.proofs.Parts.{length-counted, counted-at}
 use Rattle.model.specs.Areas.{areaSize, placeSize}
 
 -- ---- places one after the other

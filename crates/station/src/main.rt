@@ -1,5 +1,6 @@
 // The station program: reads network.bin and batch.bin of the folder that it runs in, and prints what each batch gave.
-// What it prints comes from `program::step`; here files are opened and read, and what a step wrote is handed to the system.
+// What it prints comes from `program::step`; here files are opened and read, and what a step wrote is handed to the
+// system.
 ghost use mathlib.Core.Path.{_≡_};
 ghost use mathlib.Core.Bool.{true, false};
 ghost use Prim.Native.Nat.{_≤_};
@@ -33,7 +34,8 @@ pub struct Contents {
     size: usize,
 }
 
-// A failure, by its errno: an interrupted call and a full pipe that does not wait may pass; others get their turn first.
+// A failure, by its errno: an interrupted call and a full pipe that does not wait may pass; others get their turn
+// first.
 fn failure() -> Outcome
     ensures { λ r. ⌜ Within 0 r ⌝ }
 {
@@ -70,7 +72,8 @@ fn write_once(bytes: &[u8]) -> Outcome
     Outcome::Moved(io::count(put, bytes))
 }
 
-// Reads until the file ends or there is no room left. A read that fails is not the end of the file: then nothing is found.
+// Reads until the file ends or there is no room left. A read that fails is not the end of the file: then nothing is
+// found.
 fn read_all(fd: i32, bytes: &mut [u8]) -> Contents
     ensures { λ r. ⌜ r .size ≤ length (now (bytes .entry)) ⌝ }
 {
@@ -111,7 +114,8 @@ fn read_all(fd: i32, bytes: &mut [u8]) -> Contents
     }
 }
 
-// A file's bytes, as far as there is room; not found where it is missing or cannot be read. An open that was interrupted is tried again.
+// A file's bytes, as far as there is room; not found where it is missing or cannot be read. An open that was
+// interrupted is tried again.
 fn read_file(path: &[u8], bytes: &mut [u8]) -> Contents
     ensures { λ r. ⌜ r .size ≤ length (now (bytes .entry)) ⌝ }
 {

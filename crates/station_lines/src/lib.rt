@@ -1,34 +1,30 @@
-// The station program's lines, of a batch, of a node's watched changes and of a refusal, written into lent bytes.
+// The station program's lines of a node's watched changes, written into lent bytes.
 ghost use mathlib.Core.Path.{_≡_};
 ghost use mathlib.Core.Bool.{cond};
 ghost use mathlib.Core.List.{_∷_, [], flatMap};
 ghost use Prim.Native.Nat.{_+_, _*_, _≤_, _<_};
 ghost use lib.ListN.{length};
-ghost use lib.Seq.{sets};
 ghost use Rattle.model.specs.Areas.{layout, fields, heldIn, padded, areaSize};
 ghost use Rattle.model.specs.Watched.{changesOf};
-ghost use Rattle.model.specs.Text.{line, batchWord, changeLine, refusedLine};
+ghost use Rattle.model.specs.Text.{line, changeLine};
 ghost use Rattle.model.specs.Row.{maxNodes, maxRows, maxWidth};
 ghost use Rattle.network.specs.Reading.{Built};
 ghost use Rattle.admission.specs.Admission.{Changes};
-ghost use Rattle.station_lines.specs.Lines.{Put, PutIfRoom, batchRoom, linesIn, nodeRoom, refusedRoom};
-ghost use Rattle.station_lines.specs.Lines.{changeLines, changeRoom};
+ghost use Rattle.lines.specs.Written.{Put};
+ghost use Rattle.station_lines.specs.Lines.{changeLines, changeRoom, linesIn, nodeRoom};
 use areas::GAINED_COUNTS;
 use areas::LOST_COUNTS;
 use areas::PLACE;
 use network::Network;
-use nodes::MAX_WIDTH;
 use reports::Direction;
 use rows::MAX_ROWS;
+use rows::MAX_WIDTH;
 use rows::STRIDE;
 
 // The signs of gained and of lost rows.
 const PLUS: u8 = 43;
 
 const MINUS: u8 = 45;
-
-// The most bytes of a refusal's line.
-const LINE: usize = 50;
 
 // How many numbers a changed row's line has at most: the node and the row's fields.
 const NUMBERS: usize = 1 + MAX_WIDTH;
@@ -65,9 +61,8 @@ fn put_change(
     w: usize,
 ) -> usize
     requires { ⌜ (w ≤ maxWidth) × (from + w ≤ length (now words)) × (at + changeRoom ≤ length (now out)) ⌝ }
-    ensures { λ r. ⌜ (now (out .exit)
-        ≡ sets (now (out .entry)) at (line (sign ∷ []) (node ∷ fields w (now (words .entry)) from)))
-        × (r ≡ at + length (line (sign ∷ []) (node ∷ fields w (now (words .entry)) from))) × (r ≤ at + changeRoom) ⌝ }
+    ensures { λ r. ⌜ Put (line (sign ∷ []) (node ∷ fields w (now (words .entry)) from)) changeRoom at
+        (now (out .entry)) (now (out .exit)) r ⌝ }
 {
     let numbers = change_numbers(node, words, from, w);
     lines::put_line_at(out, at, &[sign], &numbers[..w + 1])
@@ -85,10 +80,8 @@ fn put_changes(
 ) -> usize
     requires { ⌜ (w ≤ maxWidth) × (n ≤ maxRows) × (node < maxNodes) × (areaSize ≤ length (now area))
         × (at + changeRoom * n ≤ length (now out)) ⌝ }
-    ensures { λ r. ⌜ (now (out .exit)
-        ≡ sets (now (out .entry)) at (changeLines sign node (heldIn layout w n (now (area .entry)) node)))
-        × (r ≡ at + length (changeLines sign node (heldIn layout w n (now (area .entry)) node)))
-        × (r ≤ at + changeRoom * n) ⌝ }
+    ensures { λ r. ⌜ Put (changeLines sign node (heldIn layout w n (now (area .entry)) node)) (changeRoom * n) at
+        (now (out .entry)) (now (out .exit)) r ⌝ }
 {
     let mut to = at;
     let mut j = 0;
@@ -112,9 +105,8 @@ fn put_allowed(
 ) -> usize
     requires { ⌜ (w ≤ maxWidth) × (n ≤ maxRows) × (node < maxNodes) × (areaSize ≤ length (now area))
         × (at + changeRoom * n ≤ length (now out)) ⌝ }
-    ensures { λ r. ⌜ (now (out .exit) ≡ sets (now (out .entry)) at (cond allowed (changeLines sign node
-        (heldIn layout w n (now (area .entry)) node)) [])) × (r ≡ at + length (cond allowed (changeLines sign node
-        (heldIn layout w n (now (area .entry)) node)) [])) × (r ≤ at + changeRoom * n) ⌝ }
+    ensures { λ r. ⌜ Put (cond allowed (changeLines sign node (heldIn layout w n (now (area .entry)) node)) [])
+        (changeRoom * n) at (now (out .entry)) (now (out .exit)) r ⌝ }
 {
     if allowed {
         return put_changes(out, at, sign, node, area, n, w);
@@ -172,23 +164,4 @@ pub fn put_watched(
     let g = head[GAINED_COUNTS + node] as usize;
     let l = head[LOST_COUNTS + node] as usize;
     put_node(out, at, sign, node, w, gained, g, lost, l)
-}
-
-// The line of an accepted batch's number from the first byte on: its length.
-pub fn put_batch(out: &mut [u8], number: usize) -> usize
-    requires { ⌜ batchRoom ≤ length (now out) ⌝ }
-    ensures { λ r. ⌜ Put (line batchWord (number ∷ [])) batchRoom 0 (now (out .entry)) (now (out .exit)) r ⌝ }
-{
-    lines::put_line_at(out, 0, b"batch", &[number])
-}
-
-// The line of a refusal from the first byte on: its length. Where there is no room for the longest one nothing is
-// written, and the answer is 0.
-pub fn put_refused(out: &mut [u8], number: usize, place: usize) -> usize
-    ensures { λ r. ⌜ PutIfRoom (refusedLine number place) refusedRoom (now (out .entry)) (now (out .exit)) r ⌝ }
-{
-    if out.len() < LINE {
-        return 0;
-    }
-    lines::put_line_at(out, 0, b"refused", &[number, place])
 }

@@ -10,13 +10,13 @@ use borrow.Author.Tests.{leb-false, leb-true, eqb-true, eqb-false}
 use lib.Seq.{getD-set-same, getD-set-other}
 use Rattle.model.specs.Record.{Bytes, fieldAt, kindAt, firstBroken, rule, isBroken, lengthAt, isAccepted, refused, offsets}
 use Rattle.model.specs.Row.{Relation, insertRow, deleteRow, sameRow, maxWidth, Wide}
-use Rattle.model.proofs.Widths.{wide-insert, wide-keep}
+use Rattle.laws.proofs.Widths.{wide-insert, wide-keep}
 use Rattle.model.specs.Batch.{rowIn, eventFault, eventFits, readEvents, eventAt, act, eventOf, put, remove, actAll, readBatch, Event}
-use Rattle.model.proofs.Events.{length-row-in}
+use Rattle.laws.proofs.Events.{length-row-in}
 use Rattle.model.specs.Areas.{padded, stride}
 use Rattle.tables.specs.Fold.{foldAt, foldRows, actOn, actIn, Events, Foldable}
 use Rattle.model.specs.Network.{Node, widths, isTable, nodeAt}
-use Rattle.model.proofs.Sets.{and-first, and-second, Ascending, asc-insert, asc-delete}
+use Rattle.laws.proofs.Sets.{and-first, and-second, Ascending, asc-insert, asc-delete}
 use Rattle.records.proofs.Header.{Whole, whole}
 use Rattle.model.specs.Evaluation.{rowsAt}
 use Rattle.rows.proofs.Padding.{insert-padded, delete-padded}

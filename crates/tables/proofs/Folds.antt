@@ -10,7 +10,7 @@ use lib.Dec.{eqb}
 use borrow.Author.Tests.{eq-eqb, ne-eqb}
 use Rattle.model.specs.Record.{Bytes, u32, kindAt, fieldAt, isBroken, lengthAt, offsets}
 use Rattle.rows.proofs.Words.{fields-part, length-words, rows-stored, wide-rows}
-use Rattle.model.proofs.Widths.{wide-insert, wide-keep}
+use Rattle.laws.proofs.Widths.{wide-insert, wide-keep}
 use Rattle.model.specs.Row.{Wide, Row, deleteRow, insertRow, member, ascending, keep, sameRow, maxRows, maxWidth}
 use Rattle.rows.specs.Rows.{words, rowAt, firstRows, stored}
 use Rattle.rows.proofs.Place.{length-padded}
@@ -18,10 +18,10 @@ use Rattle.model.specs.Areas.{padded, foldedSize, stride}
 use Rattle.rows.proofs.Padding.{padded-more}
 use Rattle.model.specs.Batch.{rowIn, foldedRows}
 use Rattle.tables.specs.Fold.{StandsFolded, actOn, Events, Foldable, Table, foldAt}
-use Rattle.model.proofs.Sets.{Ascending, asc-delete, asc-insert, ascending-holds, ascending-true}
+use Rattle.laws.proofs.Sets.{Ascending, asc-delete, asc-insert, ascending-holds, ascending-true}
 use Rattle.records.proofs.Header.{Whole, whole}
 use Rattle.records.proofs.Offsets.{remaining, remaining-all, remaining-broken, remaining-none, remaining-whole}
-use Rattle.model.proofs.Events.{length-row-in}
+use Rattle.laws.proofs.Events.{length-row-in}
 
 row-more : (bs : Bytes) (at k : ℕ) → rowIn bs at (k + 1) ≡ rowIn bs at k ++ (u32 bs (at + 4 * k) ∷ [])
 row-more bs at zero = ap (λ (n : ℕ). u32 bs n ∷ []) (let e : at ≡ at + 4 * 0 = omega arith in e)

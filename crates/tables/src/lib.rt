@@ -10,9 +10,9 @@ ghost use Rattle.model.specs.Areas.{padded, foldedSize, stride};
 ghost use Rattle.model.specs.Row.{maxRows, maxWidth};
 ghost use Rattle.rows.specs.Rows.{firstRows};
 ghost use Rattle.tables.specs.Fold.{StandsFolded, Table, actOn, foldAt, Foldable};
+use insertions::Inserted;
 use records::MAX_EVENTS;
 use records::PUT;
-use rows::Inserted;
 use rows::MAX_ROWS;
 use rows::STRIDE;
 
@@ -39,17 +39,18 @@ fn event_row(bytes: &[u8], at: usize, width: usize) -> [u32; STRIDE]
 fn act(words: &mut [u32], n: usize, bytes: &[u8], at: usize, width: usize) -> usize
     requires { ⌜ (width ≤ maxWidth) × (at + 6 + 4 * width ≤ length (now bytes)) × Table (now words) n
         × (n < foldedRows) × (length (now words) ≡ foldedSize) ⌝ }
-    ensures { λ r. ⌜ StandsFolded (actOn (now (bytes .entry)) at width (firstRows (now (words .entry)) n))
-        (now (words .exit)) r × (r ≤ n + 1) ⌝ }
+    ensures folds { λ r. ⌜ StandsFolded (actOn (now (bytes .entry)) at width (firstRows (now (words .entry)) n))
+        (now (words .exit)) r ⌝ }
+    ensures grows { λ r. ⌜ r ≤ n + 1 ⌝ }
 {
     let row = event_row(bytes, at, width);
     if records::u16_at(bytes, at + 2) == PUT {
-        match rows::insert(words, n, &row, 0, FOLDED_ROWS) {
+        match insertions::insert(words, n, &row, 0, FOLDED_ROWS) {
             Inserted::New => n + 1,
             Inserted::Present => n,
             Inserted::Full => n,
         }
-    } else if rows::remove(words, n, &row, 0) {
+    } else if insertions::remove(words, n, &row, 0) {
         n - 1
     } else {
         n
@@ -68,10 +69,11 @@ fn fold_one(
     requires { ⌜ (width ≤ maxWidth) × (at + 6 ≤ length (now bytes))
         × (fieldAt (now bytes) at 0 ≡ table → at + 6 + 4 * width ≤ length (now bytes))
         × Table (now words) n × (n < foldedRows) × (length (now words) ≡ foldedSize) ⌝ }
-    ensures { λ r. ⌜ StandsFolded
+    ensures folds { λ r. ⌜ StandsFolded
         (cond (eqb (fieldAt (now (bytes .entry)) at 0) table)
         (actOn (now (bytes .entry)) at width (firstRows (now (words .entry)) n))
-        (firstRows (now (words .entry)) n)) (now (words .exit)) r × (r ≤ n + 1) ⌝ }
+        (firstRows (now (words .entry)) n)) (now (words .exit)) r ⌝ }
+    ensures grows { λ r. ⌜ r ≤ n + 1 ⌝ }
 {
     if records::field_at(bytes, at, 0) == table {
         return act(words, n, bytes, at, width);

@@ -9,12 +9,13 @@ ghost use Rattle.model.specs.Areas.{gainedCount, lostCount, headWords};
 ghost use Rattle.model.specs.Text.{nodeLines};
 ghost use Rattle.model.specs.Row.{maxNodes};
 ghost use Rattle.areas.specs.Lent.{lent};
-ghost use Rattle.station_lines.specs.Lines.{Put, nodeRoom};
+ghost use Rattle.lines.specs.Written.{Put};
+ghost use Rattle.station_lines.specs.Lines.{nodeRoom};
 ghost use Rattle.stages.specs.declared.Stage.the-variants.{Cut, Tell};
 ghost use Rattle.stages.specs.Stages.{Opened, Ready, Says, files, stateOf};
 use areas::GAINED_COUNTS;
 use areas::LOST_COUNTS;
-use nodes::MAX_NODES;
+use rows::MAX_NODES;
 use stages::Said;
 use stages::Stage;
 

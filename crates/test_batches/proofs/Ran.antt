@@ -5,20 +5,20 @@ use mathlib.Core.List.{[], _∷_, _++_, append-nil}
 use Prim.Native.Nat.{ℕ, _+_, _≤_}
 use native.Mathlib.Omega.{arith}
 use lib.Dec.{leb}
-use lib.ListN.{drop, length, length-append, List·getD-eq-default, take}
+use lib.ListN.{drop, length, List·getD-eq-default, take}
 use borrow.Author.Tests.{leb-false, leb-true}
 use mir.Val.{boolByte}
 use Rattle.model.specs.Record.{Bytes}
 use Rattle.model.specs.Areas.{Areas}
 use Rattle.model.specs.Calls.{Applied, checkCall, reportCall}
 use Rattle.model.specs.Text.{line}
-use Rattle.model.proofs.Parts.{sets-more}
-use Rattle.network.specs.declared.Verdict.{Verdict}
+use Rattle.verdicts.specs.declared.Verdict.{Verdict}
 use Rattle.network.specs.Reading.{resultWith}
 use Rattle.checking.specs.Answer.{checkAnswerOf}
 use Rattle.checking.specs.declared.CheckAnswer.{CheckAnswer}
-use Rattle.station_lines.specs.Lines.{Put}
-use Rattle.test_runs.specs.Lines.{Opens, PutLine, Reports, reportLine}
+use Rattle.lines.specs.Written.{Put, PutLine}
+use Rattle.lines.proofs.Written.{put-more}
+use Rattle.test_runs.specs.Lines.{Opens, Reports, reportLine}
 use Rattle.test_runs.proofs.Told.{bit-is, copied}
 use Rattle.test_batches.specs.declared.Kind.{Kind}
 use Rattle.test_batches.specs.declared.Kind.the-variants.{Name, Network, Batch, Report}
@@ -35,12 +35,7 @@ other n h1 h2 h3 = go (leb 4 n) refl
 -- ---- two lines
 
 two : (x y : Bytes) {m n k r : ℕ} {text mid shown : Bytes} → Put x m 0 text mid k → Put y n k mid shown r → m + n ≤ length text → Writes (x ++ y) text shown r
-two x y {k = k} {text = text} {mid = mid} {shown = shown} p q h =
-    record {
-      bytes = sets-more text mid shown 0 k x y (p .bytes) (p .next) (q .bytes);
-      next = omega (arith, p .next, q .next, length-append x y);
-      short = omega (arith, p .short, q .short);
-    }
+two x y p q h = let both = put-more x y p q in record { bytes = both .bytes; next = both .next; short = omega (arith, both .short, h) }
 
 pub applied : (net batch : Bytes) (a after : Areas) (v : Verdict) (c : CheckAnswer) {k r : ℕ} {text mid shown : Bytes} → length text ≡ 65536 → length (after .head) ≤ 2816 →
     Applied net batch a (resultWith v after) → checkAnswerOf c ≡ checkCall net after →

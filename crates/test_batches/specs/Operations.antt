@@ -8,7 +8,7 @@ use Rattle.model.specs.Record.{Bytes, Verdict}
 use Rattle.model.specs.Areas.{Areas}
 use Rattle.model.specs.Calls.{Applied, CheckAnswer, ReportAnswer, Result, checkCall, reportCall}
 use Rattle.model.specs.Text.{line}
-use Rattle.station_lines.specs.Lines.{Put}
+use Rattle.lines.specs.Written.{Put}
 use Rattle.test_runs.specs.Lines.{Opens, reportLine}
 use Rattle.test_batches.specs.declared.Kind.{Kind}
 use Rattle.test_batches.specs.declared.Kind.the-variants.{Name, Network, Batch, Report}

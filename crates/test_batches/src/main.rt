@@ -56,7 +56,7 @@ fn apply_lines(
     let c = checking::check(net, rows, gained, lost, head);
     let numbers = [v.number, v.place, c.number, c.yes as usize];
     let k = lines::put_line_at(text, 0, b" apply", &numbers);
-    test_runs::values_line(text, k, b" head", &[], head)
+    test_values::values_line(text, k, b" head", &[], head)
 }
 
 // A report: its number, place and size, and all lent bytes.
@@ -76,7 +76,7 @@ fn report_lines(
         (now (out .entry)) (now (out .exit)) (now (text .entry)) (now (text .exit)) r ⌝ }
 {
     let k = test_runs::report_line(net, node, rows, gained, lost, head, out, b" report", text);
-    test_runs::values_line(text, k, b" bytes", out, &[])
+    test_values::values_line(text, k, b" bytes", out, &[])
 }
 
 // An operation with the network and its own text: what it prints is written from the first byte on.

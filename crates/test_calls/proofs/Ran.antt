@@ -10,9 +10,9 @@ use Rattle.model.specs.Areas.{Areas}
 use Rattle.model.specs.Calls.{checkCall}
 use Rattle.model.specs.Text.{line}
 use Rattle.areas.specs.Lent.{lent}
-use Rattle.station_lines.specs.Lines.{Put}
+use Rattle.lines.specs.Written.{Put, PutLine}
 use Rattle.test_script.specs.declared.Operation.{Operation}
-use Rattle.test_runs.specs.Lines.{Opens, PutLine, Reports, checkLine}
+use Rattle.test_runs.specs.Lines.{Opens, Reports, checkLine}
 use Rattle.test_runs.proofs.Told.{copied}
 use Rattle.test_calls.specs.Operations.{Call, Open, Check, Report, ShortRows, ShortGained, ShortLost, ShortHead, Few, Kind, Name, Network, Word, Values, Calls}
 use Rattle.test_calls.specs.Operations.{Runs, RunsCall, bytesWord, callOf, kindOf, reportOf, short, shortOf, stored, withGained, withHead, withLost, withRows}

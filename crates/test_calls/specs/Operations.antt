@@ -10,7 +10,7 @@ use Rattle.model.specs.Areas.{Areas, headWords}
 use Rattle.model.specs.Calls.{openCall, checkCall, reportCall}
 use Rattle.model.specs.Text.{line}
 use Rattle.areas.specs.Lent.{lent}
-use Rattle.station_lines.specs.Lines.{Put}
+use Rattle.lines.specs.Written.{Put}
 use Rattle.test_script.specs.declared.Operation.{Operation}
 use Rattle.test_runs.specs.Lines.{verdictLine, checkLine, reportLine}
 

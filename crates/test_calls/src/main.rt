@@ -155,7 +155,7 @@ fn run(
             store_word(op, rows, gained, lost, head);
             0
         }
-        7 => test_runs::values_line(text, 0, b"bytes", out, &[]),
+        7 => test_values::values_line(text, 0, b"bytes", out, &[]),
         _ => run_call(net, op, rows, gained, lost, head, out, text),
     }
 }

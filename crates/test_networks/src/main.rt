@@ -1,15 +1,16 @@
 // Reads networks from standard input and prints what the reader answers of each: a refusal's number and place, or 0 and
-// 0, the node count, and every node's kind, width and level, 0 past the last. A case is a byte (the length of its name),
-// 2 bytes (the length of the network), the name, the network.
+// 0, the node count, and every node's kind, width and level, 0 past the last. A case is a byte (the length of its
+// name), 2 bytes (the length of the network), the name, the network.
 ghost use mathlib.Core.Path.{_≡_};
-ghost use Prim.Native.Nat.{_+_, _<_, _≤_};
+ghost use Prim.Native.Nat.{_+_, _<_};
 ghost use lib.ListN.{length};
-ghost use lib.Seq.{sets};
+ghost use Rattle.model.specs.Row.{maxNodes};
 ghost use Rattle.model.specs.Calls.{readCall};
 ghost use Rattle.model.specs.Text.{line};
+ghost use Rattle.lines.specs.Written.{Put, PutLine};
 ghost use Rattle.test_networks.specs.Cases.{ReadsCase, answerLines};
 use libc::STDOUT_FILENO;
-use nodes::MAX_NODES;
+use rows::MAX_NODES;
 
 // Where a case's name and its network begin, and where the next case does.
 pub struct Case {
@@ -44,8 +45,8 @@ fn case_at(bytes: &[u8], at: usize) -> Case
 // A line of a word and 32 numbers from an offset on: where the bytes after it begin.
 fn put_list(text: &mut [u8], at: usize, word: &[u8], list: [usize; MAX_NODES]) -> usize
     requires { ⌜ at + length (now word) + 672 < length (now text) ⌝ }
-    ensures { λ r. ⌜ (now (text .exit) ≡ sets (now (text .entry)) at (line (now (word .entry)) list))
-        × (r ≡ at + length (line (now (word .entry)) list)) × (r ≤ at + length (now (word .entry)) + 673) ⌝ }
+    ensures { λ r. ⌜ PutLine (line (now (word .entry)) list) (now (word .entry)) maxNodes at
+        (now (text .entry)) (now (text .exit)) r ⌝ }
 {
     lines::put_line_at(text, at, word, &list)
 }
@@ -53,10 +54,9 @@ fn put_list(text: &mut [u8], at: usize, word: &[u8], list: [usize; MAX_NODES]) -
 // What the reader answers of a network, in four lines from the first byte on: their length.
 fn answer_lines(net: &[u8], text: &mut [u8]) -> usize
     requires { ⌜ length (now text) ≡ 4096 ⌝ }
-    ensures { λ r. ⌜ (now (text .exit) ≡ sets (now (text .entry)) 0 (answerLines (readCall (now (net .entry)))))
-        × (r ≡ length (answerLines (readCall (now (net .entry))))) × (r ≤ 4096) ⌝ }
+    ensures { λ r. ⌜ Put (answerLines (readCall (now (net .entry)))) 4096 0 (now (text .entry)) (now (text .exit)) r ⌝ }
 {
-    let answer = network::read(net);
+    let answer = reader::read(net);
     let first = [answer.number, answer.place, answer.count];
     let kinds = answer.kinds;
     let widths = answer.widths;

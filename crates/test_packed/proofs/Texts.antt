@@ -9,7 +9,7 @@ use lib.ListN.{drop, getD, length, length-drop, take}
 use lib.Seq.{getD-drop, getD-take, take-all, take-suc}
 use Rattle.model.specs.Row.{sameRow}
 use Rattle.model.specs.Record.{Bytes}
-use Rattle.model.proofs.Order.{sameRow-eq, sameRow-refl}
+use Rattle.laws.proofs.Order.{sameRow-eq, sameRow-refl}
 use Rattle.test_packed.specs.Packed.{standsAt}
 
 pub same-yes : (a b : Bytes) → a ≡ b → sameRow a b ≡ true

@@ -5,7 +5,8 @@ ghost use lib.ListN.{length};
 ghost use Rattle.test_packed.specs.Packed.{LiesWithin, packedSize, standsAt, vectorAt};
 use stages::MAX_FILE;
 
-// A vector: the sizes of its two files, where its network, its batches and the text that it must print begin, and where the next vector does.
+// A vector: the sizes of its two files, where its network, its batches and the text that it must print begin, and where
+// the next vector does.
 pub struct Vector {
     pub network: usize,
     pub batches: usize,
@@ -17,7 +18,8 @@ pub struct Vector {
 
 // How many bytes of a file are packed: none of one that is missing or too long.
 fn packed_size(size: usize) -> usize
-    ensures { λ r. ⌜ (r ≡ packedSize size) × (r ≤ 65536) ⌝ }
+    ensures is { λ r. ⌜ r ≡ packedSize size ⌝ }
+    ensures few { λ r. ⌜ r ≤ 65536 ⌝ }
 {
     if MAX_FILE < size {
         return 0;
@@ -25,10 +27,12 @@ fn packed_size(size: usize) -> usize
     size
 }
 
-// The vector at an offset: three sizes of 4 bytes, then the bytes. Past the end of the packed bytes one with nothing in it.
+// The vector at an offset: three sizes of 4 bytes, then the bytes. Past the end of the packed bytes one with nothing in
+// it.
 pub fn vector_at(packed: &[u8], at: usize) -> Vector
     requires { ⌜ (at < length (now packed)) × (length (now packed) ≤ 409600) ⌝ }
-    ensures { λ r. ⌜ (r ≡ vectorAt (now (packed .entry)) at) × LiesWithin at (length (now (packed .entry))) r ⌝ }
+    ensures is { λ r. ⌜ r ≡ vectorAt (now (packed .entry)) at ⌝ }
+    ensures within { λ r. ⌜ LiesWithin at (length (now (packed .entry))) r ⌝ }
 {
     let end = packed.len();
     let none = Vector {

@@ -11,7 +11,7 @@ use borrow.Author.Tests.{eqb-false, eqb-true, leb-false, leb-true}
 use Rattle.model.specs.Row.{sameRow}
 use Rattle.model.specs.Record.{Bytes}
 use Rattle.model.specs.Areas.{Areas, layout, longEnough}
-use Rattle.model.proofs.Order.{sameRow-eq}
+use Rattle.laws.proofs.Order.{sameRow-eq}
 use Rattle.stages.specs.declared.Stage.{Stage}
 use Rattle.stages.specs.declared.Stage.the-variants.{Begin}
 use Rattle.stages.specs.Stages.{Files, Ready, Says, isOver, textAt}

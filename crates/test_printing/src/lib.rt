@@ -11,8 +11,8 @@ ghost use Rattle.station_lines.specs.Lines.{nodeRoom};
 ghost use Rattle.stages.specs.Stages.{fileOf};
 use stages::Stage;
 
-// Whether the program prints a text, given whether the network's file (n) and that of the batches (b) are there: yes exactly where the
-// program's output for the two files is that text.
+// Whether the program prints a text, given whether the network's file (n) and that of the batches (b) are there: yes
+// exactly where the program's output for the two files is that text.
 pub fn prints(
     n: bool,
     b: bool,

@@ -1,24 +1,26 @@
--- What a call gave, told by the line that was written, and numbers that fill a list. Assumes nothing.
+-- What a call gave, told by the line that was written. Assumes nothing.
 use mathlib.Core.Path.{ap, refl, sym, _∙_, _≡_}
 use mathlib.Core.Bool.{Bool, true, false, cond}
-use mathlib.Core.List.{List, [], _∷_, _++_}
-use Prim.Native.Nat.{ℕ, _+_, _*_, _≤_}
+use mathlib.Core.List.{[], _∷_, _++_}
+use Prim.Native.Nat.{ℕ, _≤_}
 use native.Mathlib.Omega.{arith}
 use lib.ListN.{length, drop, take}
-use lib.Seq.{sets, take-all, take-append-seam}
+use lib.Seq.{sets, take-all}
 use mir.Val.{boolByte}
 use Rattle.model.specs.Record.{Bytes}
 use Rattle.model.specs.Areas.{Areas}
 use Rattle.model.specs.Calls.{openCall, checkCall, reportCall}
 use Rattle.model.specs.Text.{line}
-use Rattle.model.proofs.Parts.{sets-first}
-use Rattle.network.specs.Reading.{verdictOf, resultWith}
-use Rattle.network.specs.declared.Verdict.{Verdict}
+use Rattle.laws.proofs.Parts.{sets-first}
+use Rattle.network.specs.Reading.{resultWith}
+use Rattle.verdicts.specs.Verdicts.{verdictOf}
+use Rattle.verdicts.specs.declared.Verdict.{Verdict}
 use Rattle.checking.specs.Answer.{checkAnswerOf}
 use Rattle.reporting.specs.Answer.{reportAnswerOf}
 use Rattle.checking.specs.declared.CheckAnswer.{CheckAnswer}
 use Rattle.reporting.specs.declared.ReportAnswer.{ReportAnswer}
-use Rattle.test_runs.specs.Lines.{Opens, PutLine, Reports, checkLine, verdictLine}
+use Rattle.lines.specs.Written.{PutLine}
+use Rattle.test_runs.specs.Lines.{Opens, Reports, checkLine, verdictLine}
 
 -- ---- lines
 
@@ -40,17 +42,7 @@ pub reports : (net word : Bytes) (node : ℕ) (a : Areas) (v : ReportAnswer) (ro
     Reports net word node a room after text out r
 reports net word node a v room e p = record { wrote = rw (← e) p; bytes = rw (← e) }
 
--- ---- numbers
-
--- the numbers that were written from the first one on
-pub first-written : (l a : List ℕ) (n : ℕ) → n ≡ length a → n ≤ length l → take n (sets l 0 a) ≡ a
-first-written l a n e h = ap (take n) (sets-first l a (omega arith)) ∙ ap (λ (k : ℕ). take k (a ++ drop (length a) l)) e ∙ take-append-seam a (drop (length a) l)
-
--- a line of numbers that are known
-pub tells : (word numbers all : List ℕ) (count at : ℕ) {text out : Bytes} {r : ℕ} → numbers ≡ all → count ≡ length all →
-    out ≡ sets text at (line word numbers) → r ≡ at + length (line word numbers) → r ≤ at + length word + 21 * length numbers + 1 →
-    PutLine (line word all) word count at text out r
-tells word numbers all count at e k b n s = record { bytes = rw (← e) b; next = rw (← e) n; short = omega (arith, ap length e) }
+-- ---- bytes
 
 -- a copy is written from the first byte on
 pub copied : (text part : Bytes) {after : Bytes} → after ≡ take (length part) part ++ drop (length part) text → length part ≤ length text → after ≡ sets text 0 part

@@ -1,14 +1,13 @@
 -- The lines that tell what a call of the monitor gave.
 use mathlib.Core.Path.{_≡_}
-use mathlib.Core.Bool.{Bool, cond}
-use mathlib.Core.List.{List, [], _∷_, _++_}
-use Prim.Native.Nat.{ℕ, _+_, _*_}
-use lib.ListN.{length}
+use mathlib.Core.Bool.{cond}
+use mathlib.Core.List.{[], _∷_}
+use Prim.Native.Nat.{ℕ}
 use Rattle.model.specs.Record.{Bytes, Verdict}
 use Rattle.model.specs.Areas.{Areas}
 use Rattle.model.specs.Calls.{CheckAnswer, ReportAnswer, openCall, reportCall}
 use Rattle.model.specs.Text.{line}
-use Rattle.station_lines.specs.Lines.{Put}
+use Rattle.lines.specs.Written.{PutLine}
 
 -- a verdict
 abbrev pub verdictLine : Bytes → Verdict → Bytes
@@ -21,10 +20,6 @@ checkLine word c = line word (c .verdict .number ∷ c .verdict .place ∷ cond 
 -- a report's verdict and size
 abbrev pub reportLine : Bytes → ReportAnswer → Bytes
 reportLine word r = line word (r .verdict .number ∷ r .verdict .place ∷ r .size ∷ [])
-
--- a line of so many numbers is written from an offset on
-abbrev pub PutLine : Bytes → Bytes → ℕ → ℕ → Bytes → Bytes → ℕ → Type 0
-PutLine text word count at before after r = Put text (length word + 21 * count + 1) at before after r
 
 -- the areas are opened, and the verdict's line is written
 pub record Opens (net word : Bytes) (a after : Areas) (text text-after : Bytes) (r : ℕ) : Type 0 where

@@ -1,5 +1,5 @@
-// Scripts of calls, as the test programs read them.
-// An operation is a byte for its kind, a byte for an area, 2 bytes and 4 bytes for its numbers, 2 bytes for the length of its text, the text.
+// Scripts of calls, as the test programs read them. An operation is a byte for its kind, a byte for an area, 2 bytes
+// and 4 bytes for its numbers, 2 bytes for the length of its text, the text.
 ghost use mathlib.Core.Path.{_≡_};
 ghost use Prim.Native.Nat.{_<_};
 ghost use lib.ListN.{length, set};

@@ -1,4 +1,5 @@
-// Runs the packed vectors of first.bin and second.bin through the station program's steps and prints how many come out byte for byte.
+// Runs the packed vectors of first.bin and second.bin through the station program's steps and prints how many come out
+// byte for byte.
 ghost use mathlib.Core.Path.{_≡_};
 ghost use mathlib.Core.Bool.{true};
 ghost use Prim.Native.Nat.{_≤_};
@@ -25,7 +26,8 @@ fn run_file(
 ) -> Tally
     requires { ⌜ (longEnough layout (lent (now rows) (now gained) (now lost) (now head)) ≡ true)
         × (nodeRoom ≤ length (now out)) ⌝ }
-    ensures { λ r. ⌜ (r .good ≤ r .all) × (r .all ≤ 409600) ⌝ }
+    ensures fewer { λ r. ⌜ r .good ≤ r .all ⌝ }
+    ensures few { λ r. ⌜ r .all ≤ 409600 ⌝ }
 {
     let mut packed = [0u8; PACKED];
     let n = io::read_full(os::open_read(path), &mut packed);

@@ -8,7 +8,7 @@ use lib.ListN.{length, length-append, getD, set, drop, take}
 use lib.Seq.{paste, drop-append-add, drop-drop, take-at, take-all, drop-cons, set-at, append-snoc}
 use Rattle.model.specs.Row.{numbersBelow, maxNodes}
 use Rattle.model.specs.Areas.{padded, stampAt, over, headWords}
-use Rattle.model.proofs.Parts.{length-counted, numbers-more, map-append}
+use Rattle.laws.proofs.Parts.{length-counted, numbers-more, map-append}
 use Rattle.rows.proofs.Padding.{padded-more}
 use Rattle.transition.specs.Head.{stampsFrom, headFrom}
 

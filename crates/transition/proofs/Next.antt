@@ -18,12 +18,12 @@ use Rattle.model.specs.Areas.{Areas, holdingRows, rowsIn, layout, padded, stamp
 use Rattle.model.specs.Areas.{goodWorked, areaSize, headWords}
 use Rattle.areas.specs.Lent.{lent}
 use Rattle.model.specs.Delta.{Change, netChanges, changeAt}
-use Rattle.coherence.proofs.Coherent.{nodes-count}
+use Rattle.network.proofs.Nodes.{nodes-count}
 use Rattle.changes.proofs.Out.{size, changes-count, flag-is, gained-fit, lost-fit}
 use Rattle.network.proofs.Kept.{ends-padded}
 use Rattle.states.proofs.Changes.{lengths-at, map-twice, stamps-length, stamps-at}
 use Rattle.model.specs.Station.{stampOf, workedList, advanceRows}
-use Rattle.model.proofs.Parts.{length-counted, counted-at}
+use Rattle.laws.proofs.Parts.{length-counted, counted-at}
 use Rattle.states.specs.Fitting.{Fitting}
 use Rattle.states.proofs.Written.{sized}
 use Rattle.changes.proofs.Filled.{filled-all}

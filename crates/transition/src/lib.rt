@@ -18,7 +18,7 @@ use areas::ROW_COUNTS;
 use areas::STAMPS;
 use areas::WORKED;
 use network::Network;
-use nodes::MAX_NODES;
+use rows::MAX_NODES;
 
 // The stamp of a node: the new number if it changed.
 fn stamp_of(stamped: bool, number: u32, stamp: u32) -> u32

@@ -12,7 +12,7 @@ use lib.Seq.{paste, paste-suc, slice, slice-cons, slice-empty, getD-drop}
 use borrow.Author.Tests.{eqb-false, eqb-true, ne-eqb}
 use Rattle.model.specs.Row.{order, sameRow, andThen}
 use Rattle.model.specs.Areas.{allZero}
-use Rattle.model.proofs.Order.{eq-compare, compare-says}
+use Rattle.laws.proofs.Order.{eq-compare, compare-says}
 use Rattle.words.specs.Runs.{sameFirst}
 
 -- ---- copying
@@ -42,11 +42,11 @@ clear-turn d e from to k h g f p =
 
 -- ---- all zero
 
-and-assoc : (a b c : Bool) → (a && b && c) ≡ (a && (b && c))
+pub and-assoc : (a b c : Bool) → (a && b && c) ≡ (a && (b && c))
 and-assoc true b c = refl
 and-assoc false b c = refl
 
-and-true : (a : Bool) → (a && true) ≡ a
+pub and-true : (a : Bool) → (a && true) ≡ a
 and-true true = refl
 and-true false = refl
 

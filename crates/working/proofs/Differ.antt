@@ -14,7 +14,7 @@ use Rattle.model.specs.Row.{Relation, sameRows, ascending, place, maxNodes, max
 use Rattle.coherence.proofs.Agree.{sizes-differ, places-decide}
 use Rattle.places.proofs.Places.{place-count, place-wide, place-few, place-is}
 use Rattle.words.specs.Runs.{sameFirst}
-use Rattle.model.proofs.Sets.{Ascending, and-both, ascending-true, sameRows-eq}
+use Rattle.laws.proofs.Sets.{Ascending, and-both, ascending-true, sameRows-eq}
 use Rattle.model.specs.Areas.{goodPlace, placeOf, layout, heldIn, unusedZero, areaSize, placeSize}
 use Rattle.rows.proofs.Checked.{place-length}
 use Rattle.rows.proofs.Place.{place-reads, place-clean}

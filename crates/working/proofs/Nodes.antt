@@ -17,13 +17,13 @@ use Rattle.areas.specs.Lent.{placeAt}
 use Rattle.model.specs.Areas.{rowCount, layout, placeOf}
 use Rattle.model.specs.Row.{Wide, place, sameRows, Relation}
 use Rattle.places.proofs.Places.{place-wide, place-ascending, place-few, place-is}
-use Rattle.model.proofs.Sets.{Ascending, ascending-holds, sameRows-refl}
+use Rattle.laws.proofs.Sets.{Ascending, ascending-holds, sameRows-refl}
 use Rattle.tables.specs.Fold.{foldRows}
 use Rattle.model.specs.Network.{evaluateOn, leftOf, rightOf, widths}
 use Rattle.network.specs.Reading.{slotNode}
 use Rattle.tables.proofs.Acts.{fold-wide, fold-asc}
 use Rattle.coherence.specs.Held.{Derived}
-use Rattle.model.proofs.ByKind.{on-wide, on-asc}
+use Rattle.laws.proofs.ByKind.{on-wide, on-asc}
 use Rattle.rows.proofs.Place.{length-held}
 use Rattle.working.proofs.Differ.{fills-place}
 

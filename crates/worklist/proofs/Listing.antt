@@ -11,7 +11,7 @@ use lib.Dec.{ltb}
 use borrow.Author.Tests.{lt-ltb, ltb-true, ltb-false}
 use Rattle.model.specs.Row.{numbersBelow, keep, keepIf, maxNodes}
 use Rattle.worklist.specs.Listed.{isOfLevel, levelList, listTo}
-use Rattle.model.proofs.Parts.{numbers-more, keep-append, sets-more, flat-append, flat-one, sets-first, counted-at, length-counted}
+use Rattle.laws.proofs.Parts.{numbers-more, keep-append, sets-more, flat-append, flat-one, sets-first, counted-at, length-counted}
 use Rattle.states.proofs.Worked.{at-most-once, length-numbers}
 use Rattle.model.specs.Areas.{padded}
 use Rattle.rows.proofs.Words.{drop-zeros}

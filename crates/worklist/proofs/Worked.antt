@@ -16,8 +16,9 @@ use Rattle.model.specs.Station.{hasChangedInput, workedList, workedAtLevel}
 use Rattle.network.specs.declared.Network.{Network}
 use Rattle.network.specs.Reading.{nodesOf, Built, slotNode, noSlot}
 use Rattle.coherence.specs.Held.{Derived}
-use Rattle.coherence.proofs.Coherent.{nodes-count, slot-node, level-table, level-derived}
-use Rattle.model.proofs.Inputs.{inputs-none, inputs-some}
+use Rattle.coherence.proofs.Coherent.{level-table, level-derived}
+use Rattle.network.proofs.Nodes.{nodes-count, slot-node}
+use Rattle.laws.proofs.Inputs.{inputs-none, inputs-some}
 use Rattle.worklist.specs.Listed.{inputChanged, listedIn, listTo, levelList, isOfLevel}
 
 keep-same : (p q : ℕ → Bool) (from n : ℕ) → ((i : ℕ) → from ≤ i → i < from + n → p i ≡ q i) → keep p (countFrom from n) ≡ keep q (countFrom from n)

@@ -13,7 +13,7 @@ ghost use Rattle.network.specs.Reading.{nodesOf, Built, slotNode};
 ghost use Rattle.worklist.specs.Listed.{inputChanged, listedMarks, isOfLevel, levelList, listTo};
 use network::Network;
 use network::Slot;
-use nodes::MAX_NODES;
+use rows::MAX_NODES;
 
 // Whether a derived node has an input that changed.
 pub fn input_changed(slot: Slot, changed: &[bool]) -> bool
@@ -69,9 +69,11 @@ fn list_node(
     requires { ⌜ (i < length (now levels)) × (i < length (now listed)) × (i < maxNodes)
         × (length (now entries) ≡ maxNodes)
         × (k + length (keepIf (isOfLevel (now levels) (now listed) level i) i []) ≤ maxNodes) ⌝ }
-    ensures { λ r. ⌜ (now (entries .exit)
-        ≡ sets (now (entries .entry)) k (keepIf (isOfLevel (now (levels .entry)) (now (listed .entry)) level i) i []))
-        × (r ≡ k + length (keepIf (isOfLevel (now (levels .entry)) (now (listed .entry)) level i) i [])) ⌝ }
+    ensures lists { λ _. ⌜ now (entries .exit)
+        ≡ sets (now (entries .entry)) k
+        (keepIf (isOfLevel (now (levels .entry)) (now (listed .entry)) level i) i []) ⌝ }
+    ensures counts { λ r. ⌜ r
+        ≡ k + length (keepIf (isOfLevel (now (levels .entry)) (now (listed .entry)) level i) i []) ⌝ }
 {
     if levels[i] != level {
         return k;
@@ -95,9 +97,9 @@ fn list_level(
     requires { ⌜ (n ≤ length (now levels)) × (n ≤ length (now listed)) × (n ≤ maxNodes)
         × (length (now entries) ≡ maxNodes)
         × (k + length (levelList (now levels) (now listed) n level) ≤ maxNodes) ⌝ }
-    ensures { λ r. ⌜ (now (entries .exit)
-        ≡ sets (now (entries .entry)) k (levelList (now (levels .entry)) (now (listed .entry)) n level))
-        × (r ≡ k + length (levelList (now (levels .entry)) (now (listed .entry)) n level)) ⌝ }
+    ensures lists { λ _. ⌜ now (entries .exit)
+        ≡ sets (now (entries .entry)) k (levelList (now (levels .entry)) (now (listed .entry)) n level) ⌝ }
+    ensures counts { λ r. ⌜ r ≡ k + length (levelList (now (levels .entry)) (now (listed .entry)) n level) ⌝ }
 {
     let mut end = k;
     let mut i = 0;
@@ -112,8 +114,10 @@ fn list_level(
 pub fn list_worked(levels: &[usize], listed: &[bool], n: usize, entries: &mut [u32]) -> usize
     requires { ⌜ (n ≤ length (now levels)) × (n ≤ length (now listed)) × (n ≤ maxNodes)
         × (now entries ≡ replicate maxNodes 0) ⌝ }
-    ensures { λ r. ⌜ (now (entries .exit) ≡ padded maxNodes (listTo (now (levels .entry)) (now (listed .entry)) n n))
-        × (r ≡ length (listTo (now (levels .entry)) (now (listed .entry)) n n)) × (r ≤ maxNodes) ⌝ }
+    ensures lists { λ _. ⌜ now (entries .exit)
+        ≡ padded maxNodes (listTo (now (levels .entry)) (now (listed .entry)) n n) ⌝ }
+    ensures counts { λ r. ⌜ r ≡ length (listTo (now (levels .entry)) (now (listed .entry)) n n) ⌝ }
+    ensures few { λ r. ⌜ r ≤ maxNodes ⌝ }
 {
     let mut k = 0;
     let mut level = 0;

@@ -3,7 +3,7 @@ use Prim.Native.Nat.{_-_, _≤_}
 use native.Mathlib.Omega.{arith}
 use borrow.Author.Needs.{needs}
 use Rattle.areas.proofs.good_area.Statement.{statement}
-use Rattle.areas.proofs.All.{AllTo, all-done, all-more, all-none, all-not}
+use Rattle.laws.proofs.All.{AllTo, all-done, all-more, all-none, all-not}
 use Rattle.areas.proofs.Good.{area-is, nodeGood}
 use Rattle.areas.specs.Lent.{countsFrom}
 use Rattle.model.specs.Network.{widths}

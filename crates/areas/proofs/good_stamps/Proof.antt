@@ -5,7 +5,7 @@ use native.Mathlib.Omega.{arith}
 use borrow.Author.Needs.{needs}
 use mathlib.Core.Path.{sym}
 use Rattle.areas.proofs.good_stamps.Statement.{statement}
-use Rattle.areas.proofs.All.{AllTo, all-none, all-not, all-more, all-done}
+use Rattle.laws.proofs.All.{AllTo, all-none, all-not, all-more, all-done}
 use Rattle.model.specs.Areas.{stampAt, batchNumber, goodStamps}
 use Rattle.model.specs.Row.{maxNodes}
 use Rattle.areas.proofs.good_stamps.Tie as tie

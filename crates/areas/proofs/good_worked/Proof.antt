@@ -6,7 +6,7 @@ use borrow.Author.Tests.{lt-leb, le-leb}
 use mathlib.Core.Path.{refl, sym}
 use borrow.Author.Needs.{needs}
 use Rattle.areas.proofs.good_worked.Statement.{statement}
-use Rattle.areas.proofs.All.{AllTo, all-none, all-not, all-more, all-done}
+use Rattle.laws.proofs.All.{AllTo, all-none, all-not, all-more, all-done}
 use Rattle.model.specs.Areas.{workedCount, workedAt, goodWorked}
 use Rattle.model.specs.Row.{maxNodes}
 use Rattle.areas.proofs.good_worked.Tie as tie

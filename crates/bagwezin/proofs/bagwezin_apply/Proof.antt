@@ -3,7 +3,7 @@ use mathlib.Core.Path.{refl}
 use native.Mathlib.Omega.{arith}
 use Rattle.bagwezin.proofs.bagwezin_apply.Statement.{statement}
 use Rattle.areas.specs.Lent.{lent}
-use Rattle.model.proofs.Bounds.{ByteList, applied-small}
+use Rattle.laws.proofs.Bounds.{ByteList, applied-small}
 use Rattle.bagwezin.proofs.bagwezin_apply.Tie as tie
 use Rattle.bagwezin.proofs.bagwezin_apply.Reads as reads
 use Rattle.bagwezin.proofs.bagwezin_apply.Lts as lts

@@ -4,13 +4,13 @@ use Prim.Native.Nat.{_≤_}
 use lib.ListN.{length}
 use Rattle.bagwezin.proofs.bagwezin_read.Statement.{statement}
 use Rattle.bagwezin.proofs.Answered.{read-fits, read-refused, read-short, read-written, reader-fits}
-use Rattle.network.specs.Reading.{answerOf}
+use Rattle.reader.specs.Answer.{answerOf}
 use Rattle.bagwezin.proofs.bagwezin_read.Tie as tie
 use Rattle.bagwezin.proofs.bagwezin_read.Reads as reads
 use Rattle.bagwezin.proofs.bagwezin_read.Lts as lts
 use Rattle.packing.proofs.pack.Reads as pack-reads
 use Rattle.packing.proofs.write_answer.Reads as write-list-reads
-use Rattle.network.proofs.read.Reads as read-reads
+use Rattle.reader.proofs.read.Reads as read-reads
 
 pack-requires : tie.Need-pack-requires
 pack-requires c κs = (record { number = omega arith; place = omega arith }, omega arith)

@@ -2,7 +2,7 @@ use borrow.Author.Needs.{needs}
 use mathlib.Core.Path.{refl, ap, _∙_}
 use Rattle.batch.proofs.Promised.{ready, worked-out, over-refused, accepted-kept}
 use Rattle.areas.specs.Lent.{lent}
-use Rattle.network.specs.Reading.{verdictOf}
+use Rattle.verdicts.specs.Verdicts.{verdictOf}
 use Rattle.propagation.specs.Propagated.{tablesAfter, verdictBy}
 use Rattle.batch.proofs.advance.Statement.{statement}
 use Rattle.batch.proofs.advance.Tie as tie

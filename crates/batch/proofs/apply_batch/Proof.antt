@@ -5,21 +5,26 @@ use mathlib.Core.Path.{ap, sym, _∙_}
 use Rattle.batch.proofs.apply_batch.Statement.{statement}
 use Rattle.areas.proofs.Good.{long-parts}
 use Rattle.batch.proofs.Promised.{last-refused, read-refused}
-use Rattle.network.specs.Reading.{verdictOf}
+use Rattle.verdicts.specs.Verdicts.{verdictOf}
 use Rattle.model.specs.Record.{isAccepted}
 use Rattle.batch.proofs.apply_batch.Tie as tie
 use Rattle.batch.proofs.apply_batch.Reads as reads
 use Rattle.batch.proofs.apply_batch.Lts as lts
 use Rattle.batch.proofs.advance.Reads as advance-reads
 use Rattle.events.proofs.read_batch.Reads as read-batch-reads
+use Rattle.verdicts.proofs.refused.Reads as refused-reads
 
 slice-read-if1 : tie.Need-slice-read-if1
 slice-read-if1 c = let a = (c .before .before .before .before .before .before .args) in let l = long-parts (a .rows .now) (a .gained .now) (a .lost .now) (a .head .now)
     (c .before .before .before .before .before .before .pre .long) in omega (arith, l .3)
 
+refused-requires : tie.Need-refused-requires
+refused-requires c κs = search needs
+
 returns : tie.Need-returns
-returns c = let a = (c .before .before .before .before .before .before .before .args) in last-refused (a .net) (a .bytes .now) (a .rows .now) (a .gained .now) (a .lost .now) (a .head .now)
-    (c .before .before .before .before .before .before .before .pre) (c .if1 .taken)
+returns c = let a = (c .before .before .before .before .before .before .before .before .args) in rw (c .refused .ensures)
+    (last-refused (a .net) (a .bytes .now) (a .rows .now) (a .gained .now) (a .lost .now) (a .head .now)
+    (c .before .before .before .before .before .before .before .before .pre) (c .before .if1 .taken))
 
 read-batch-requires : tie.Need-read-batch-requires
 read-batch-requires c κs = c .before .before .before .before .before .before .before .pre .checkable .built
@@ -59,6 +64,7 @@ apply-batch-spec =
     tie.close
     (tie.spec
     slice-read-if1
+    refused-requires
     returns
     read-batch-requires
     returns-2

@@ -2,7 +2,7 @@ use mathlib.Core.Path.{refl, sym, _∙_, _≡_}
 use Prim.Native.Nat.{_+_, _-_, _≤_}
 use native.Mathlib.Omega.{arith}
 use lib.ListN.{getD}
-use Rattle.areas.proofs.All.{AllTo, all-none, all-more, all-done, all-not}
+use Rattle.laws.proofs.All.{AllTo, all-none, all-more, all-done, all-not}
 use Rattle.coherence.proofs.is_coherent.Statement.{statement}
 use Rattle.coherence.proofs.Coherent.{coherent-is, level-derived, level-table}
 use Rattle.coherence.proofs.Agree.{fewer}

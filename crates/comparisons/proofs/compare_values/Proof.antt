@@ -1,6 +1,6 @@
 use mathlib.Core.Path.{sym}
 use Rattle.model.specs.Algebra.{compareFields}
-use Rattle.model.proofs.Order.{lt-compare, gt-compare, eq-compare}
+use Rattle.laws.proofs.Order.{lt-compare, gt-compare, eq-compare}
 use native.Mathlib.Omega.{arith}
 use Rattle.comparisons.proofs.compare_values.Statement.{statement}
 use Rattle.comparisons.proofs.compare_values.Tie as tie

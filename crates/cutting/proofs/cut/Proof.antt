@@ -10,7 +10,7 @@ use Rattle.cutting.proofs.cut.Lts as lts
 use Rattle.lines.proofs.put_line_at.Reads as put-line-at-reads
 use Rattle.cutting.proofs.apply.Reads as apply-reads
 use Rattle.pieces.proofs.next_piece.Reads as next-piece-reads
-use Rattle.station_lines.proofs.put_refused.Reads as put-refused-reads
+use Rattle.verdict_lines.proofs.put_refused.Reads as put-refused-reads
 
 next-piece-requires : tie.Need-next-piece-requires
 next-piece-requires c κs = search needs
@@ -104,7 +104,7 @@ returns-3 c = let a = c .before .before .before .before .before .before .before 
     rw (c .before .before .before .before .before .before .enum-told .given .1) at (c .before .before .before .before .before .before .before .before .next-piece .ensures) in says-unfinished
     (files (a .n) (a .b) (a .net .now) (a .file .now)) (a .start) (lent (a .rows .now) (a .gained .now) (a .lost .now) (a .head .now)) (a .out .now) (c .before .before .put-line-at .last .0)
     (c .before .before .put-line-at .result) (c .before .before .before .before .before .before .before .before .before .before .before .before .before .before .before .before .pre .1) n
-    (record { bytes = c .before .before .put-line-at .ensures .0; next = c .before .before .put-line-at .ensures .1; short = c .before .before .put-line-at .ensures .2 })
+    (c .before .before .put-line-at .ensures)
 
 returns-4 : tie.Need-returns-4
 returns-4 c = let a = c .before .before .before .before .before .before .before .before .before .before .args in let n = rw (c .enum-told2 .given .1)

@@ -12,10 +12,10 @@ parts-of-requires c κs = search needs
 
 returns : tie.Need-returns
 returns c =
-    let slot = c .before .before .args .slot in
+    let slot = c .before .args .slot in
     let columns = take (listsOf (slot .node) .columns) (slot .columns) in
     let pairs = pairsOf (listsOf (slot .node) .pairs) (slot .pairs) in
-    (c .before .parts-of .ensures .left columns pairs, c .before .parts-of .ensures .right columns pairs)
+    (c .parts-of .ensures .left columns pairs, c .parts-of .ensures .right columns pairs)
 
 pub inputs-of-spec : {M : Type 1} → statement M
 inputs-of-spec = tie.close (tie.spec parts-of-requires returns)

@@ -14,6 +14,8 @@ use Rattle.events.proofs.read_batch.Reads as reads
 use Rattle.events.proofs.read_batch.Lts as lts
 use Rattle.events.proofs.read_event.Reads as read-event-reads
 use Rattle.events.proofs.number_of.Reads as number-of-reads
+use Rattle.verdicts.proofs.accepted.Reads as accepted-reads
+use Rattle.verdicts.proofs.refused.Reads as refused-reads
 use Rattle.model.specs.Batch.{maxEvents}
 
 abbrev Inv-loop : tie.InvT-loop
@@ -39,16 +41,20 @@ enum-known-reading c = search needs
 number-of-requires : tie.Need-number-of-requires Inv-loop μ-loop
 number-of-requires c κs = search needs
 
+refused-requires : tie.Need-refused-requires Inv-loop μ-loop
+refused-requires c κs = search needs
+
 returns : tie.Need-returns Inv-loop μ-loop
 returns c =
-    let s = c .before .before .before .before .before .before .before .before .before .before .before in
+    let s = c .before .before .before .before .before .before .before .before .before .before .before .before in
     let a = s .args in
-    let l = c .before .before .before .before .before .before .before .before .loop in
-    let e = c .before .before .read-event in
+    let l = c .before .before .before .before .before .before .before .before .before .loop in
+    let e = c .before .before .before .read-event in
     let n = reads-number (a .t1) (s .pre) (a .bytes .now) (l .before) (l .at) (e .result) (e .ensures) in
-    ap (λ (k : ℕ). refused k (l .at)) (c .number-of .ensures ∙ n)
-    ∙ left-refused (nodesOf (a .t1)) (a .bytes .now) (l .before) (l .at) (l .inv .3) (c .before .before .before .before .before .before .before .loop-test .taken)
-    (λ z. refused-number (e .result) (c .before .match .keys2) (n ∙ z))
+    c .refused .ensures
+    ∙ ap (λ (k : ℕ). refused k (l .at)) (c .before .number-of .ensures ∙ n)
+    ∙ left-refused (nodesOf (a .t1)) (a .bytes .now) (l .before) (l .at) (l .inv .3) (c .before .before .before .before .before .before .before .before .loop-test .taken)
+    (λ z. refused-number (e .result) (c .before .before .match .keys2) (n ∙ z))
 
 add-before : tie.Need-add-before Inv-loop μ-loop
 add-before c = omega (arith, c .before .before .before .before .before .before .before .before .before .loop .inv .2)
@@ -99,10 +105,14 @@ loop-again c =
           (c .before .before .before .before .before .before .before .before .loop-test .taken) z size-added,
     )
 
+accepted-requires : tie.Need-accepted-requires Inv-loop μ-loop
+accepted-requires c κs = search needs
+
 returns-2 : tie.Need-returns-2 Inv-loop μ-loop
 returns-2 c =
-    let a = c .before .before .before .before .args in
-    left-end (nodesOf (a .t1)) (a .bytes .now) (c .before .loop .before) (c .before .loop .at) (c .before .loop .inv .3) (omega (arith, c .loop-test .left))
+    let a = c .before .before .before .before .before .args in
+    let l = c .before .before .loop in
+    c .accepted .ensures ∙ left-end (nodesOf (a .t1)) (a .bytes .now) (l .before) (l .at) (l .inv .3) (omega (arith, c .before .loop-test .left))
 
 pub read-batch-spec : {M : Type 1} → statement M
 read-batch-spec =
@@ -115,9 +125,11 @@ read-batch-spec =
     read-event-requires
     enum-known-reading
     number-of-requires
+    refused-requires
     returns
     add-before
     add-at
     loop-less
     loop-again
+    accepted-requires
     returns-2)

@@ -12,11 +12,11 @@ use Rattle.model.specs.Row.{Row, insertRow}
 use Rattle.places.specs.Places.{Stands, Stored, insertAll}
 use Rattle.joins.specs.Joins.{joinedRow, JoinFits}
 use Rattle.model.specs.Algebra.{agree}
-use Rattle.model.proofs.Sets.{ascending-holds}
+use Rattle.laws.proofs.Sets.{ascending-holds}
 use Rattle.model.specs.Areas.{placeSize, stride}
 use Rattle.joins.proofs.Joins.{few-given, joined-from, joinedIf, wide-joined}
 use Rattle.joins.proofs.Rows.{joined-length, row-made}
-use Rattle.places.proofs.Puts.{put-exceeds, put-none, put-ready, put-stands, put-start, putFrom}
+use Rattle.places.proofs.Puts.{put-exceeds, put-none, put-ready, put-stands, put-start, putUpTo}
 use Rattle.rows.specs.Rows.{firstRows, rowAt}
 use Rattle.nodes.specs.Nodes.{pairsOf}
 use Rattle.rows.proofs.Words.{wide-rows}
@@ -39,10 +39,10 @@ joined-none : (how : Joining) (l r : Row) → agree (pairsOf (how .p) (how .pair
 joined-none how l r e = rw e
 
 abbrev Inv-loop : tie.InvT-loop
-Inv-loop left i right m out₀ count how rows₀ j₀ out rows j = (j ≤ m) × (length out ≡ placeSize) × Stands (putFrom (joinedIf how (rowAt stride left i)) (firstRows out₀ count) right m j) out rows
+Inv-loop left i right m out₀ count how rows₀ j₀ out rows j = (j ≤ m) × (length out ≡ placeSize) × Stands (putUpTo (joinedIf how (rowAt stride left i)) (firstRows out₀ count) right j) out rows
 
 abbrev μ-loop : tie.MeasureT-loop
-μ-loop left i right m out₀ count how rows₀ j₀ out rows j = j
+μ-loop left i right m out₀ count how rows₀ j₀ out rows j = m - j
 
 loop-holds : tie.Need-loop-holds Inv-loop μ-loop
 loop-holds c = let a = c .before .before .before .args
@@ -54,8 +54,8 @@ loop-holds c = let a = c .before .before .before .args
           (ascending-holds (firstRows (a .out .now) (a .count)) (c .before .before .before .pre .4)) (a .out .now) (a .count) (c .before .before .before .pre .3),
     )
 
-sub-j : tie.Need-sub-j Inv-loop μ-loop
-sub-j c = omega arith
+add-j : tie.Need-add-j Inv-loop μ-loop
+add-j c = omega arith
 
 rows-agree-requires : tie.Need-rows-agree-requires Inv-loop μ-loop
 rows-agree-requires c κs = (
@@ -95,7 +95,7 @@ put-row-requires c κs =
         arith,
         ap length (c .before .before .columns-row .ensures),
         joined-length (a .t5 .split) (take (a .t5 .n) (a .t5 .columns)) (rowAt stride (a .left .now) (a .i))
-            (rowAt stride (a .right .now) (c .before .before .before .before .before .before .before .before .before .before .before .before .loop .j - 1))
+            (rowAt stride (a .right .now) (c .before .before .before .before .before .before .before .before .before .before .before .before .loop .j))
             (few-given (a .t5) (c .before .before .before .before .before .before .before .before .before .before .before .before .before .before .before .before .pre .2)),
       ),
       r .1,
@@ -127,14 +127,14 @@ returns c =
     let base = firstRows (a .out .now) (a .count) in
     let asc = ascending-holds base
     (c .before .before .before .before .before .before .before .before .before .before .before .before .before .before .before .before .before .before .before .before .before .pre .4) in
-    let put = joined-one (a .t5) fits row (rowAt stride (a .right .now) (l .j - 1)) (c .before .before .before .before .before .before .before .columns-row .result)
+    let put = joined-one (a .t5) fits row (rowAt stride (a .right .now) (l .j)) (c .before .before .before .before .before .before .before .columns-row .result)
     (firstRows (l .out) (l .rows)) (p .last .0) (p .result)
     (sym (c .before .before .before .before .before .before .before .before .before .before .before .before .rows-agree .ensures)
     ∙ c .before .before .before .before .before .before .before .before .before .before .before .if1 .taken)
     (c .before .before .before .before .before .before .before .columns-row .ensures) (p .ensures) in
     let over = put-exceeds (joinedIf (a .t5) row) base (a .right .now) (a .m) (wide-joined (a .t5) fits row) (wide-rows stride (a .out .now) 0 (a .count))
     asc (l .j) (l .out) (p .last .0) (l .rows) (p .result)
-    (c .enum-told .given .1) (omega arith) (omega arith) (l .inv .2) put in
+    (c .enum-told .given .1) (omega arith) (l .inv .2) put in
     (rw (← joined-from (a .t5) fits row base (a .right .now) (a .m)) (over .0), over .1)
 
 loop-less : tie.Need-loop-less Inv-loop μ-loop
@@ -151,14 +151,14 @@ loop-again c =
     let base = firstRows (a .out .now) (a .count) in
     let asc = ascending-holds base
     (c .before .before .before .before .before .before .before .before .before .before .before .before .before .before .before .before .before .before .before .before .before .before .pre .4) in
-    let put = joined-one (a .t5) fits row (rowAt stride (a .right .now) (l .j - 1)) (c .before .before .before .before .before .before .before .before .columns-row .result)
+    let put = joined-one (a .t5) fits row (rowAt stride (a .right .now) (l .j)) (c .before .before .before .before .before .before .before .before .columns-row .result)
     (firstRows (l .out) (l .rows)) (p .last .0) (p .result)
     (sym (c .before .before .before .before .before .before .before .before .before .before .before .before .before .rows-agree .ensures)
     ∙ c .before .before .before .before .before .before .before .before .before .before .before .before .if1 .taken)
     (c .before .before .before .before .before .before .before .before .columns-row .ensures) (p .ensures) in
     let s = put-stands (joinedIf (a .t5) row) base (a .right .now) (a .m) (wide-joined (a .t5) fits row) (wide-rows stride (a .out .now) 0 (a .count))
     asc (l .j) (l .out) (p .last .0) (l .rows) (c .before .more .given .0 .0)
-    (p .result) (c .before .more .given .1) (omega arith) (omega arith) (l .inv .2) put in
+    (p .result) (c .before .more .given .1) (l .inv .2) put in
     (omega arith, s .0, s .1)
 
 loop-less-2 : tie.Need-loop-less-2 Inv-loop μ-loop
@@ -167,7 +167,7 @@ loop-less-2 c = omega arith
 loop-again-2 : tie.Need-loop-again-2 Inv-loop μ-loop
 loop-again-2 c =
     let a = c .before .before .before .before .before .before .before .before .before .before .args in
-    let none = joined-none (a .t5) (rowAt stride (a .left .now) (a .i)) (rowAt stride (a .right .now) (c .before .before .before .before .before .before .loop .j - 1))
+    let none = joined-none (a .t5) (rowAt stride (a .left .now) (a .i)) (rowAt stride (a .right .now) (c .before .before .before .before .before .before .loop .j))
     (sym (c .before .rows-agree .ensures) ∙ c .if1 .left) in (
       omega arith,
       c .before .before .before .before .before .before .loop .inv .1,
@@ -176,7 +176,7 @@ loop-again-2 c =
           (wide-rows stride (a .out .now) 0 (a .count))
           (ascending-holds (firstRows (a .out .now) (a .count)) (c .before .before .before .before .before .before .before .before .before .before .pre .4))
           (c .before .before .before .before .before .before .loop .j) (c .before .before .before .before .before .before .loop .out)
-          (c .before .before .before .before .before .before .loop .rows) (omega arith) (omega arith) none (c .before .before .before .before .before .before .loop .inv .2),
+          (c .before .before .before .before .before .before .loop .rows) none (c .before .before .before .before .before .before .loop .inv .2),
     )
 
 same-length-2 : tie.Need-same-length-2 Inv-loop μ-loop
@@ -185,8 +185,8 @@ same-length-2 c = omega (arith, c .before .before .before .before .before .pre .
 returns-2 : tie.Need-returns-2 Inv-loop μ-loop
 returns-2 c =
     let a = c .before .before .before .before .before .args in
-    let e : c .before .loop .j ≡ 0 = omega arith in
-    let s = ap (λ (k : ℕ). putFrom (joinedIf (a .t5) (rowAt stride (a .left .now) (a .i))) (firstRows (a .out .now) (a .count)) (a .right .now) (a .m) k) e
+    let e : c .before .loop .j ≡ a .m = omega arith in
+    let s = ap (λ (k : ℕ). putUpTo (joinedIf (a .t5) (rowAt stride (a .left .now) (a .i))) (firstRows (a .out .now) (a .count)) (a .right .now) k) e
     ∙ joined-from (a .t5) (c .before .before .before .before .before .pre .2) (rowAt stride (a .left .now) (a .i)) (firstRows (a .out .now) (a .count)) (a .right .now) (a .m) in
     rw (← s) (c .before .loop .inv .2)
 
@@ -197,7 +197,7 @@ join-row-spec =
     Inv-loop
     μ-loop
     loop-holds
-    sub-j
+    add-j
     rows-agree-requires
     columns-row-requires
     slice-aggregate-put-row

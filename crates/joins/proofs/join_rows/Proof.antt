@@ -1,121 +1,137 @@
-use mathlib.Core.List.{[]}
-use mathlib.Core.Path.{ap, _∙_, _≡_}
-use Prim.Native.Nat.{_-_, ℕ, _≤_}
+use mathlib.Core.List.{List}
+use mathlib.Core.Path.{refl, ap, _∙_}
 use native.Mathlib.Omega.{arith}
-use lib.ListN.{length, length-replicate, take}
+use lib.Seq.{take-all}
+use Rattle.model.specs.Areas.{stride}
+use Rattle.rows.specs.Rows.{firstRows}
+use Rattle.joins.specs.Joins.{joinedRows}
+use Rattle.model.specs.Row.{Row}
+use Rattle.joins.proofs.Joins.{join-makes}
+use Rattle.joins.proofs.Masks.{left-masked, masked-long, masked-rows}
 use borrow.Author.Needs.{needs}
 use Rattle.joins.proofs.join_rows.Statement.{statement}
-use Rattle.places.specs.Places.{Stands, relationIn}
-use Rattle.joins.specs.Joins.{joinedWith}
-use Rattle.joins.proofs.Joins.{few-given, join-is, join-wide, wide-with}
-use Rattle.places.proofs.Puts.{model-exceeds, model-fills, put-exceeds, put-ready, put-stands, put-start, putFrom, stands-none}
-use Rattle.rows.specs.Rows.{firstRows}
-use Rattle.model.specs.Algebra.{joinRows}
-use Rattle.model.specs.Areas.{placeSize, stride}
-use Rattle.nodes.specs.Nodes.{pairsOf}
-use Rattle.rows.proofs.Words.{wide-rows}
 use Rattle.joins.proofs.join_rows.Tie as tie
 use Rattle.joins.proofs.join_rows.Reads as reads
 use Rattle.joins.proofs.join_rows.Lts as lts
-use Rattle.joins.proofs.join_row.Reads as join-row-reads
+use Rattle.joins.proofs.leaves_rows.Reads as leaves-rows-reads
+use Rattle.joins.proofs.join_masked.Reads as join-masked-reads
+use Rattle.joins.proofs.mask_rows.Reads as mask-rows-reads
+use Rattle.joins.proofs.used_columns.Reads as used-columns-reads
 
-abbrev Inv-loop : tie.InvT-loop
-Inv-loop left n right m how out₀ count₀ i₀ out count i = (i ≤ n) × (length out ≡ placeSize) × Stands (putFrom (joinedWith how (firstRows right m)) [] left n i) out count
+join-masked-requires : tie.Need-join-masked-requires
+join-masked-requires c κs = search needs
 
-abbrev μ-loop : tie.MeasureT-loop
-μ-loop left n right m how out₀ count₀ i₀ out count i = i
+same-length : tie.Need-same-length
+same-length c = search needs
 
-loop-holds : tie.Need-loop-holds Inv-loop μ-loop
-loop-holds c = let a = c .before .before .before .args
-    in (
-      omega arith,
-      ap length (c .before .before .before .pre .3) ∙ length-replicate {A = ℕ} placeSize 0,
-      put-start (joinedWith (a .how) (firstRows (a .right .now) (a .m))) [] (a .left .now)
-          (a .n) (λ l e. wide-with (a .how) (c .before .before .before .pre .2) (firstRows (a .right .now) (a .m)) l e (wide-rows stride (a .right .now) 0 (a .m))) tt tt (a .out .now) 0
-          (stands-none (a .out .now) (c .before .before .before .pre .3)),
-    )
+returns : tie.Need-returns
+returns c = let start = c .before .before .before .before .before .before .before .before in
+    let a = start .args in
+    let p = c .before .before .join-masked in
+    λ w pl pr inside. join-makes (a .how) w (a .left .now) (a .n) (a .right .now) (a .m) pl pr inside (start .pre .2) (p .last .1 .1 .1 .1 .1 .0) (p .result) (p .ensures)
 
-sub-i : tie.Need-sub-i Inv-loop μ-loop
-sub-i c = omega arith
+used-columns-requires : tie.Need-used-columns-requires
+used-columns-requires c κs = search needs
 
-join-row-requires : tie.Need-join-row-requires Inv-loop μ-loop
-join-row-requires c κs =
-    let a = c .before .before .before .before .before .before .args in
-    let r = put-ready (joinedWith (a .how) (firstRows (a .right .now) (a .m))) [] (a .left .now) (a .n)
-    (λ l e. wide-with (a .how) (c .before .before .before .before .before .before .pre .2) (firstRows (a .right .now) (a .m)) l e (wide-rows stride (a .right .now) 0 (a .m))) tt tt
-    (c .before .before .loop .i) (c .before .before .loop .out) (c .before .before .loop .count) (c .before .before .loop .inv .2) in
-    (omega arith, c .before .before .before .before .before .before .pre .1, c .before .before .before .before .before .before .pre .2, r .0, r .1, c .before .before .loop .inv .1)
+leaves-rows-requires : tie.Need-leaves-rows-requires
+leaves-rows-requires c κs = search needs
 
-enum-known-more : tie.Need-enum-known-more Inv-loop μ-loop
-enum-known-more c = search needs
+join-masked-requires-2 : tie.Need-join-masked-requires-2
+join-masked-requires-2 c κs = search needs
 
-enum-told : tie.Need-enum-told Inv-loop μ-loop
+same-length-2 : tie.Need-same-length-2
+same-length-2 c = search needs
+
+returns-2 : tie.Need-returns-2
+returns-2 c = let start = c .before .before .before .before .before .before .before .before .before .before .before .before in
+    let a = start .args in
+    let p = c .before .before .join-masked2 in
+    λ w pl pr inside. join-makes (a .how) w (a .left .now) (a .n) (a .right .now) (a .m) pl pr inside (start .pre .2) (p .last .1 .1 .1 .1 .1 .0) (p .result) (p .ensures)
+
+slice-aggregate-mask-rows : tie.Need-slice-aggregate-mask-rows
+slice-aggregate-mask-rows c = search needs
+
+slice-aggregate-mask-rows-2 : tie.Need-slice-aggregate-mask-rows-2
+slice-aggregate-mask-rows-2 c = search needs
+
+mask-rows-requires : tie.Need-mask-rows-requires
+mask-rows-requires c κs = let u = c .before .before .before .before .before .used-columns .ensures in (
+  c .before .before .before .before .before .before .before .before .before .before .pre .0,
+  omega arith,
+  omega (arith, u .mask .size),
+  rw (take-all stride (c .before .before .before .before .before .used-columns .result) (omega (arith, u .mask .size))) (u .mask .below),
+  refl,
+)
+
+enum-known-k : tie.Need-enum-known-k
+enum-known-k c = search needs
+
+enum-told : tie.Need-enum-told
 enum-told c = search needs
 
-same-length : tie.Need-same-length Inv-loop μ-loop
-same-length c =
-    let full = rw (c .enum-told .given .1) at (c .before .before .before .before .join-row .ensures) in
-    omega (arith, full .1, ap length (c .before .before .before .before .before .before .before .before .before .before .before .pre .3))
+join-masked-requires-3 : tie.Need-join-masked-requires-3
+join-masked-requires-3 c κs = search needs
 
-returns : tie.Need-returns Inv-loop μ-loop
-returns c =
-    let a = c .before .before .before .before .before .before .before .before .before .before .before .args in
-    let l = c .before .before .before .before .before .before .before .loop in
-    let p = c .before .before .before .before .join-row in
+same-length-3 : tie.Need-same-length-3
+same-length-3 c = search needs
+
+returns-3 : tie.Need-returns-3
+returns-3 c = let start = c .before .before .before .before .before .before .before .before .before .before .before .before .before .before .before .before .before .before in
+    let a = start .args in
+    let p = c .before .before .join-masked3 in
+    λ w pl pr inside. join-makes (a .how) w (a .left .now) (a .n) (a .right .now) (a .m) pl pr inside (start .pre .2) (p .last .1 .1 .1 .1 .1 .0) (p .result) (p .ensures)
+
+slice-aggregate-join-masked : tie.Need-slice-aggregate-join-masked
+slice-aggregate-join-masked c = search needs
+
+join-masked-requires-4 : tie.Need-join-masked-requires-4
+join-masked-requires-4 c κs =
+    let start = c .before .before .before .before .before .before .before .before .before .before .before .before .before .before .before .before .before in
+    let a = start .args in
+    let q = c .before .before .before .before .before .before .mask-rows in
+    let u = c .before .before .before .before .before .before .before .before .before .before .before .before .used-columns in
+    let st = rw (c .before .before .before .k .given .1) at (q .ensures) in
+    (masked-long (u .result) (u .ensures .mask) (a .left .now) (a .n) (q .last .1 .1 .1 .1 .0) (c .before .before .before .k .given .0 .0) st, start .pre .1, start .pre .2, start .pre .3)
+
+same-length-4 : tie.Need-same-length-4
+same-length-4 c = search needs
+
+returns-4 : tie.Need-returns-4
+returns-4 c =
+    let start = c .before .before .before .before .before .before .before .before .before .before .before .before .before .before .before .before .before .before .before .before in
+    let a = start .args in
+    let q = c .before .before .before .before .before .before .before .before .before .mask-rows in
+    let u = c .before .before .before .before .before .before .before .before .before .before .before .before .before .before .before .used-columns in
+    let k = c .before .before .before .before .before .before .k .given in
+    let p = c .before .before .join-masked4 in
+    let left = firstRows (a .left .now) (a .n) in
     let right = firstRows (a .right .now) (a .m) in
-    let fits = c .before .before .before .before .before .before .before .before .before .before .before .pre .2 in
-    let over = put-exceeds (joinedWith (a .how) right) [] (a .left .now) (a .n) (λ x e. wide-with (a .how) fits right x e (wide-rows stride (a .right .now) 0 (a .m))) tt tt (l .i) (l .out)
-    (p .last .1 .1 .1 .1 .1 .0) (l .count) (p .result) (c .enum-told .given .1) (omega arith) (omega arith) (l .inv .2) (p .ensures) in
-    λ w pl pr inside. (
-      model-exceeds (putFrom (joinedWith (a .how) right) [] (a .left .now) (a .n) 0)
-          (joinRows (pairsOf (a .how .p) (a .how .pairs)) (take (a .how .n) (a .how .columns)) (relationIn (a .how .split) (a .left .now) (a .n)) (relationIn w (a .right .now) (a .m)))
-          (length (take (a .how .n) (a .how .columns))) (few-given (a .how) fits) (join-wide (a .how) w (a .left .now) (a .n) (a .right .now) (a .m) pl pr inside)
-          (join-is (a .how) w (a .left .now) (a .n) (a .right .now) (a .m) pl pr inside) (over .0),
-      over .1,
-    )
-
-loop-less : tie.Need-loop-less Inv-loop μ-loop
-loop-less c = omega arith
-
-loop-again : tie.Need-loop-again Inv-loop μ-loop
-loop-again c =
-    let a = c .before .before .before .before .before .before .before .before .before .before .before .before .args in
-    let l = c .before .before .before .before .before .before .before .before .loop in
-    let p = c .before .before .before .before .before .join-row in
-    let right = firstRows (a .right .now) (a .m) in
-    let fits = c .before .before .before .before .before .before .before .before .before .before .before .before .pre .2 in
-    let s = put-stands (joinedWith (a .how) right) [] (a .left .now) (a .n) (λ x e. wide-with (a .how) fits right x e (wide-rows stride (a .right .now) 0 (a .m))) tt tt (l .i) (l .out)
-    (p .last .1 .1 .1 .1 .1 .0) (l .count) (c .before .more .given .0 .0) (p .result) (c .before .more .given .1) (omega arith) (omega arith) (l .inv .2) (p .ensures) in
-    (omega arith, s .0, s .1)
-
-same-length-2 : tie.Need-same-length-2 Inv-loop μ-loop
-same-length-2 c = omega (arith, ap length (c .before .before .before .before .before .pre .3))
-
-returns-2 : tie.Need-returns-2 Inv-loop μ-loop
-returns-2 c =
-    let a = c .before .before .before .before .before .args in
-    let e : c .before .loop .i ≡ 0 = omega arith in
-    let s = rw e at (c .before .loop .inv .2) in
-    λ w pl pr inside. model-fills (putFrom (joinedWith (a .how) (firstRows (a .right .now) (a .m))) [] (a .left .now) (a .n) 0)
-    (joinRows (pairsOf (a .how .p) (a .how .pairs)) (take (a .how .n) (a .how .columns)) (relationIn (a .how .split) (a .left .now) (a .n)) (relationIn w (a .right .now) (a .m)))
-    (length (take (a .how .n) (a .how .columns))) (few-given (a .how) (c .before .before .before .before .before .pre .2))
-    (join-wide (a .how) w (a .left .now) (a .n) (a .right .now) (a .m) pl pr inside) (join-is (a .how) w (a .left .now) (a .n) (a .right .now) (a .m) pl pr inside) (c .before .loop .out)
-    (c .before .loop .count) s
+    let st = rw (k .1) at (q .ensures) in
+    let same = ap (λ (l : List Row). joinedRows (a .how) l right) (masked-rows (u .result) (u .ensures .mask) (a .left .now) (a .n) (q .last .1 .1 .1 .1 .0) (k .0 .0) st)
+    ∙ left-masked (a .how) (start .pre .2) (u .result) (u .ensures) left right in
+    λ w pl pr inside. join-makes (a .how) w (a .left .now) (a .n) (a .right .now) (a .m) pl pr inside (start .pre .2) (p .last .1 .1 .1 .1 .1 .0) (p .result) (rw (← same) (p .ensures))
 
 pub join-rows-spec : {M : Type 1} → statement M
 join-rows-spec =
     tie.close
     (tie.spec
-    Inv-loop
-    μ-loop
-    loop-holds
-    sub-i
-    join-row-requires
-    enum-known-more
-    enum-told
+    join-masked-requires
     same-length
     returns
-    loop-less
-    loop-again
+    used-columns-requires
+    leaves-rows-requires
+    join-masked-requires-2
     same-length-2
-    returns-2)
+    returns-2
+    slice-aggregate-mask-rows
+    slice-aggregate-mask-rows-2
+    mask-rows-requires
+    enum-known-k
+    enum-told
+    join-masked-requires-3
+    same-length-3
+    returns-3
+    slice-aggregate-join-masked
+    join-masked-requires-4
+    same-length-4
+    returns-4)

@@ -13,7 +13,9 @@ same-length : tie.Need-same-length
 same-length c = search needs
 
 returns : tie.Need-returns
-returns c = let e = c .before .before .put-line-at .ensures in (e .0, omega (arith, e .1), omega (arith, e .2, c .before .before .before .before .before .before .before .pre))
+returns c =
+    let e = c .before .before .put-line-at .ensures in
+    record { bytes = e .bytes; next = e .next; short = omega (arith, e .short, c .before .before .before .before .before .before .before .pre) }
 
 pub put-line-spec : {M : Type 1} → statement M
 put-line-spec = tie.close (tie.spec put-line-at-requires same-length returns)

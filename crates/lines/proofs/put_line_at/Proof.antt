@@ -9,7 +9,7 @@ use Rattle.lines.proofs.put_line_at.Statement.{statement}
 use Rattle.lines.proofs.Digits.{line-is}
 use Rattle.model.specs.Text.{newline}
 use Rattle.lines.specs.Numbers.{numbersText}
-use Rattle.model.proofs.Parts.{sets-more}
+use Rattle.laws.proofs.Parts.{sets-more}
 use Rattle.lines.proofs.put_line_at.Tie as tie
 use Rattle.lines.proofs.put_line_at.Reads as reads
 use Rattle.lines.proofs.put_line_at.Lts as lts
@@ -26,9 +26,9 @@ put-numbers-requires c κs = let a = c .before .before .before .before .before .
 slice-write-out : tie.Need-slice-write-out
 slice-write-out c = let a = c .before .before .before .before .before .before .before .before .before .before .before .args in omega (
   arith,
-  c .before .before .put-numbers .ensures .2,
+  c .before .before .put-numbers .ensures .short,
   c .before .before .before .before .before .before .put-bytes .ensures .1,
-  ap length (c .before .before .put-numbers .ensures .0),
+  ap length (c .before .before .put-numbers .ensures .bytes),
   length-sets (c .before .before .before .before .before .before .put-bytes .last .0) (c .before .before .before .before .before .before .put-bytes .result)
       (numbersText (a .numbers .now)),
   ap length (c .before .before .before .before .before .before .put-bytes .ensures .0),
@@ -37,12 +37,12 @@ slice-write-out c = let a = c .before .before .before .before .before .before .b
 
 add-result : tie.Need-add-result
 add-result c = let a = c .before .before .before .before .before .before .before .before .before .before .before .args in omega
-    (arith, c .before .before .put-numbers .ensures .2, c .before .before .before .before .before .before .put-bytes .ensures .1)
+    (arith, c .before .before .put-numbers .ensures .short, c .before .before .before .before .before .before .put-bytes .ensures .1)
 
 same-length : tie.Need-same-length
 same-length c = let a = c .before .before .before .before .before .before .before .before .before .before .before .args in omega (
   arith,
-  ap length (c .before .before .put-numbers .ensures .0),
+  ap length (c .before .before .put-numbers .ensures .bytes),
   length-sets (c .before .before .before .before .before .before .put-bytes .last .0)
       (c .before .before .before .before .before .before .put-bytes .result) (numbersText (a .numbers .now)),
   ap length (c .before .before .before .before .before .before .put-bytes .ensures .0),
@@ -56,20 +56,20 @@ returns c =
     let two = sets-more (a .out .now) (c .before .before .before .before .before .before .put-bytes .last .0) (c .before .before .put-numbers .last .0) (a .at)
     (c .before .before .before .before .before .before .put-bytes .result) (a .word .now) (numbersText (a .numbers .now))
     (c .before .before .before .before .before .before .put-bytes .ensures .0) (c .before .before .before .before .before .before .put-bytes .ensures .1)
-    (c .before .before .put-numbers .ensures .0) in
+    (c .before .before .put-numbers .ensures .bytes) in
     let end : c .before .before .put-numbers .result ≡ a .at + length (a .word .now ++ numbersText (a .numbers .now)) = omega (
       arith,
-      c .before .before .put-numbers .ensures .1,
+      c .before .before .put-numbers .ensures .next,
       c .before .before .before .before .before .before .put-bytes .ensures .1,
       length-append (a .word .now) (numbersText (a .numbers .now)),
     ) in
     let three = sets-more (a .out .now) (c .before .before .put-numbers .last .0) (set (c .before .before .put-numbers .last .0) (c .before .before .put-numbers .result) 10) (a .at)
     (c .before .before .put-numbers .result) (a .word .now ++ numbersText (a .numbers .now)) (newline ∷ []) two end refl in
-    let same = line-is (a .word .now) (a .numbers .now) in (
-      three ∙ ap (sets (a .out .now) (a .at)) same,
-      omega (arith, end, ap length same, length-append (a .word .now ++ numbersText (a .numbers .now)) (newline ∷ [])),
-      omega (arith, c .before .before .put-numbers .ensures .2, c .before .before .before .before .before .before .put-bytes .ensures .1),
-    )
+    let same = line-is (a .word .now) (a .numbers .now) in record {
+      bytes = three ∙ ap (sets (a .out .now) (a .at)) same;
+      next = omega (arith, end, ap length same, length-append (a .word .now ++ numbersText (a .numbers .now)) (newline ∷ []));
+      short = omega (arith, c .before .before .put-numbers .ensures .short, c .before .before .before .before .before .before .put-bytes .ensures .1);
+    }
 
 pub put-line-at-spec : {M : Type 1} → statement M
 put-line-at-spec =

@@ -8,7 +8,7 @@ use Rattle.lines.proofs.put_numbers.Statement.{statement}
 use Rattle.model.specs.Text.{decimal, space}
 use Rattle.lines.proofs.Digits.{numbers-end, numbers-none, numbers-step}
 use Rattle.lines.specs.Numbers.{numbersText}
-use Rattle.model.proofs.Parts.{sets-more}
+use Rattle.laws.proofs.Parts.{sets-more}
 use Rattle.lines.proofs.put_numbers.Tie as tie
 use Rattle.lines.proofs.put_numbers.Reads as reads
 use Rattle.lines.proofs.put_numbers.Lts as lts
@@ -59,18 +59,18 @@ loop-again c =
     (numbersText (take (c .before .before .before .before .before .before .loop .k) (a .numbers .now))) (c .before .before .before .before .before .before .loop .inv .4) in
     let two = sets-more (a .out .now) (set (c .before .before .before .before .before .before .loop .out) (c .before .before .before .before .before .before .loop .to) 32)
     (c .before .before .put-number .last .0) (a .at) (c .before .before .before .before .before .before .loop .to + 1)
-    ((numbersText (take (c .before .before .before .before .before .before .loop .k) (a .numbers .now))) ++ (space ∷ [])) (decimal x) one end (c .before .before .put-number .ensures .0) in
+    ((numbersText (take (c .before .before .before .before .before .before .loop .k) (a .numbers .now))) ++ (space ∷ [])) (decimal x) one end (c .before .before .put-number .ensures .bytes) in
     let same = numbers-step (a .numbers .now) (c .before .before .before .before .before .before .loop .k) (omega arith) in (
       omega arith,
       c .before .before .before .before .before .before .loop .inv .1,
-      ap length (c .before .before .put-number .ensures .0)
+      ap length (c .before .before .put-number .ensures .bytes)
           ∙ length-sets (set (c .before .before .before .before .before .before .loop .out) (c .before .before .before .before .before .before .loop .to) 32)
           (c .before .before .before .before .before .before .loop .to + 1) (decimal x) ∙ length-set (c .before .before .before .before .before .before .loop .out)
           (c .before .before .before .before .before .before .loop .to) 32 ∙ c .before .before .before .before .before .before .loop .inv .2,
-      omega (arith, c .before .before .put-number .ensures .2, c .before .before .before .before .before .before .loop .inv .3),
+      omega (arith, c .before .before .put-number .ensures .short, c .before .before .before .before .before .before .loop .inv .3),
       omega (
         arith,
-        c .before .before .put-number .ensures .1,
+        c .before .before .put-number .ensures .next,
         end,
         ap length same,
         length-append ((numbersText (take (c .before .before .before .before .before .before .loop .k) (a .numbers .now))) ++ (space ∷ [])) (decimal x),
@@ -86,11 +86,11 @@ returns : tie.Need-returns Inv-loop μ-loop
 returns c =
     let a = c .before .before .before .before .args in
     let all : take (c .before .loop .k) (a .numbers .now) ≡ a .numbers .now = take-all (c .before .loop .k) (a .numbers .now) (omega arith) in
-    let k : c .before .loop .k ≡ length (a .numbers .now) = omega arith in (
-      c .before .loop .inv .5 ∙ ap (λ (l : List ℕ). sets (a .out .now) (a .at) (numbersText l)) all,
-      c .before .loop .inv .4 ∙ ap (λ (l : List ℕ). a .at + length (numbersText l)) all,
-      omega (arith, c .before .loop .inv .3),
-    )
+    let k : c .before .loop .k ≡ length (a .numbers .now) = omega arith in record {
+      bytes = c .before .loop .inv .5 ∙ ap (λ (l : List ℕ). sets (a .out .now) (a .at) (numbersText l)) all;
+      next = c .before .loop .inv .4 ∙ ap (λ (l : List ℕ). a .at + length (numbersText l)) all;
+      short = omega (arith, c .before .loop .inv .3);
+    }
 
 pub put-numbers-spec : {M : Type 1} → statement M
 put-numbers-spec =

@@ -3,6 +3,7 @@ use mathlib.Core.Path.{sym, ap, _∙_}
 use Prim.Native.Nat.{ℕ, _-_, _+_}
 use lib.ListN.{length}
 use Rattle.nodes.specs.Nodes.{numberOf}
+use Rattle.network.specs.Reading.{networkOf}
 use Rattle.network.proofs.Building.{as-item, extends-node, extends-watch, fits-inputs, next-slot}
 use Rattle.network.proofs.ReadAll.{Reached, reached-start, reached-refused, reached-whole, reached-next, reached-end, reached-empty, follows}
 use native.Mathlib.Omega.{arith}
@@ -10,6 +11,7 @@ use borrow.Author.Needs.{needs}
 use Rattle.network.proofs.read_network.Tie as tie
 use Rattle.network.proofs.read_network.Reads as reads
 use Rattle.network.proofs.read_network.Lts as lts
+use Rattle.verdicts.proofs.accepted.Reads as accepted-reads
 use Rattle.network.proofs.level_of.Reads as level-of-reads
 use Rattle.network.proofs.no_network.Reads as no-network-reads
 use Rattle.network.proofs.refused_reading.Reads as refused-reading-reads
@@ -372,12 +374,17 @@ loop-again-2 c = let a = c .before .before .before .before .before .before .befo
     (ap (λ (n : ℕ). c .before .before .before .before .before .before .before .before .before .before .before .before .before .before .loop .at + n)
     (c .before .before .before .u16-at .ensures .is))
 
+accepted-requires : tie.Need-accepted-requires Inv-loop μ-loop
+accepted-requires c κs = search needs
+
 returns-3 : tie.Need-returns-3 Inv-loop μ-loop
-returns-3 c = record {
-  is = reached-end (c .before .before .before .before .before .args .bytes .now) (c .before .loop .net) (c .before .loop .at) (c .before .loop .inv)
-      (c .loop-test .left);
-  built = c .before .loop .inv .built;
-}
+returns-3 c =
+    let l = c .before .before .loop in
+    record {
+      is = (λ i. record { verdict = c .accepted .ensures i; network = networkOf (l .net) })
+          ∙ reached-end (c .before .before .before .before .before .before .args .bytes .now) (l .net) (l .at) (l .inv) (c .before .loop-test .left);
+      built = l .inv .built;
+    }
 
 pub read-network-spec : {M : Type 1} → statement M
 read-network-spec =
@@ -415,4 +422,5 @@ read-network-spec =
     element-write-net-3
     loop-less-2
     loop-again-2
+    accepted-requires
     returns-3)

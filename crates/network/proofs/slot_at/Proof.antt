@@ -13,24 +13,30 @@ parts-of-requires : tie.Need-parts-of-requires
 parts-of-requires c κs = search needs
 
 pairs-of-requires : tie.Need-pairs-of-requires
-pairs-of-requires c κs = let f = c .before .before .before .pre in rw (c .before .parts-of .ensures .lists) (f .pairs-inside, f .few-pairs)
+pairs-of-requires c κs = let f = c .before .before .pre in rw (c .parts-of .ensures .pairs) (f .pairs-inside, f .few-pairs)
 
 mul-columns-of : tie.Need-mul-columns-of
-mul-columns-of c = let f = rw (← c .before .before .before .parts-of .ensures .lists) at (c .before .before .before .before .before .pre) in omega (arith, f .few-pairs)
+mul-columns-of c = omega (arith, c .before .before .before .before .pre .few-pairs, c .before .before .parts-of .ensures .pairs)
 
 add-columns-of : tie.Need-add-columns-of
-add-columns-of c = let f = rw (← c .before .before .before .before .parts-of .ensures .lists) at (c .before .before .before .before .before .before .pre) in omega (arith, f .few-pairs, f .near)
+add-columns-of c =
+    let f = c .before .before .before .before .before .pre in
+    let are = c .before .before .before .parts-of .ensures in
+    omega (arith, f .few-pairs, f .near, are .pairs, are .from)
 
 columns-of-requires : tie.Need-columns-of-requires
-columns-of-requires c κs = let f = c .before .before .before .before .before .before .pre in rw (c .before .before .before .before .parts-of .ensures .lists) (f .columns-inside, f .few-columns)
+columns-of-requires c κs =
+    let f = c .before .before .before .before .before .pre in
+    let are = c .before .before .before .parts-of .ensures in
+    rw (are .pairs, are .columns, are .from) (f .columns-inside, f .few-columns)
 
 returns : tie.Need-returns
 returns c =
-    let s = c .before .before .before .before .before .before .before in
+    let s = c .before .before .before .before .before .before in
     let a = s .args in
-    let e = c .before .before .before .before .before .parts-of .ensures .lists in
-    slot-is (a .node) (a .bytes .now) (a .at) (c .columns-of .result) (c .before .before .before .pairs-of .result) (s .pre) (rw e at (c .columns-of .ensures))
-    (rw e at (c .before .before .before .pairs-of .ensures))
+    let are = c .before .before .before .before .parts-of .ensures in
+    slot-is (a .node) (a .bytes .now) (a .at) (c .columns-of .result) (c .before .before .before .pairs-of .result) (s .pre)
+    (rw (are .pairs, are .columns, are .from) at (c .columns-of .ensures)) (rw (are .pairs) at (c .before .before .before .pairs-of .ensures))
 
 pub slot-at-spec : {M : Type 1} → statement M
 slot-at-spec =

@@ -11,17 +11,17 @@ parts-of-requires : tie.Need-parts-of-requires
 parts-of-requires c κs = search needs
 
 mul-result : tie.Need-mul-result
-mul-result c = let p = c .before .before .before .before .before .pre in omega (arith, c .before .before .before .parts-of .ensures .left (p .0) (p .1), p .2)
+mul-result c = let p = c .before .before .before .pre in omega (arith, c .before .parts-of .ensures .left (p .0) (p .1), p .2)
 
 shared-slice-read-result : tie.Need-shared-slice-read-result
-shared-slice-read-result c = let p = c .before .before .before .before .before .before .pre in omega (arith, c .before .before .before .before .parts-of .ensures .left (p .0) (p .1), p .2)
+shared-slice-read-result c = let p = c .before .before .before .before .pre in omega (arith, c .before .before .parts-of .ensures .left (p .0) (p .1), p .2)
 
 returns : tie.Need-returns
-returns c = let a = c .before .before .before .before .before .before .args in width-first (a .node) (c .before .before .before .before .parts-of .result)
-    (c .before .before .before .before .parts-of .ensures) (a .widths .now) (c .before .before .if1 .taken)
+returns c = let a = c .before .before .before .before .args in width-first (a .node) (c .before .before .parts-of .result)
+    (c .before .before .parts-of .ensures) (a .widths .now) (c .before .if1 .taken)
 
 returns-2 : tie.Need-returns-2
-returns-2 c = let a = c .before .before .before .before .args in width-own (a .node) (c .before .before .parts-of .result) (c .before .before .parts-of .ensures) (a .widths .now) (c .if1 .left)
+returns-2 c = let a = c .before .before .before .args in width-own (a .node) (c .before .parts-of .result) (c .before .parts-of .ensures) (a .widths .now) (c .if1 .left)
 
 pub width-of-spec : {M : Type 1} → statement M
 width-of-spec =

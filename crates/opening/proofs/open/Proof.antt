@@ -1,6 +1,7 @@
-use mathlib.Core.Path.{sym, _∙_}
+use mathlib.Core.Path.{ap, sym, _∙_}
 use borrow.Author.Needs.{needs}
 use borrow.Author.Tests.{not-false}
+use Rattle.model.specs.Record.{Verdict}
 use Rattle.areas.specs.Lent.{lent}
 use Rattle.opening.proofs.Opening.{open-cleared, open-refused, open-short}
 use Rattle.opening.proofs.open.Statement.{statement}
@@ -10,9 +11,13 @@ use Rattle.opening.proofs.open.Lts as lts
 use Rattle.areas.proofs.long_enough.Reads as long-enough-reads
 use Rattle.opening.proofs.clear.Reads as clear-reads
 use Rattle.network.proofs.read_network.Reads as read-network-reads
+use Rattle.verdicts.proofs.refused.Reads as refused-reads
 
 long-enough-requires : tie.Need-long-enough-requires
 long-enough-requires c κs = search needs
+
+refused-requires : tie.Need-refused-requires
+refused-requires c κs = search needs
 
 same-length : tie.Need-same-length
 same-length c = search needs
@@ -28,9 +33,11 @@ same-length-4 c = search needs
 
 returns : tie.Need-returns
 returns c =
-    let long = c .before in
+    let long = c .before .before in
     let a = long .before .before .before .before .before .before .before .before .before .before .args in
-    open-short (a .net .now) (lent (a .rows .now) (a .gained .now) (a .lost .now) (a .head .now)) (long .long-enough .result) (long .long-enough .ensures) (c .if1 .taken)
+    let areas = lent (a .rows .now) (a .gained .now) (a .lost .now) (a .head .now) in
+    ap (λ (v : Verdict). record { verdict = v; areas = areas }) (c .refused .ensures)
+    ∙ open-short (a .net .now) areas (long .long-enough .result) (long .long-enough .ensures) (c .before .if1 .taken)
 
 read-network-requires : tie.Need-read-network-requires
 read-network-requires c κs = search needs
@@ -88,6 +95,7 @@ open-spec =
     tie.close
     (tie.spec
     long-enough-requires
+    refused-requires
     same-length
     same-length-2
     same-length-3

@@ -1,7 +1,7 @@
 use borrow.Author.Needs.{needs}
 use Rattle.packing.proofs.write_answer.Statement.{statement}
 use Rattle.packing.proofs.Packed.{count-word, words-written}
-use Rattle.network.specs.Reading.{answerOf}
+use Rattle.reader.specs.Answer.{answerOf}
 use Rattle.packing.proofs.write_answer.Tie as tie
 use Rattle.packing.proofs.write_answer.Reads as reads
 use Rattle.packing.proofs.write_answer.Lts as lts

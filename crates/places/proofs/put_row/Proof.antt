@@ -2,17 +2,17 @@ use mathlib.Core.Path.{ap, _∙_}
 use native.Mathlib.Omega.{arith}
 use lib.ListN.{length}
 use borrow.Author.Needs.{needs}
-use Rattle.model.proofs.Sets.{ascending-holds}
+use Rattle.laws.proofs.Sets.{ascending-holds}
 use Rattle.model.specs.Row.{maxRows}
 use Rattle.model.specs.Areas.{placeSize, stride}
 use Rattle.rows.specs.Rows.{rowAt, firstRows}
 use Rattle.rows.proofs.Words.{length-row, wide-rows}
-use Rattle.rows.proofs.Stand.{put-new, put-present, put-full}
+use Rattle.insertions.proofs.Stand.{put-new, put-present, put-full}
 use Rattle.places.proofs.put_row.Statement.{statement}
 use Rattle.places.proofs.put_row.Tie as tie
 use Rattle.places.proofs.put_row.Reads as reads
 use Rattle.places.proofs.put_row.Lts as lts
-use Rattle.rows.proofs.insert.Reads as insert-reads
+use Rattle.insertions.proofs.insert.Reads as insert-reads
 
 insert-requires : tie.Need-insert-requires
 insert-requires c κs = (c .before .before .before .pre .0 .few, omega (arith, c .before .before .before .pre .3), c .before .before .before .pre .1, c .before .before .before .pre .2)

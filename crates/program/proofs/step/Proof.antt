@@ -6,7 +6,7 @@ use Rattle.program.proofs.step.Statement.{statement}
 use Rattle.program.proofs.step.Tie as tie
 use Rattle.program.proofs.step.Reads as reads
 use Rattle.program.proofs.step.Lts as lts
-use Rattle.cutting.proofs.begin.Reads as begin-reads
+use Rattle.beginning.proofs.begin.Reads as begin-reads
 use Rattle.cutting.proofs.cut.Reads as cut-reads
 use Rattle.telling.proofs.tell.Reads as tell-reads
 

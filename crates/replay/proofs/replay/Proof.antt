@@ -2,7 +2,7 @@ use borrow.Author.Needs.{needs}
 use Rattle.replay.proofs.replay.Statement.{statement}
 use Rattle.replay.proofs.Replaying.{replay-refused, replay-held}
 use Rattle.areas.specs.Lent.{lent}
-use Rattle.network.specs.Reading.{verdictOf}
+use Rattle.verdicts.specs.Verdicts.{verdictOf}
 use Rattle.replay.proofs.replay.Tie as tie
 use Rattle.replay.proofs.replay.Reads as reads
 use Rattle.replay.proofs.replay.Lts as lts

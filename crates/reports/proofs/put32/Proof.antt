@@ -6,7 +6,7 @@ use lib.Seq.{length-sets, sets}
 use borrow.Author.Needs.{needs}
 use Rattle.reports.proofs.put32.Statement.{statement}
 use Rattle.model.specs.Record.{bytes16}
-use Rattle.model.proofs.Parts.{sets-append}
+use Rattle.laws.proofs.Parts.{sets-append}
 use Rattle.reports.proofs.put32.Tie as tie
 use Rattle.reports.proofs.put32.Reads as reads
 use Rattle.reports.proofs.put32.Lts as lts

@@ -8,7 +8,7 @@ use Rattle.reports.proofs.put_fields.Statement.{statement}
 use Rattle.model.specs.Record.{bytes32}
 use Rattle.model.specs.Areas.{fields}
 use Rattle.reports.proofs.Bytes.{fields-more, fields-none, fields-size}
-use Rattle.model.proofs.Parts.{sets-more}
+use Rattle.laws.proofs.Parts.{sets-more}
 use Rattle.rows.specs.Rows.{words}
 use Rattle.reports.proofs.put_fields.Tie as tie
 use Rattle.reports.proofs.put_fields.Reads as reads

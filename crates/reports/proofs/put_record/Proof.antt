@@ -9,7 +9,7 @@ use Rattle.reports.proofs.put_record.Statement.{statement}
 use Rattle.model.specs.Record.{bytes16, bytes32}
 use Rattle.model.specs.Areas.{fields}
 use Rattle.reports.proofs.Bytes.{record-is}
-use Rattle.model.proofs.Parts.{sets-more}
+use Rattle.laws.proofs.Parts.{sets-more}
 use Rattle.reports.proofs.put_record.Tie as tie
 use Rattle.reports.proofs.put_record.Reads as reads
 use Rattle.reports.proofs.put_record.Lts as lts

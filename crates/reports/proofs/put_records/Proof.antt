@@ -7,7 +7,7 @@ use Rattle.reports.proofs.put_records.Statement.{statement}
 use Rattle.model.specs.Calls.{changeRecord}
 use Rattle.model.specs.Areas.{fields, heldIn, layout, placeSize, stride}
 use Rattle.reports.proofs.Bytes.{held-none, held-size, records-more, size-bound, step-inside}
-use Rattle.model.proofs.Parts.{sets-more}
+use Rattle.laws.proofs.Parts.{sets-more}
 use Rattle.reports.specs.Written.{recordsOf}
 use Rattle.reports.proofs.put_records.Tie as tie
 use Rattle.reports.proofs.put_records.Reads as reads

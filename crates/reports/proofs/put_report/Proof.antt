@@ -9,7 +9,7 @@ use lib.Seq.{length-sets}
 use borrow.Author.Needs.{needs}
 use Rattle.reports.proofs.put_report.Statement.{statement}
 use Rattle.reports.proofs.Bytes.{allowed-size-is, report-parts}
-use Rattle.model.proofs.Parts.{sets-first, sets-more}
+use Rattle.laws.proofs.Parts.{sets-first, sets-more}
 use Rattle.reports.specs.Written.{allowedOf}
 use Rattle.model.specs.Record.{Bytes}
 use Rattle.model.specs.Calls.{writtenTo}

@@ -1,7 +1,7 @@
 use Prim.Native.Nat.{ℕ, _≤_, _-_, _/_, _+_}
 use mathlib.Core.Path.{sym, ap, _∙_}
 use Rattle.rows.specs.Rows.{rowAt, firstRows, orderOf}
-use Rattle.model.proofs.Sets.{ascending-holds}
+use Rattle.laws.proofs.Sets.{ascending-holds}
 use Rattle.model.specs.Areas.{stride}
 use Rattle.rows.proofs.Search.{Narrowed, narrowed-all, narrowed-less, narrowed-greater, narrowed-found, narrowed-none}
 use native.Mathlib.Omega.{arith}

@@ -1,5 +1,6 @@
-use Rattle.sets.proofs.Sets.{intersect-fills}
 use borrow.Author.Needs.{needs}
+use Rattle.places.proofs.Places.{rows-ascend}
+use Rattle.sets.proofs.Sets.{intersect-fills}
 use Rattle.sets.proofs.intersect_rows.Statement.{statement}
 use Rattle.sets.proofs.intersect_rows.Tie as tie
 use Rattle.sets.proofs.intersect_rows.Reads as reads
@@ -14,7 +15,7 @@ same-length c = search needs
 
 returns : tie.Need-returns
 returns c = let a = c .before .before .before .before .before .before .before .args in λ w pl pr. intersect-fills w (a .left .now) (a .n) (a .right .now) (a .m) pl pr _
-    (c .before .before .keep-rows .result) (c .before .before .keep-rows .ensures)
+    (c .before .before .keep-rows .result) (c .before .before .keep-rows .ensures (rows-ascend w (a .left .now) (a .n) pl))
 
 pub intersect-rows-spec : {M : Type 1} → statement M
 intersect-rows-spec = tie.close (tie.spec keep-rows-requires same-length returns)

@@ -17,7 +17,7 @@ returns : tie.Need-returns
 returns c = let a = (c .before .before .before .before .before .before .before .args) in rw (c .before .before .before .before .if1 .taken) (c .before .before .put-changes .ensures)
 
 returns-2 : tie.Need-returns-2
-returns-2 c = let a = (c .before .before .before .args) in rw (c .if1 .left) (refl, omega arith, omega arith)
+returns-2 c = let a = (c .before .before .before .args) in rw (c .if1 .left) (record { bytes = refl; next = omega arith; short = omega arith })
 
 pub put-allowed-spec : {M : Type 1} → statement M
 put-allowed-spec = tie.close (tie.spec put-changes-requires same-length returns returns-2)

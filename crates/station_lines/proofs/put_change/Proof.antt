@@ -48,7 +48,11 @@ returns : tie.Need-returns
 returns c = let a = (c .before .before .before .before .before .before .before .before .before .args) in let t = numbers-taken (a .node) (a .w) (a .words .now) (a .from)
     (c .before .before .before .before .before .before .change-numbers .result) (c .before .before .before .before .before .before .before .before .before .pre .0)
     (c .before .before .before .before .before .before .change-numbers .ensures) in let e = rw t at (c .before .before .put-line-at .ensures)
-    in (e .0, e .1, omega (arith, e .2, length-fields (a .w) (a .words .now) (a .from), c .before .before .before .before .before .before .before .before .before .pre .0))
+    in record {
+      bytes = e .bytes;
+      next = e .next;
+      short = omega (arith, e .short, length-fields (a .w) (a .words .now) (a .from), c .before .before .before .before .before .before .before .before .before .pre .0);
+    }
 
 pub put-change-spec : {M : Type 1} → statement M
 put-change-spec =

@@ -32,7 +32,7 @@ put-allowed-requires-2 c κs = (
   c .before .before .before .before .before .before .before .before .before .before .pre .5,
   omega (
     arith,
-    c .before .before .before .put-allowed .ensures .2,
+    c .before .before .before .put-allowed .ensures .short,
     c .before .before .before .before .before .before .before .before .before .before .pre .1,
     c .before .before .before .before .before .before .before .before .before .before .pre .2,
     c .before .before .before .before .before .before .before .before .before .before .pre .6,
@@ -49,9 +49,8 @@ returns c = let a = (c .before .before .before .before .before .before .before .
     (c .before .before .before .before .before .before .before .before .allows2 .result) (a .out .now) (c .before .before .before .before .before .before .put-allowed .last .1 .0)
     (c .before .before .put-allowed2 .last .1 .0) (a .at) (c .before .before .before .before .before .before .put-allowed .result) (c .before .before .put-allowed2 .result) (a .g) (a .l)
     (c .before .before .before .before .before .before .before .before .before .allows .ensures)
-    (c .before .before .before .before .before .before .before .before .allows2 .ensures) (c .before .before .before .before .before .before .put-allowed .ensures .0)
-    (c .before .before .before .before .before .before .put-allowed .ensures .1) (c .before .before .before .before .before .before .put-allowed .ensures .2)
-    (c .before .before .put-allowed2 .ensures .0) (c .before .before .put-allowed2 .ensures .1) (c .before .before .put-allowed2 .ensures .2)
+    (c .before .before .before .before .before .before .before .before .allows2 .ensures) (c .before .before .before .before .before .before .put-allowed .ensures)
+    (c .before .before .put-allowed2 .ensures)
     (c .before .before .before .before .before .before .before .before .before .before .before .before .before .pre .1)
     (c .before .before .before .before .before .before .before .before .before .before .before .before .before .pre .2)
 

@@ -6,7 +6,7 @@ use mathlib.Core.Path.{subst}
 use Prim.Native.Nat.{_+_, ℕ}
 use mathlib.Core.List.{List}
 use Rattle.station_lines.proofs.Changes.{watched-is}
-use Rattle.station_lines.specs.Lines.{Put}
+use Rattle.lines.specs.Written.{Put}
 use Rattle.station_lines.proofs.put_watched.Tie as tie
 use Rattle.station_lines.proofs.put_watched.Reads as reads
 use Rattle.station_lines.proofs.put_watched.Lts as lts

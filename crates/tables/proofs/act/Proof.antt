@@ -5,20 +5,20 @@ use lib.ListN.{length}
 use borrow.Author.Needs.{needs}
 use Rattle.tables.proofs.act.Statement.{statement}
 use Rattle.tables.proofs.Folds.{act-put, act-remove, event-row-at, some-row}
-use Rattle.model.proofs.Sets.{ascending-holds, insert-once}
+use Rattle.laws.proofs.Sets.{ascending-holds, insert-once}
 use Rattle.rows.specs.Rows.{firstRows}
-use Rattle.rows.proofs.Stand.{leave-in, put-full, put-new, put-present, take-out}
+use Rattle.insertions.proofs.Stand.{leave-in, put-full, put-new, put-present, take-out}
 use Rattle.rows.proofs.Place.{length-padded}
 use Rattle.model.specs.Areas.{padded, foldedSize, stride}
 use Rattle.model.specs.Batch.{rowIn, foldedRows}
 use Rattle.rows.proofs.Words.{wide-rows}
-use Rattle.model.proofs.Events.{length-row-in}
+use Rattle.laws.proofs.Events.{length-row-in}
 use Rattle.tables.proofs.act.Tie as tie
 use Rattle.tables.proofs.act.Reads as reads
 use Rattle.tables.proofs.act.Lts as lts
 use Rattle.records.proofs.u16_at.Reads as u16-at-reads
-use Rattle.rows.proofs.insert.Reads as insert-reads
-use Rattle.rows.proofs.remove.Reads as remove-reads
+use Rattle.insertions.proofs.insert.Reads as insert-reads
+use Rattle.insertions.proofs.remove.Reads as remove-reads
 use Rattle.tables.proofs.event_row.Reads as event-row-reads
 
 event-row-requires : tie.Need-event-row-requires

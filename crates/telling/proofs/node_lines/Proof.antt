@@ -1,7 +1,7 @@
 use borrow.Author.Needs.{needs}
 use Rattle.stages.proofs.Steps.{changes-are, count-is, head-long, lines-are, put-nothing}
 use Rattle.stages.proofs.Nodes.{silent-past, silent-unchanged}
-use Rattle.station_lines.specs.Lines.{Put}
+use Rattle.lines.specs.Written.{Put}
 use Prim.Native.Nat.{ℕ}
 use mathlib.Core.List.{List}
 use mathlib.Core.Path.{sym, subst, _∙_}

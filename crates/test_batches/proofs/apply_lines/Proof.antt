@@ -49,7 +49,7 @@ values-line-requires c κs = let h = c .before .before .before .before .before .
         c .before .before
             .before .before .before .before .before .before .before .before .before .before .before .before .before .before .before .before .before .before .before .before .before .before .before
             .before .before .before .before .before .before .before .before .before .before .before .pre .1,
-        c .before .before .before .before .before .before .put-line-at .ensures .2,
+        c .before .before .before .before .before .before .put-line-at .ensures .short,
         c .before
             .before .before .before .before .before .put-line-at .kept .0,
       ),
@@ -94,12 +94,7 @@ returns c =
     ))
     (c .before .before .before .before .before .before .before .before .before .before .before .before .before .before .before .before .before .before .before .before .before .before
     .before .before .before .before .before .apply .ensures) (c .before .before .before .before .before .before .before .before .before .before .before .before .before .before .check
-    .ensures) (record {
-      bytes = c .before .before .before .before .before .before .before .before .before .put-line-at .ensures .0;
-      next = c .before .before .before .before .before
-          .before .before .before .before .put-line-at .ensures .1;
-      short = omega (arith, c .before .before .before .before .before .before .before .before .before .put-line-at .ensures .2);
-    }) (c .before .before .values-line .ensures)
+    .ensures) (c .before .before .before .before .before .before .before .before .before .put-line-at .ensures) (c .before .before .values-line .ensures)
 
 pub apply-lines-spec : {M : Type 1} → statement M
 apply-lines-spec =

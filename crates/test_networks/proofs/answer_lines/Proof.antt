@@ -1,4 +1,3 @@
-use native.Mathlib.Omega.{arith}
 use Rattle.test_networks.proofs.Told.{told}
 use borrow.Author.Needs.{needs}
 use Rattle.test_networks.proofs.answer_lines.Statement.{statement}
@@ -47,10 +46,9 @@ returns c =
     let two = c .before .before .before .before .before .before .before .before .before .before .before .before .put-list .ensures in
     let three = c .before .before .before .before .before .before .before .put-list2 .ensures in
     let four = c .before .before .put-list3 .ensures in
-    let t = told (a .net .now) (c .before .before .before .before .before .before .before .before .before .before .before .before .before .before .before .before .before .before .before
+    told (a .net .now) (c .before .before .before .before .before .before .before .before .before .before .before .before .before .before .before .before .before .before .before
     .before .before .before .before .before .read .result) (c .before .before .before .before .before .before .before .before .before .before .before .before .before .before .before
-    .before .before .before .before .before .before .before .before .before .read .ensures) (one .0) (one .1) (two .0) (two .1) (three .0) (three .1) (four .0) (four .1) in
-    (t .bytes, t .size, omega (arith, one .2, two .2, three .2, four .2))
+    .before .before .before .before .before .before .before .before .before .read .ensures) one two three four
 
 pub answer-lines-spec : {M : Type 1} → statement M
 answer-lines-spec =

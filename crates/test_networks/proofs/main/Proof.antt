@@ -67,12 +67,12 @@ answer-lines-requires : tie.Need-answer-lines-requires Inv-loop μ-loop
 answer-lines-requires c κs = search needs
 
 array-share-prefix-text : tie.Need-array-share-prefix-text Inv-loop μ-loop
-array-share-prefix-text c = omega (arith, c .before .answer-lines .ensures .2)
+array-share-prefix-text c = omega (arith, c .before .answer-lines .ensures .short)
 
 slice-aggregate-write-all : tie.Need-slice-aggregate-write-all Inv-loop μ-loop
 slice-aggregate-write-all c = sym (length-take-le (c .before .before .answer-lines .result) (c .before .before .answer-lines .last .1 .0) (omega (
   arith,
-  c .before .before .answer-lines .ensures .2,
+  c .before .before .answer-lines .ensures .short,
   c .before .before .answer-lines .kept .1 .0,
   c .before .before .before .before .before .before .before .before .before .before
       .before .before .loop .inv .2,

@@ -1,4 +1,3 @@
-use native.Mathlib.Omega.{arith}
 use Rattle.test_runs.proofs.Told.{checks}
 use Rattle.areas.specs.Lent.{lent}
 use borrow.Author.Needs.{needs}
@@ -27,11 +26,7 @@ same-length c = search needs
 returns : tie.Need-returns
 returns c = let a = c .before .before .before .before .before .before .before .before .before .before .before .before .before .before .args in checks (a .net .now) (a .word .now) (lent
     (a .rows .now) (a .gained .now) (a .lost .now) (a .head .now)) (c .before .before .before .before .before .before .check .result)
-    (c .before .before .before .before .before .before .check .ensures) (record {
-      bytes = c .before .before .put-line-at .ensures .0;
-      next = c .before .before .put-line-at .ensures .1;
-      short = omega (arith, c .before .before .put-line-at .ensures .2);
-    })
+    (c .before .before .before .before .before .before .check .ensures) (c .before .before .put-line-at .ensures)
 
 pub check-line-spec : {M : Type 1} → statement M
 check-line-spec =

@@ -1,4 +1,3 @@
-use native.Mathlib.Omega.{arith}
 use Rattle.test_runs.proofs.Told.{opens}
 use Rattle.areas.specs.Lent.{lent}
 use borrow.Author.Needs.{needs}
@@ -38,7 +37,7 @@ returns c = let a = c .before .before .before .before .before .before .before .b
     .before .before .before .before .args in opens (a .net .now) (a .word .now) (lent (a .rows .now) (a .gained .now) (a .lost .now) (a .head .now))
     (c .before .before .before .before .before .before .before .before .before .before .before .before .before .«open» .result)
     (c .before .before .before .before .before .before .before .before .before .before .before .before .before .«open» .ensures)
-    (record { bytes = c .before .before .put-line-at .ensures .0; next = c .before .before .put-line-at .ensures .1; short = omega (arith, c .before .before .put-line-at .ensures .2) })
+    (c .before .before .put-line-at .ensures)
 
 pub open-line-spec : {M : Type 1} → statement M
 open-line-spec =

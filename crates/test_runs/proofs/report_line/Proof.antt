@@ -1,4 +1,3 @@
-use native.Mathlib.Omega.{arith}
 use Rattle.test_runs.proofs.Told.{reports}
 use Rattle.areas.specs.Lent.{lent}
 use borrow.Author.Needs.{needs}
@@ -27,12 +26,7 @@ same-length-2 c = search needs
 returns : tie.Need-returns
 returns c = let a = c .before .before .before .before .before .before .before .before .before .before .before .before .before .before .before .before .before .args in reports (a .net .now)
     (a .word .now) (a .node) (lent (a .rows .now) (a .gained .now) (a .lost .now) (a .head .now)) (c .before .before .before .before .before .before .before .report .result) (a .out .now)
-    (c .before .before .before .before .before .before .before .report .ensures) (record {
-      bytes = c .before .before .put-line-at .ensures .0;
-      next = c .before .before .put-line-at .ensures
-          .1;
-      short = omega (arith, c .before .before .put-line-at .ensures .2);
-    })
+    (c .before .before .before .before .before .before .before .report .ensures) (c .before .before .put-line-at .ensures)
 
 pub report-line-spec : {M : Type 1} → statement M
 report-line-spec =

@@ -106,7 +106,7 @@ array-share-prefix-text c = search needs
 slice-aggregate-write-all : tie.Need-slice-aggregate-write-all
 slice-aggregate-write-all c = sym
     (length-take-le (c .before .before .put-line-at2 .result) (c .before .before .put-line-at2 .last .0)
-    (omega (arith, c .before .before .before .before .before .before .before .before .before .put-line-at .ensures .2, c .before .before .put-line-at2 .ensures .2)))
+    (omega (arith, c .before .before .before .before .before .before .before .before .before .put-line-at .ensures .short, c .before .before .put-line-at2 .ensures .short)))
 
 write-all-requires : tie.Need-write-all-requires
 write-all-requires c κs = search needs

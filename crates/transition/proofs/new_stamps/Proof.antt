@@ -8,7 +8,7 @@ use Rattle.transition.proofs.new_stamps.Statement.{statement}
 use Rattle.model.specs.Areas.{padded, stampAt}
 use Rattle.transition.specs.Head.{stampsFrom}
 use Rattle.states.proofs.Head.{padded-length}
-use Rattle.model.proofs.Parts.{length-counted}
+use Rattle.laws.proofs.Parts.{length-counted}
 use Rattle.model.specs.Row.{maxNodes}
 use Rattle.transition.proofs.Head.{stamps-more}
 use Rattle.transition.proofs.new_stamps.Tie as tie

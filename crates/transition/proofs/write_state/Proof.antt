@@ -11,7 +11,7 @@ use Rattle.worklist.specs.Listed.{listTo, listedIn}
 use Rattle.transition.specs.Head.{stampsFrom}
 use Rattle.worklist.proofs.Listing.{marks-length, marks-listed}
 use Rattle.states.proofs.Head.{padded-length}
-use Rattle.model.proofs.Parts.{length-counted}
+use Rattle.laws.proofs.Parts.{length-counted}
 use Rattle.model.specs.Areas.{stampAt}
 use Rattle.model.specs.Row.{maxNodes}
 use Rattle.transition.proofs.Next.{state-written}
@@ -141,7 +141,7 @@ write-head-requires c κs = let a =
     (c .before .before .before .before .before .before .before .before .before .before .before .before .before .before .before .before .before .before .before .before .before .write-nodes
     .last .1 .1 .1 .1 .1 .1 .1 .1 .1 .0) (a .net .count) (le-refl (a .net .count)) w in let short : length
     (listTo (a .net .levels) (c .before .before .before .before .before .before .before .before .before .before .listed-nodes .result) (a .net .count) (a .net .count)) ≤ maxNodes = omega
-    (arith, c .before .before .before .before .before .before .list-worked .ensures .1, c .before .before .before .before .before .before .list-worked .ensures .2)
+    (arith, c .before .before .before .before .before .before .list-worked .ensures .1 .0, c .before .before .before .before .before .before .list-worked .ensures .1 .1)
     in (
       head-long (a .net) (a .rows .now) (a .gained .now) (a .lost .now) (a .head .now) (a .work .now) (a .counts .now) (a .changed .now)
           (c .before .before .before .before .before .before .before .before .before .before .before .before .before .before .before .before .before .before .before .before .before .before .before
@@ -155,7 +155,7 @@ write-head-requires c κs = let a =
           .before .before .before .before .before .before .before .before .before .before .before .before .before .before .pre .0 .built .sound .few)),
       l .3,
       l .4,
-      c .before .before .before .before .before .before .list-worked .ensures .2,
+      c .before .before .before .before .before .before .list-worked .ensures .1 .1,
       ap length (c .before .before .before .before .before .before .list-worked .ensures .0)
           ∙ padded-length maxNodes (listTo (a .net .levels) (c .before .before .before .before .before .before .before .before .before .before .listed-nodes .result) (a .net .count) (a .net .count))
           short,
@@ -200,7 +200,7 @@ returns c = let a = (c .before .before .before .before .before .before .before .
     (c .before .before .before .before .before .before .before .before .before .before .before .before .before .before .before .before .before .before .before .before .before .before .before
     .before .before .before .before .before .before .before .before .before .before .before .before .before .before .before .before .before .pre .0 .built .sound .few))
     (c .before .before .before .before .before .before .before .before .before .list-worked .ensures .0)
-    (c .before .before .before .before .before .before .before .before .before .list-worked .ensures .1) (c .before .before .write-head .ensures)
+    (c .before .before .before .before .before .before .before .before .before .list-worked .ensures .1 .0) (c .before .before .write-head .ensures)
 
 pub write-state-spec : {M : Type 1} → statement M
 write-state-spec =

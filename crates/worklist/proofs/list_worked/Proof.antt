@@ -57,8 +57,7 @@ returns c = let a = (c .before .before .before .before .before .args) in let e :
     (a .n) in (
       rw e at (c .before .loop .inv .1) ∙ ap (λ (l : List ℕ). sets l 0 (listTo (a .levels .now) (a .listed .now) (a .n) (a .n))) (c .before .before .before .before .before .pre .3)
           ∙ sets-zeros (listTo (a .levels .now) (a .listed .now) (a .n) (a .n)) (omega (arith, short, c .before .before .before .before .before .pre .2)),
-      rw e at (c .before .loop .inv .2),
-      omega (arith, rw e at (c .before .loop .inv .2), short, c .before .before .before .before .before .pre .2),
+      (rw e at (c .before .loop .inv .2), omega (arith, rw e at (c .before .loop .inv .2), short, c .before .before .before .before .before .pre .2)),
     )
 
 pub list-worked-spec : {M : Type 1} → statement M

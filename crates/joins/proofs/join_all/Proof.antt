@@ -1,0 +1,109 @@
+use mathlib.Core.List.{[]}
+use mathlib.Core.Path.{ap, _∙_, _≡_}
+use Prim.Native.Nat.{_-_, ℕ, _≤_}
+use native.Mathlib.Omega.{arith}
+use lib.ListN.{length, length-replicate}
+use borrow.Author.Needs.{needs}
+use Rattle.joins.proofs.join_all.Statement.{statement}
+use Rattle.places.specs.Places.{Stands}
+use Rattle.joins.specs.Joins.{joinedWith}
+use Rattle.joins.proofs.Joins.{wide-with}
+use Rattle.places.proofs.Puts.{put-all, put-exceeds, put-ready, put-stands, put-start, putUpTo, stands-none}
+use Rattle.rows.specs.Rows.{firstRows}
+use Rattle.model.specs.Areas.{placeSize, stride}
+use Rattle.rows.proofs.Words.{wide-rows}
+use Rattle.joins.proofs.join_all.Tie as tie
+use Rattle.joins.proofs.join_all.Reads as reads
+use Rattle.joins.proofs.join_all.Lts as lts
+use Rattle.joins.proofs.join_row.Reads as join-row-reads
+
+abbrev Inv-loop : tie.InvT-loop
+Inv-loop left n right m how out₀ count₀ i₀ out count i = (i ≤ n) × (length out ≡ placeSize) × Stands (putUpTo (joinedWith how (firstRows right m)) [] left i) out count
+
+abbrev μ-loop : tie.MeasureT-loop
+μ-loop left n right m how out₀ count₀ i₀ out count i = n - i
+
+loop-holds : tie.Need-loop-holds Inv-loop μ-loop
+loop-holds c = let a = c .before .before .before .args
+    in (
+      omega arith,
+      ap length (c .before .before .before .pre .3) ∙ length-replicate {A = ℕ} placeSize 0,
+      put-start (joinedWith (a .how) (firstRows (a .right .now) (a .m))) [] (a .left .now)
+          (a .n) (λ l e. wide-with (a .how) (c .before .before .before .pre .2) (firstRows (a .right .now) (a .m)) l e (wide-rows stride (a .right .now) 0 (a .m))) tt tt (a .out .now) 0
+          (stands-none (a .out .now) (c .before .before .before .pre .3)),
+    )
+
+join-row-requires : tie.Need-join-row-requires Inv-loop μ-loop
+join-row-requires c κs =
+    let a = c .before .before .before .before .before .before .args in
+    let r = put-ready (joinedWith (a .how) (firstRows (a .right .now) (a .m))) [] (a .left .now) (a .n)
+    (λ l e. wide-with (a .how) (c .before .before .before .before .before .before .pre .2) (firstRows (a .right .now) (a .m)) l e (wide-rows stride (a .right .now) 0 (a .m))) tt tt
+    (c .before .before .loop .i) (c .before .before .loop .out) (c .before .before .loop .count) (c .before .before .loop .inv .2) in
+    (omega arith, c .before .before .before .before .before .before .pre .1, c .before .before .before .before .before .before .pre .2, r .0, r .1, c .before .before .loop .inv .1)
+
+enum-known-more : tie.Need-enum-known-more Inv-loop μ-loop
+enum-known-more c = search needs
+
+enum-told : tie.Need-enum-told Inv-loop μ-loop
+enum-told c = search needs
+
+same-length : tie.Need-same-length Inv-loop μ-loop
+same-length c =
+    let full = rw (c .enum-told .given .1) at (c .before .before .before .before .join-row .ensures) in
+    omega (arith, full .1, ap length (c .before .before .before .before .before .before .before .before .before .before .before .pre .3))
+
+returns : tie.Need-returns Inv-loop μ-loop
+returns c =
+    let a = c .before .before .before .before .before .before .before .before .before .before .before .args in
+    let l = c .before .before .before .before .before .before .before .loop in
+    let p = c .before .before .before .before .join-row in
+    let right = firstRows (a .right .now) (a .m) in
+    let fits = c .before .before .before .before .before .before .before .before .before .before .before .pre .2 in
+    let over = put-exceeds (joinedWith (a .how) right) [] (a .left .now) (a .n) (λ x e. wide-with (a .how) fits right x e (wide-rows stride (a .right .now) 0 (a .m))) tt tt (l .i) (l .out)
+    (p .last .1 .1 .1 .1 .1 .0) (l .count) (p .result) (c .enum-told .given .1) (omega arith) (l .inv .2) (p .ensures) in
+    (rw (← put-all (joinedWith (a .how) right) (a .left .now) (a .n)) (over .0), over .1)
+
+add-i : tie.Need-add-i Inv-loop μ-loop
+add-i c = omega arith
+
+loop-less : tie.Need-loop-less Inv-loop μ-loop
+loop-less c = omega arith
+
+loop-again : tie.Need-loop-again Inv-loop μ-loop
+loop-again c =
+    let a = c .before .before .before .before .before .before .before .before .before .before .before .before .args in
+    let l = c .before .before .before .before .before .before .before .before .loop in
+    let p = c .before .before .before .before .before .join-row in
+    let right = firstRows (a .right .now) (a .m) in
+    let fits = c .before .before .before .before .before .before .before .before .before .before .before .before .pre .2 in
+    let s = put-stands (joinedWith (a .how) right) [] (a .left .now) (a .n) (λ x e. wide-with (a .how) fits right x e (wide-rows stride (a .right .now) 0 (a .m))) tt tt (l .i) (l .out)
+    (p .last .1 .1 .1 .1 .1 .0) (l .count) (c .before .more .given .0 .0) (p .result) (c .before .more .given .1) (l .inv .2) (p .ensures) in
+    (omega arith, s .0, s .1)
+
+same-length-2 : tie.Need-same-length-2 Inv-loop μ-loop
+same-length-2 c = omega (arith, ap length (c .before .before .before .before .before .pre .3))
+
+returns-2 : tie.Need-returns-2 Inv-loop μ-loop
+returns-2 c =
+    let a = c .before .before .before .before .before .args in
+    let e : c .before .loop .i ≡ a .n = omega arith in
+    let s = rw e at (c .before .loop .inv .2) in
+    rw (← put-all (joinedWith (a .how) (firstRows (a .right .now) (a .m))) (a .left .now) (a .n)) s
+
+pub join-all-spec : {M : Type 1} → statement M
+join-all-spec =
+    tie.close
+    (tie.spec
+    Inv-loop
+    μ-loop
+    loop-holds
+    join-row-requires
+    enum-known-more
+    enum-told
+    same-length
+    returns
+    add-i
+    loop-less
+    loop-again
+    same-length-2
+    returns-2)

@@ -1,0 +1,1 @@
+// Laws of the definitions, as proofs alone: there is no code here.
