@@ -8,7 +8,7 @@ use lib.ListN.{length, length-map, drop}
 use borrow.Author.Tests.{ne-eqb, lt-ltb, le-ltb, eq-eqb}
 use Rattle.model.specs.Areas.{Areas}
 use Rattle.model.specs.Record.{Bytes, SmallVerdict, accepted, refused, isAccepted, Verdict}
-use Rattle.model.specs.Calls.{Result, checkCall, openCall, readCall, reportCall, CheckAnswer, ReadAnswer, ReportAnswer}
+use Rattle.model.specs.Calls.{Result, checkCall, openCall, readCall, reportCall, CheckAnswer, ReadAnswer, ReportAnswer, longestReport}
 use Rattle.model.specs.Network.{Node, levels, nodesIn, kindOf, widths, levelOf}
 use Rattle.laws.proofs.Bounds.{ByteList, count-most, form-small, kinds-read, levels-read, network-small, open-small, report-small, widths-read}
 use Rattle.laws.proofs.Fits.{read-accepted, read-small, length-widths}
@@ -32,7 +32,7 @@ module _ (net : Bytes) (b : ByteList net) (a : Areas) where
   pub report-fits : (node : ℕ) (out : Bytes) (x : ReportAnswer) → x ≡ reportCall net node a out → SmallVerdict (x .verdict) × (x .size < half)
   unfolding reportCall
   report-fits node out x e =
-      let short : x .size ≤ 2816 = subst (λ (y : ReportAnswer). y .size ≤ 2816) (sym e) (size-most net a node out) in
+      let short : x .size ≤ longestReport = subst (λ (y : ReportAnswer). y .size ≤ longestReport) (sym e) (size-most net a node out) in
       (subst (λ (y : ReportAnswer). SmallVerdict (y .verdict)) (sym e) (report-small net b a node out), omega arith)
 
 pub reader-fits : (net : Bytes) → ByteList net → (x : ReadAnswer) → x ≡ readCall net → SmallVerdict (x .verdict)

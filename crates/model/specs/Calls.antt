@@ -6,7 +6,7 @@ use mathlib.Core.List.{List, [], _++_, map, flatMap}
 use Prim.Native.Nat.{ℕ, _+_, _*_, _<_}
 use lib.Dec.{leb, ltb, eqb}
 use lib.ListN.{length, drop}
-use Rattle.model.specs.Row.{Row, maxNodes}
+use Rattle.model.specs.Row.{Row, maxNodes, maxRows, maxWidth}
 use Rattle.model.specs.Record.{Bytes, bytes16, bytes32, Verdict, accepted, refused, isAccepted}
 use Rattle.model.specs.Network.{Node, Network, Reading, readNetwork, nodesIn, kindOf, widths, levels, signOf}
 use Rattle.model.specs.Network.{within}
@@ -163,6 +163,10 @@ recordOf c = changeRecord (recordKind (c .direction)) (c .node) (c .row)
 unfoldable pub reportBytes : ℕ → ℕ → Change → Bytes
 unfolding changeRecord changesOf flatMap
 reportBytes sign node change = flatMap recordOf (changesOf sign node change)
+
+-- the most bytes of a report: a record for each row that a node can have, gained and lost
+abbrev pub longestReport : ℕ
+longestReport = 2 * maxRows * (6 + 4 * maxWidth)
 
 -- the report of a node from the areas
 unfoldable pub reportOf : Network → ℕ → Areas → Bytes

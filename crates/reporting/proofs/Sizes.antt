@@ -9,7 +9,7 @@ use lib.Dec.{eqb, leb, ltb}
 use borrow.Author.Tests.{ltb-true}
 use Rattle.model.specs.Areas.{Areas, gainedCount, goodForm, layout, lostCount}
 use Rattle.model.specs.Watched.{allows, wasGained, wasLost}
-use Rattle.model.specs.Calls.{formVerdict, isWatched, reportBytes, reportCall, reportIn, reportOf, reportRule, unless}
+use Rattle.model.specs.Calls.{formVerdict, isWatched, reportBytes, reportCall, reportIn, reportOf, reportRule, unless, longestReport}
 use Rattle.model.specs.Delta.{Change}
 use Rattle.model.specs.Network.{Node, readNetwork, nodesIn, signOf, widths}
 use Rattle.model.specs.Record.{Bytes, isAccepted}
@@ -25,7 +25,7 @@ module _ (net : Bytes) (a : Areas) where
   abbrev nodes : List Node
   nodes = nodesIn net
 
-  report-most : (node : ℕ) → goodForm layout nodes a ≡ true → node < length nodes → length (reportOf (readNetwork net .network) node a) ≤ 2816
+  report-most : (node : ℕ) → goodForm layout nodes a ≡ true → node < length nodes → length (reportOf (readNetwork net .network) node a) ≤ longestReport
   unfolding reportOf
   report-most node good h =
       let sign : ℕ = signOf (readNetwork net .network) node in
@@ -44,7 +44,7 @@ module _ (net : Bytes) (a : Areas) where
       )
 
   -- the length that a report answers, once 1 to 8 let pass
-  size-in : (node : ℕ) (out : Bytes) → goodForm layout nodes a ≡ true → reportIn (readNetwork net .network) node a out .size ≤ 2816
+  size-in : (node : ℕ) (out : Bytes) → goodForm layout nodes a ≡ true → reportIn (readNetwork net .network) node a out .size ≤ longestReport
   unfolding reportIn
   size-in node out good = go (isAccepted (reportRule (readNetwork net .network) node (length text) (length out))) refl
     where
@@ -54,7 +54,7 @@ module _ (net : Bytes) (a : Areas) where
       watched : Bool
       watched = isWatched (readNetwork net .network) node
 
-      go : (t : Bool) → isAccepted (reportRule (readNetwork net .network) node (length text) (length out)) ≡ t → length (cond t text []) ≤ 2816
+      go : (t : Bool) → isAccepted (reportRule (readNetwork net .network) node (length text) (length out)) ≡ t → length (cond t text []) ≤ longestReport
       go true e =
           let is : watched ≡ true = unless-holds watched 15 refl (or-holds (unless watched 15) (unless (leb (length text) (length out)) 16) e .0) in
           let inside : ltb node (length nodes) ≡ true = and-first (ltb node (length nodes)) (not (eqb (signOf (readNetwork net .network) node) 0)) is in
@@ -62,11 +62,11 @@ module _ (net : Bytes) (a : Areas) where
       go false e = zero-le
 
   -- the length that a report answers
-  pub size-most : (node : ℕ) (out : Bytes) → reportCall net node a out .size ≤ 2816
+  pub size-most : (node : ℕ) (out : Bytes) → reportCall net node a out .size ≤ longestReport
   unfolding reportCall
   size-most node out = go (isAccepted (formVerdict net a)) refl
     where
       go : (t : Bool) → isAccepted (formVerdict net a) ≡ t →
-          cond t (reportIn (readNetwork net .network) node a out) (record { verdict = formVerdict net a; size = 0; out = out }) .size ≤ 2816
+          cond t (reportIn (readNetwork net .network) node a out) (record { verdict = formVerdict net a; size = 0; out = out }) .size ≤ longestReport
       go true e = size-in node out (form-holds net a e)
       go false e = zero-le

@@ -24,7 +24,7 @@ use Rattle.network.proofs.Nodes.{nodes-count}
 use Rattle.admission.specs.Admission.{Changes}
 use Rattle.admission.proofs.Admitted.{changes-good}
 use Rattle.lines.specs.Written.{Put, PutIfRoom}
-use Rattle.station_lines.specs.Lines.{linesIn}
+use Rattle.station_lines.specs.Lines.{linesIn, nodeRoom}
 use Rattle.pieces.specs.Pieces.{piecesOn}
 use Rattle.stages.specs.declared.Said.{Said}
 use Rattle.stages.specs.declared.Stage.{Stage}
@@ -41,7 +41,7 @@ wrote-put text all most before out size p e h =
     record { bytes = p .bytes ∙ ap (sets before 0) e; is = omega (arith, p .next, ap length e); fits = omega (arith, p .short, h) }
 
 -- nothing is written
-pub put-nothing : (text before : Bytes) → text ≡ [] → Put text 13696 0 before before 0
+pub put-nothing : (text before : Bytes) → text ≡ [] → Put text nodeRoom 0 before before 0
 put-nothing text before e = record { bytes = ap (sets before 0) (sym e); next = omega (arith, ap length e); short = omega arith }
 
 -- areas of the named words are long enough
@@ -58,7 +58,7 @@ head-long a h = long-parts (a .rows) (a .gained) (a .lost) (a .head) h .3
 pub applied-head : (net : Bytes) (a : Areas) (k : Opened net a) (b : Bytes) (r : Result) → Applied net b a r → headWords ≤ length (r .areas .head)
 applied-head net a k b r m = rw (result-is net a k b r m) (head-long (areasAfter net a b) (opened-again net a k b .long))
 
-module _ (net : Bytes) (a : Areas) (k : Opened net a) (b : Bytes) (next : ℕ) (before out : Bytes) (size : ℕ) (room : 13696 ≤ length before) (r : Result) (m : Applied net b a r) where
+module _ (net : Bytes) (a : Areas) (k : Opened net a) (b : Bytes) (next : ℕ) (before out : Bytes) (size : ℕ) (room : nodeRoom ≤ length before) (r : Result) (m : Applied net b a r) where
   verdict-is : r .verdict ≡ stepOf net a b .verdict
   unfolding resultOf
   verdict-is = ap (λ (x : Result). x .verdict) (result-is net a k b r m)
@@ -92,7 +92,7 @@ module _ (net : Bytes) (a : Areas) (k : Opened net a) (b : Bytes) (next : ℕ) (
 
 -- ---- before everything
 
-module _ (f : Files) (a : Areas) (before out : Bytes) (size : ℕ) (room : 13696 ≤ length before) where
+module _ (f : Files) (a : Areas) (before out : Bytes) (size : ℕ) (room : nodeRoom ≤ length before) where
   pub says-no-input : hasInput f ≡ false → Put (line noInputWords []) 9 0 before out size → Says f Begin a a before out (record { size = size; stage = End })
   says-no-input n p =
       record {
@@ -129,7 +129,7 @@ module _ (f : Files) (a : Areas) (before out : Bytes) (size : ℕ) (room : 13696
 pub between-length : (file : Bytes) (start end : ℕ) → start ≤ end → end ≤ length file → length (bytesBetween file start end) ≡ end - start
 between-length file start end h g = length-take-le (end - start) (drop start file) (rw length-drop (omega arith))
 
-module _ (f : Files) (start : ℕ) (a : Areas) (before out : Bytes) (size : ℕ) (room : 13696 ≤ length before) where
+module _ (f : Files) (start : ℕ) (a : Areas) (before out : Bytes) (size : ℕ) (room : nodeRoom ≤ length before) where
   pub says-batch : (end : ℕ) (after : Areas) (r : Said) → (start ≤ end) × (end + 4 ≤ length (f .batches)) × (piecesOn (f .batches) start
       ≡ batch (bytesBetween (f .batches) start end) ∷ piecesOn (f .batches) (end + 4)) →
       Applies (f .net) (bytesBetween (f .batches) start end) (end + 4) a after before out r → Says f (Cut start) a after before out r
@@ -161,7 +161,7 @@ module _ (f : Files) (start : ℕ) (a : Areas) (before out : Bytes) (size : ℕ)
       Says f (Cut start) a a before out (record { size = size; stage = End })
   says-unfinished e p = says-last (unfinished ∷ []) e refl refl (wrote-put (line unfinishedWord []) (line unfinishedWord []) 11 before out size p refl (omega (arith, room)))
 
-pub says-end : (f : Files) (start : ℕ) (a : Areas) (before : Bytes) (room : 13696 ≤ length before) → piecesOn (f .batches) start ≡ [] →
+pub says-end : (f : Files) (start : ℕ) (a : Areas) (before : Bytes) (room : nodeRoom ≤ length before) → piecesOn (f .batches) start ≡ [] →
     Says f (Cut start) a a before before (record { size = 0; stage = End })
 says-end f start a before room e = says-last f start a before before 0 room [] e refl refl (record { bytes = refl; is = refl; fits = omega arith })
 
@@ -194,9 +194,9 @@ module _ (net : Bytes) (rd : Reading) (q : ReadsNetwork net rd) (rows gained los
   count-is = sym (nodes-count (rd .network) (q .built)) ∙ ap (λ (n : model.Network). length (n .nodes)) network-is
 
 pub says-node : (f : Files) (node next : ℕ) (a : Areas) (before out : Bytes) (size : ℕ) →
-    Put (nodeLines (readNetwork (f .net) .network) (stateOf (f .net) a .changes) node) 13696 0 before out size → 13696 ≤ length before →
+    Put (nodeLines (readNetwork (f .net) .network) (stateOf (f .net) a .changes) node) nodeRoom 0 before out size → nodeRoom ≤ length before →
     (s : Stage) → s ≡ cond (ltb (node + 1) maxNodes) (Tell (node + 1) next) (Cut next) → Says f (Tell node next) a a before out (record { size = size; stage = s })
-says-node f node next a before out size p room s e = record { wrote = wrote-put _ _ 13696 before out size p refl room; areas = refl; stage = e }
+says-node f node next a before out size p room s e = record { wrote = wrote-put _ _ nodeRoom before out size p refl room; areas = refl; stage = e }
 
 -- ---- the end
 

@@ -15,6 +15,7 @@ use Rattle.program.proofs.Theorem.{falls-again, output-again, outputFrom, over-
 use Rattle.station.specs.declared.Outcome.{Outcome}
 use Rattle.station.specs.declared.Outcome.the-variants.{Again, Failed, Moved}
 use Rattle.station.specs.Moves.{Within}
+use Rattle.station_lines.specs.Lines.{nodeRoom}
 
 pub within-more : (n : ℕ) (o : Outcome) → Within 0 o → Within n o
 within-more n (Moved k) h = omega (arith, h)
@@ -29,7 +30,7 @@ rest-length bytes from h = length-take-le (length bytes - from) (drop from bytes
 pub record Running (f : Files) (s : Stage) (a : Areas) (told : ℕ) : Type 0 where
   pub ready : Ready f s a
   pub output : told + length (outputFrom f s a) ≡ length (outputOf f)
-  pub small : told + 13696 * left f s ≤ 13696 * left f Begin
+  pub small : told + nodeRoom * left f s ≤ nodeRoom * left f Begin
 
 module _ (f : Files) where
   pub run-start : (a : Areas) → longEnough layout a ≡ true → Running f Begin a 0
@@ -45,7 +46,7 @@ module _ (f : Files) where
           ∙ length-append (take (t .said .size) (t .out)) (outputFrom f (t .said .stage) (t .areas))
           ∙ ap (λ (n : ℕ). n + length (outputFrom f (t .said .stage) (t .areas))) size
 
-      pub run-more : isOver s ≡ false → t .said .size ≤ 13696 → (taken : ℕ) → taken ≡ t .said .size → Running f (t .said .stage) (t .areas) (told + taken)
+      pub run-more : isOver s ≡ false → t .said .size ≤ nodeRoom → (taken : ℕ) → taken ≡ t .said .size → Running f (t .said .stage) (t .areas) (told + taken)
       run-more n h taken e =
           record {
             ready = ready-again f s a (k .ready) t d;

@@ -10,7 +10,7 @@ use borrow.Author.Tests.{leb-false, leb-true}
 use mir.Val.{boolByte}
 use Rattle.model.specs.Record.{Bytes}
 use Rattle.model.specs.Areas.{Areas}
-use Rattle.model.specs.Calls.{Applied, checkCall, reportCall}
+use Rattle.model.specs.Calls.{Applied, checkCall, reportCall, longestReport}
 use Rattle.model.specs.Text.{line}
 use Rattle.verdicts.specs.declared.Verdict.{Verdict}
 use Rattle.network.specs.Reading.{resultWith}
@@ -37,7 +37,7 @@ other n h1 h2 h3 = go (leb 4 n) refl
 two : (x y : Bytes) {m n k r : ℕ} {text mid shown : Bytes} → Put x m 0 text mid k → Put y n k mid shown r → m + n ≤ length text → Writes (x ++ y) text shown r
 two x y p q h = let both = put-more x y p q in record { bytes = both .bytes; next = both .next; short = omega (arith, both .short, h) }
 
-pub applied : (net batch : Bytes) (a after : Areas) (v : Verdict) (c : CheckAnswer) {k r : ℕ} {text mid shown : Bytes} → length text ≡ 65536 → length (after .head) ≤ 2816 →
+pub applied : (net batch : Bytes) (a after : Areas) (v : Verdict) (c : CheckAnswer) {k r : ℕ} {text mid shown : Bytes} → length text ≡ 65536 → length (after .head) ≤ longestReport →
     Applied net batch a (resultWith v after) → checkAnswerOf c ≡ checkCall net after →
     PutLine (line applyWord (v .number ∷ v .place ∷ c .number ∷ boolByte (c .yes) ∷ [])) applyWord 4 0 text mid k →
     PutLine (line headWord (after .head)) headWord (0 + length (after .head)) k mid shown r → Applies net batch a after text shown r
@@ -46,7 +46,7 @@ applied net batch a after v c {r = r} {text = text} {shown = shown} room few t e
     two (line applyWord (v .number ∷ v .place ∷ c .number ∷ boolByte (c .yes) ∷ [])) (line headWord (after .head)) p q (omega arith) in
     record { result = resultWith v after; applied = t; areas = refl; wrote = rw (← e, ← bit-is (c .yes)) w }
 
-pub told : (net : Bytes) (node : ℕ) (a : Areas) (out : Bytes) {after text mid shown : Bytes} {k r : ℕ} → length text ≡ 65536 → length after ≤ 2816 →
+pub told : (net : Bytes) (node : ℕ) (a : Areas) (out : Bytes) {after text mid shown : Bytes} {k r : ℕ} → length text ≡ 65536 → length after ≤ longestReport →
     Reports net reportWord node a out after text mid k → PutLine (line bytesWord (after ++ [])) bytesWord (length after + 0) k mid shown r → Tells net node a out after text shown r
 told net node a out {after = after} {text = text} {shown = shown} {r = r} room few p q =
     let w : Writes (reportLine reportWord (reportCall net node a out) ++ line bytesWord (after ++ [])) text shown r =

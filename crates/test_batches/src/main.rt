@@ -5,6 +5,7 @@ ghost use lib.ListN.{length};
 ghost use Rattle.model.specs.Text.{bytesBetween};
 ghost use Rattle.areas.specs.Lent.{lent};
 ghost use Rattle.test_batches.specs.Operations.{Applies, Runs, Tells, kindOf};
+ghost use Rattle.model.specs.Calls.{longestReport};
 use areas::AREA;
 use areas::HEAD;
 use libc::STDOUT_FILENO;
@@ -46,7 +47,7 @@ fn apply_lines(
     head: &mut [u32],
     text: &mut [u8],
 ) -> usize
-    requires { ⌜ (length (now head) ≤ 2816) × (length (now text) ≡ 65536) ⌝ }
+    requires { ⌜ (length (now head) ≤ longestReport) × (length (now text) ≡ 65536) ⌝ }
     ensures { λ r. ⌜ Applies (now (net .entry)) (now (batch .entry))
         (lent (now (rows .entry)) (now (gained .entry)) (now (lost .entry)) (now (head .entry)))
         (lent (now (rows .exit)) (now (gained .exit)) (now (lost .exit)) (now (head .exit)))
@@ -70,7 +71,7 @@ fn report_lines(
     out: &mut [u8],
     text: &mut [u8],
 ) -> usize
-    requires { ⌜ (length (now out) ≤ 2816) × (length (now text) ≡ 65536) ⌝ }
+    requires { ⌜ (length (now out) ≤ longestReport) × (length (now text) ≡ 65536) ⌝ }
     ensures { λ r. ⌜ Tells (now (net .entry)) node
         (lent (now (rows .entry)) (now (gained .entry)) (now (lost .entry)) (now (head .entry)))
         (now (out .entry)) (now (out .exit)) (now (text .entry)) (now (text .exit)) r ⌝ }
@@ -91,7 +92,7 @@ fn run(
     out: &mut [u8],
     text: &mut [u8],
 ) -> usize
-    requires { ⌜ (length (now part) ≤ 65536) × (length (now head) ≤ 2816) × (length (now out) ≤ 2816)
+    requires { ⌜ (length (now part) ≤ 65536) × (length (now head) ≤ longestReport) × (length (now out) ≤ longestReport)
         × (length (now text) ≡ 65536) ⌝ }
     ensures { λ r. ⌜ Runs (kindOf (op .kind)) (now (net .entry)) (now (part .entry)) (op .index)
         (lent (now (rows .entry)) (now (gained .entry)) (now (lost .entry)) (now (head .entry)))
@@ -121,8 +122,8 @@ fn run_at(
     text: &mut [u8],
 ) -> usize
     requires { ⌜ (from ≤ to) × (to ≤ length (now script)) × (op .from ≤ op .next)
-        × (op .next ≤ length (now script)) × (length (now script) ≤ 65536) × (length (now head) ≤ 2816)
-        × (length (now out) ≤ 2816) × (length (now text) ≡ 65536) ⌝ }
+        × (op .next ≤ length (now script)) × (length (now script) ≤ 65536) × (length (now head) ≤ longestReport)
+        × (length (now out) ≤ longestReport) × (length (now text) ≡ 65536) ⌝ }
     ensures { λ r. ⌜ Runs (kindOf (op .kind)) (bytesBetween (now (script .entry)) from to)
         (bytesBetween (now (script .entry)) (op .from) (op .next)) (op .index)
         (lent (now (rows .entry)) (now (gained .entry)) (now (lost .entry)) (now (head .entry)))

@@ -7,7 +7,7 @@ use lib.ListN.{drop, length, replicate, set, take}
 use borrow.Author.Tests.{ne-eqb}
 use Rattle.model.specs.Record.{Bytes}
 use Rattle.model.specs.Areas.{Areas}
-use Rattle.model.specs.Calls.{checkCall}
+use Rattle.model.specs.Calls.{checkCall, longestReport}
 use Rattle.model.specs.Text.{line}
 use Rattle.areas.specs.Lent.{lent}
 use Rattle.lines.specs.Written.{Put, PutLine}
@@ -100,7 +100,7 @@ module _ (op : Operation) (net part : Bytes) (a : Areas) (out text : Bytes) (roo
   pub ran-word : {k : Kind} {after : Areas} → k ≡ Word → after ≡ stored (op .area) (op .index) (op .value) a → Runs k op net part a after out out text text 0
   ran-word e h = rw e (record { wrote = nothing; areas = h; bytes = refl })
 
-  pub ran-values : {k : Kind} {shown : Bytes} {r : ℕ} → k ≡ Values → length out ≤ 2816 → PutLine (line bytesWord (out ++ [])) bytesWord (length out + 0) 0 text shown r →
+  pub ran-values : {k : Kind} {shown : Bytes} {r : ℕ} → k ≡ Values → length out ≤ longestReport → PutLine (line bytesWord (out ++ [])) bytesWord (length out + 0) 0 text shown r →
       Runs k op net part a a out out text shown r
   ran-values {shown = shown} {r = r} e h p =
       let whole : Put (line bytesWord (out ++ [])) (length text) 0 text shown r = wide room p (omega arith) in

@@ -5,6 +5,7 @@ ghost use lib.ListN.{length};
 ghost use Rattle.model.specs.Text.{bytesBetween};
 ghost use Rattle.areas.specs.Lent.{lent};
 ghost use Rattle.test_calls.specs.Operations.{Runs, RunsCall, callOf, kindOf, reportOf, shortOf, stored};
+ghost use Rattle.model.specs.Calls.{longestReport};
 use areas::AREA;
 use areas::HEAD;
 use libc::STDOUT_FILENO;
@@ -12,6 +13,7 @@ use test_runs::check_line;
 use test_runs::open_line;
 use test_runs::report_line;
 use test_script::Operation;
+use test_values::VALUES;
 
 // The kind of an operation that holds a network.
 const NETWORK: usize = 2;
@@ -19,9 +21,7 @@ const NETWORK: usize = 2;
 // The words of an area that is too short.
 const SHORT: usize = HEAD - 1;
 
-// The most bytes of a report, and of one into few bytes.
-const REPORT: usize = 2816;
-
+// The bytes of a buffer that is too short for most reports.
 const FEW: usize = 29;
 
 // A word of an area set, if it is there.
@@ -141,7 +141,7 @@ fn run(
     out: &mut [u8],
     text: &mut [u8],
 ) -> usize
-    requires { ⌜ (length (now part) ≤ 65536) × (length (now out) ≤ 2816) × (length (now text) ≡ 65536) ⌝ }
+    requires { ⌜ (length (now part) ≤ 65536) × (length (now out) ≤ longestReport) × (length (now text) ≡ 65536) ⌝ }
     ensures { λ r. ⌜ Runs (kindOf (op .kind)) op (now (net .entry)) (now (part .entry))
         (lent (now (rows .entry)) (now (gained .entry)) (now (lost .entry)) (now (head .entry)))
         (lent (now (rows .exit)) (now (gained .exit)) (now (lost .exit)) (now (head .exit)))
@@ -174,7 +174,7 @@ fn run_at(
     text: &mut [u8],
 ) -> usize
     requires { ⌜ (from ≤ to) × (to ≤ length (now script)) × (op .from ≤ op .next)
-        × (op .next ≤ length (now script)) × (length (now script) ≤ 65536) × (length (now out) ≤ 2816)
+        × (op .next ≤ length (now script)) × (length (now script) ≤ 65536) × (length (now out) ≤ longestReport)
         × (length (now text) ≡ 65536) ⌝ }
     ensures { λ r. ⌜ Runs (kindOf (op .kind)) op (bytesBetween (now (script .entry)) from to)
         (bytesBetween (now (script .entry)) (op .from) (op .next))
@@ -202,7 +202,7 @@ fn main() {
     let mut input = io::large_buffer();
     let n = io::read_full(0, &mut input);
     let mut text = io::large_buffer();
-    let mut out = [0u8; REPORT];
+    let mut out = [0u8; VALUES];
     let mut rows = [0u32; AREA];
     let mut gained = [0u32; AREA];
     let mut lost = [0u32; AREA];

@@ -6,9 +6,12 @@ ghost use lib.ListN.{length, getD};
 ghost use lib.Seq.{sets};
 ghost use Rattle.model.specs.Text.{line};
 ghost use Rattle.lines.specs.Written.{PutLine};
+ghost use Rattle.model.specs.Calls.{longestReport};
+use rows::MAX_ROWS;
+use rows::MAX_WIDTH;
 
 // The most numbers of a line: a report's bytes.
-const VALUES: usize = 2816;
+pub const VALUES: usize = 2 * MAX_ROWS * (6 + 4 * MAX_WIDTH);
 
 // One of some bytes and then some words.
 fn value_at(bytes: &[u8], words: &[u32], k: usize) -> usize
@@ -37,7 +40,7 @@ fn values(bytes: &[u8], words: &[u32], numbers: &mut [usize])
 
 // A line of bytes, then words, from an offset on: where the bytes after it begin.
 pub fn values_line(text: &mut [u8], at: usize, word: &[u8], bytes: &[u8], words: &[u32]) -> usize
-    requires { ⌜ (length (now bytes) + length (now words) ≤ 2816)
+    requires { ⌜ (length (now bytes) + length (now words) ≤ longestReport)
         × (at + length (now word) + 21 * (length (now bytes) + length (now words)) < length (now text)) ⌝ }
     ensures { λ r. ⌜ PutLine (line (now (word .entry)) (now (bytes .entry) ++ now (words .entry))) (now (word .entry))
         (length (now (bytes .entry)) + length (now (words .entry))) at (now (text .entry)) (now (text .exit)) r ⌝ }

@@ -14,6 +14,7 @@ use Rattle.telling.proofs.node_lines.Lts as lts
 use Rattle.network.proofs.read_network.Reads as read-network-reads
 use Rattle.telling.proofs.is_unchanged.Reads as is-unchanged-reads
 use Rattle.station_lines.proofs.put_watched.Reads as put-watched-reads
+use Rattle.station_lines.specs.Lines.{nodeRoom}
 
 is-unchanged-requires : tie.Need-is-unchanged-requires
 is-unchanged-requires c κs = let a = c .before .before .before .before .before .before .args
@@ -55,7 +56,7 @@ same-length c = search needs
 
 returns-3 : tie.Need-returns-3
 returns-3 c = let a = c .before .before .before .before .before .before .before .before .before .before .before .before .before .before .before .before .args in subst
-    (λ (text : List ℕ). Put text 13696 0 (a .out .now) (c .before .before .put-watched .last .0) (c .before .before .put-watched .result))
+    (λ (text : List ℕ). Put text nodeRoom 0 (a .out .now) (c .before .before .put-watched .last .0) (c .before .before .put-watched .result))
     (lines-are (a .net .now) (c .before .before .before .before .before .before .before .read-network .result)
     (c .before .before .before .before .before .before .before .read-network .ensures) (a .rows .now) (a .gained .now) (a .lost .now) (a .head .now)
     (c .before .before .before .before .before .before .before .before .before .before .before .before .before .before .before .before .pre .0) (a .node))

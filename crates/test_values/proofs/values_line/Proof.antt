@@ -1,3 +1,4 @@
+use Rattle.model.specs.Calls.{longestReport}
 use mathlib.Core.Path.{ap, sym, _∙_, _≡_}
 use mathlib.Core.List.{_++_}
 use Prim.Native.Nat.{ℕ, _+_}
@@ -59,8 +60,8 @@ returns c =
     let n = length (a .bytes .now) + length (a .words .now) in
     let all = a .bytes .now ++ a .words .now in
     let size : n ≡ length all = sym (length-append (a .bytes .now) (a .words .now)) in
-    let shown : take n (v .last .1 .1 .0) ≡ all = ap (take n) (v .ensures) ∙ first-written (replicate 2816 0) all n size
-    (omega (arith, c .before .before .before .before .before .before .before .before .before .before .before .before .pre .0, length-replicate {A = ℕ} 2816 0)) in
+    let shown : take n (v .last .1 .1 .0) ≡ all = ap (take n) (v .ensures) ∙ first-written (replicate longestReport 0) all n size
+    (omega (arith, c .before .before .before .before .before .before .before .before .before .before .before .before .pre .0, length-replicate {A = ℕ} longestReport 0)) in
     tells (a .word .now) (take n (v .last .1 .1 .0)) all n (a .at) shown size (p .ensures)
 
 pub values-line-spec : {M : Type 1} → statement M
