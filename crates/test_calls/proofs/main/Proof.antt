@@ -15,7 +15,8 @@ use Rattle.model.specs.Calls.{longestReport}
 
 abbrev Inv-loop : tie.InvT-loop
 Inv-loop input n text₀ out₀ rows₀ gained₀ lost₀ head₀ from₀ to₀ at₀ text out rows gained lost head from to at =
-    (length input ≡ 65536) × (n ≤ 65536) × (from ≤ to) × (to ≤ n) × (length text ≡ 65536) × (length out ≡ longestReport) × (length rows ≡ areaSize) × (length gained ≡ areaSize) × (length lost ≡ areaSize)
+    (length input ≡ 65536) × (n ≤ 65536) × (from ≤ to) × (to ≤ n) × (length text ≡ 65536) × (length out ≡ longestReport) × (length rows ≡ areaSize) × (length gained ≡ areaSize)
+    × (length lost ≡ areaSize)
     × (length head ≡ headWords)
 
 abbrev μ-loop : tie.MeasureT-loop
