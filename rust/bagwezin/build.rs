@@ -1,4 +1,5 @@
-//! Has `rt` prove the monitor and write its static library, and links a copy of it.
+//! Links a copy of the monitor's static library: the one that the variable BAGWEZIN_LIBRARY names, or else the one that
+//! `rt` proves and writes now.
 //!
 //! cargo runs this again when a file of the proved crates changes; `rt` itself proves only what changed. The copy stands in cargo's own folder, so
 //! that nothing that is done to target/ afterwards can change what is linked.
@@ -31,6 +32,19 @@ fn staticlib(rt: &Path, root: &Path) {
     }
 }
 
+/// The static library, proved and written by the toolchain.
+fn proved_library(root: &Path) -> PathBuf {
+    let Some(rt) = find_rt() else {
+        fail(
+            "the Rattle toolchain is missing: no `rt` on the PATH. It proves the monitor and builds the static library \
+             that this crate links; to link one that is built already, name it in BAGWEZIN_LIBRARY",
+        );
+    };
+    println!("cargo::rerun-if-changed={}", rt.display());
+    staticlib(&rt, root);
+    root.join("target/staticlib/libbagwezin.a")
+}
+
 fn main() {
     let var = |name: &str| std::env::var(name).unwrap_or_else(|_| fail(&format!("cargo gives no {name}")));
     let here = var("CARGO_MANIFEST_DIR");
@@ -44,13 +58,13 @@ fn main() {
     if var("CARGO_CFG_TARGET_ARCH") != "x86_64" || var("CARGO_CFG_TARGET_OS") != "linux" {
         fail(&format!("the static library is for x86-64 Linux, not for {}", var("TARGET")));
     }
-    let Some(rt) = find_rt() else {
-        fail("the Rattle toolchain is missing: no `rt` on the PATH. It proves the monitor and builds the static library that this crate links");
+    println!("cargo::rerun-if-env-changed=BAGWEZIN_LIBRARY");
+    let library = match std::env::var_os("BAGWEZIN_LIBRARY") {
+        Some(built) => PathBuf::from(built),
+        None => proved_library(root),
     };
-    println!("cargo::rerun-if-changed={}", rt.display());
-    staticlib(&rt, root);
+    println!("cargo::rerun-if-changed={}", library.display());
     let out = PathBuf::from(var("OUT_DIR"));
-    let library = root.join("target/staticlib/libbagwezin.a");
     if let Err(e) = std::fs::copy(&library, out.join("libbagwezin.a")) {
         fail(&format!("{}: {e}", library.display()));
     }
