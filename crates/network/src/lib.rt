@@ -6,7 +6,8 @@ ghost use Rattle.model.specs.Network.{noNetwork, refusedReading, maxPairs};
 ghost use Rattle.model.specs.Record.{fieldsAt};
 ghost use Rattle.model.specs.Areas.{padded};
 ghost use Rattle.model.specs.Row.{maxNodes, maxWidth};
-ghost use Rattle.nodes.specs.Nodes.{nodeInRecord, listsOf, ListsFit};
+ghost use Rattle.nodes.specs.Nodes.{listsOf};
+ghost use Rattle.node_records.specs.NodeRecords.{nodeInRecord, ListsFit};
 ghost use Rattle.network.specs.Reading.{ReadsNetwork, Built, networkOf, readingOf};
 ghost use Rattle.network.specs.Reading.{slotNode, Shaped, InputsBelow, WidthIs, LevelIs};
 use nodes::Item;
@@ -162,7 +163,7 @@ pub fn read_network(bytes: &[u8]) -> Reading
     while at < bytes.len() {
         let here = at;
         let count = net.count;
-        let reading = nodes::read_record(bytes, here, count, &net.widths, &net.signs);
+        let reading = node_records::read_record(bytes, here, count, &net.widths, &net.signs);
         let Record::Item(item) = reading else {
             return refused_reading(nodes::number_of(reading), here);
         };

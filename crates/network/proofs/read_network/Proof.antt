@@ -18,7 +18,7 @@ use Rattle.network.proofs.refused_reading.Reads as refused-reading-read
 use Rattle.network.proofs.slot_at.Reads as slot-at-reads
 use Rattle.network.proofs.width_of.Reads as width-of-reads
 use Rattle.nodes.proofs.number_of.Reads as number-of-reads
-use Rattle.nodes.proofs.read_record.Reads as read-record-reads
+use Rattle.node_records.proofs.read_record.Reads as read-record-reads
 use Rattle.records.proofs.u16_at.Reads as u16-at-reads
 
 abbrev Inv-loop : tie.InvT-loop
