@@ -77,9 +77,9 @@ zero-all s from to bits k e z =
 
 -- ---- the same words
 
--- the words before index k are the same: those from there on decide
-abbrev pub SameTo : List ℕ → List ℕ → ℕ → ℕ → Type 0
-SameTo a b count k = sameFirst count a b ≡ sameRow (slice k count a) (slice k count b)
+-- whether the words before index k are the same, and the words from there on decide
+abbrev pub SameTo : List ℕ → List ℕ → ℕ → Bool → ℕ → Type 0
+SameTo a b count same k = sameFirst count a b ≡ (same && sameRow (slice k count a) (slice k count b))
 
 unequal : (x y : ℕ) (o : Ordering) → (x ≡ y → ⊥) → isEq (andThen (compare x y) o) ≡ false
 unequal x y o h = go (compare x y) refl
@@ -89,12 +89,22 @@ unequal x y o h = go (compare x y) refl
     go Ordering·eq e = absurd (h (compare-says x y Ordering·eq e))
     go Ordering·gt e = refl
 
-pub same-more : (a b : List ℕ) (count k : ℕ) → k < count → count ≤ length a → count ≤ length b → SameTo a b count k → getD a k 0 ≡ getD b k 0 → SameTo a b count (k + 1)
-same-more a b count k h f g z e = z ∙ rw (add-one, slice-cons k count a 0 h f, slice-cons k count b 0 h g, eq-compare (getD a k 0) (getD b k 0) e)
+-- a word and those behind it
+word-same : (x y : ℕ) (o : Ordering) → isEq (andThen (compare x y) o) ≡ (eqb x y && isEq o)
+word-same x y o = go (eqb x y) refl
+  where
+    go : (t : Bool) → eqb x y ≡ t → isEq (andThen (compare x y) o) ≡ (t && isEq o)
+    go true e = rw (eq-compare x y (eqb-true x y e))
+    go false e = unequal x y o (eqb-false x y e)
 
-pub same-not : (a b : List ℕ) (count k : ℕ) → k < count → count ≤ length a → count ≤ length b → SameTo a b count k → (getD a k 0 ≡ getD b k 0 → ⊥) → sameFirst count a b ≡ false
-same-not a b count k h f g z e =
-    z ∙ rw (slice-cons k count a 0 h f, slice-cons k count b 0 h g) (unequal (getD a k 0) (getD b k 0) (order (slice (suc k) count a) (slice (suc k) count b)) e)
+pub same-more : (a b : List ℕ) (count : ℕ) (same : Bool) (k : ℕ) → k < count → count ≤ length a → count ≤ length b → SameTo a b count same k →
+    SameTo a b count (same && eqb (getD a k 0) (getD b k 0)) (k + 1)
+same-more a b count same k h f g z =
+    let first : sameRow (slice k count a) (slice k count b) ≡ (eqb (getD a k 0) (getD b k 0) && sameRow (slice (k + 1) count a) (slice (k + 1) count b)) =
+    rw (add-one, slice-cons k count a 0 h f, slice-cons k count b 0 h g) (word-same (getD a k 0) (getD b k 0) (order (slice (suc k) count a) (slice (suc k) count b))) in
+    z ∙ ap (λ (t : Bool). same && t) first ∙ sym (and-assoc same (eqb (getD a k 0) (getD b k 0)) (sameRow (slice (k + 1) count a) (slice (k + 1) count b)))
 
-pub same-all : (a b : List ℕ) (count k : ℕ) → k ≡ count → SameTo a b count k → sameFirst count a b ≡ true
-same-all a b count k e z = z ∙ rw (e, slice-empty count a, slice-empty count b)
+pub same-all : (a b : List ℕ) (count : ℕ) (same : Bool) (k : ℕ) → k ≡ count → SameTo a b count same k → same ≡ sameFirst count a b
+same-all a b count same k e z =
+    let none : sameRow (slice k count a) (slice k count b) ≡ true = rw (e, slice-empty count a, slice-empty count b) in
+    sym (z ∙ ap (λ (t : Bool). same && t) none ∙ and-true same)

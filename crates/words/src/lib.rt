@@ -45,17 +45,16 @@ pub fn all_zero(words: &[u32], from: usize, to: usize) -> bool
     bits == 0
 }
 
-// Whether the first count words of a and of b are the same.
+// Whether the first count words of a and of b are the same, with no test at each word.
 pub fn same_words(a: &[u32], b: &[u32], count: usize) -> bool
     requires { ⌜ (count ≤ length (now a)) × (count ≤ length (now b)) ⌝ }
     ensures { λ r. ⌜ r ≡ sameFirst count (now (a .entry)) (now (b .entry)) ⌝ }
 {
+    let mut same = true;
     let mut k = 0;
     while k < count {
-        if a[k] != b[k] {
-            return false;
-        }
+        same = same & (a[k] == b[k]);
         k += 1;
     }
-    true
+    same
 }

@@ -1,38 +1,32 @@
-use mathlib.Core.Path.{refl, sym}
+use mathlib.Core.Path.{refl}
 use Prim.Native.Nat.{_≤_, _-_}
-use Rattle.words.proofs.Runs.{SameTo, same-more, same-not, same-all}
 use native.Mathlib.Omega.{arith}
+use Rattle.words.proofs.Runs.{SameTo, same-more, same-all}
 use Rattle.words.proofs.same_words.Statement.{statement}
 use Rattle.words.proofs.same_words.Tie as tie
 use Rattle.words.proofs.same_words.Reads as reads
 use Rattle.words.proofs.same_words.Lts as lts
 
 abbrev Inv-loop : tie.InvT-loop
-Inv-loop a b count k₀ k = (k ≤ count) × SameTo a b count k
+Inv-loop a b count same₀ k₀ same k = (k ≤ count) × SameTo a b count same k
 
 abbrev μ-loop : tie.MeasureT-loop
-μ-loop a b count k₀ k = count - k
+μ-loop a b count same₀ k₀ same k = count - k
 
 loop-holds : tie.Need-loop-holds Inv-loop μ-loop
 loop-holds c = (omega arith, refl)
 
-mul-if1 : tie.Need-mul-if1 Inv-loop μ-loop
-mul-if1 c = omega arith
+mul-same : tie.Need-mul-same Inv-loop μ-loop
+mul-same c = omega arith
 
-shared-slice-read-if1 : tie.Need-shared-slice-read-if1 Inv-loop μ-loop
-shared-slice-read-if1 c = omega arith
+shared-slice-read-same : tie.Need-shared-slice-read-same Inv-loop μ-loop
+shared-slice-read-same c = omega arith
 
-mul-if1-2 : tie.Need-mul-if1-2 Inv-loop μ-loop
-mul-if1-2 c = omega arith
+mul-same-2 : tie.Need-mul-same-2 Inv-loop μ-loop
+mul-same-2 c = omega arith
 
-shared-slice-read-if1-2 : tie.Need-shared-slice-read-if1-2 Inv-loop μ-loop
-shared-slice-read-if1-2 c = omega arith
-
-returns : tie.Need-returns Inv-loop μ-loop
-returns c =
-    let at = c .before .before .before .before in
-    let a = at .before .args in
-    sym (same-not (a .a .now) (a .b .now) (a .count) (at .loop .k) (omega arith) (omega arith) (omega arith) (at .loop .inv .1) (c .if1 .taken))
+shared-slice-read-same-2 : tie.Need-shared-slice-read-same-2 Inv-loop μ-loop
+shared-slice-read-same-2 c = omega arith
 
 add-k : tie.Need-add-k Inv-loop μ-loop
 add-k c = omega arith
@@ -41,15 +35,15 @@ loop-less : tie.Need-loop-less Inv-loop μ-loop
 loop-less c = omega arith
 
 loop-again : tie.Need-loop-again Inv-loop μ-loop
-loop-again c =
-    let at = c .before .before .before .before in
-    let a = at .before .args in
-    (omega arith, same-more (a .a .now) (a .b .now) (a .count) (at .loop .k) (omega arith) (omega arith) (omega arith) (at .loop .inv .1) (c .if1 .left))
+loop-again c = 
+    let l = c .before .before .before .loop in
+    let start = c .before .before .before .before in
+    (omega arith, same-more (start .args .a .now) (start .args .b .now) (start .args .count) (l .same) (l .k) (omega arith) (omega arith) (omega arith) (l .inv .1))
 
-returns-2 : tie.Need-returns-2 Inv-loop μ-loop
-returns-2 c =
+returns : tie.Need-returns Inv-loop μ-loop
+returns c = 
     let a = c .before .before .args in
-    sym (same-all (a .a .now) (a .b .now) (a .count) (c .before .loop .k) (omega arith) (c .before .loop .inv .1))
+    same-all (a .a .now) (a .b .now) (a .count) (c .before .loop .same) (c .before .loop .k) (omega arith) (c .before .loop .inv .1)
 
 pub same-words-spec : {M : Type 1} → statement M
 same-words-spec =
@@ -58,12 +52,11 @@ same-words-spec =
     Inv-loop
     μ-loop
     loop-holds
-    mul-if1
-    shared-slice-read-if1
-    mul-if1-2
-    shared-slice-read-if1-2
-    returns
+    mul-same
+    shared-slice-read-same
+    mul-same-2
+    shared-slice-read-same-2
     add-k
     loop-less
     loop-again
-    returns-2)
+    returns)
