@@ -9,14 +9,15 @@ use lib.Dec.{ltb}
 use borrow.Author.Tests.{eqb-true, lt-ltb, ltb-true}
 use Rattle.nodes.specs.declared.Operand.{Operand}
 use Rattle.places.specs.Places.{Blank, Fills}
-use Rattle.joins.specs.Joins.{JoinFits, JoinsIn}
+use Rattle.joins.specs.Joins.{JoinsIn}
+use Rattle.masks.specs.Masks.{JoinFits}
 use Rattle.selections.specs.Selections.{OperandIn}
 use Rattle.nodes.specs.declared.Operand.the-variants.{Column, Constant}
-use Rattle.joins.specs.declared.Joining.{Joining}
+use Rattle.masks.specs.declared.Joining.{Joining}
 use Rattle.model.specs.Network.{columnsBelow, operandBelow, pairsBelow, fitsOn, maxPairs}
 use Rattle.model.specs.Algebra.{Pair}
 use Rattle.laws.proofs.Sets.{and-both, and-first, and-second}
-use Rattle.joins.proofs.Rows.{columns-more}
+use Rattle.projections.proofs.Rows.{columns-more}
 use Rattle.nodes.specs.Nodes.{operandOf, pairsOf}
 use Rattle.model.specs.Row.{maxWidth}
 use Rattle.model.specs.Areas.{placeOf, stride}

@@ -5,7 +5,7 @@ ghost use Rattle.model.specs.Network.{evaluateSet, leftOf, rightOf, evaluateOn,
 ghost use Rattle.nodes.specs.Nodes.{operationOf};
 ghost use Rattle.network.specs.Reading.{slotNode, Shaped};
 ghost use Rattle.places.specs.Places.{Place, Blank, relationIn, Makes};
-use joins::Joining;
+use masks::Joining;
 use network::Slot;
 use nodes::Node;
 use nodes::SetOperation;
@@ -84,7 +84,7 @@ pub fn evaluate(slot: Slot, left: &[u32], l: Held, right: &[u32], r: Held, out: 
         Node::Project {
             input: _,
             columns: c,
-        } => joins::project_rows(left, n, &slot.columns, c, out),
+        } => projections::project_rows(left, n, &slot.columns, c, out),
         Node::Join {
             left: _,
             right: _,

@@ -1,3 +1,4 @@
 pub mod Gaps
 pub mod Edit
 pub mod Stand
+pub mod Shorter

@@ -7,9 +7,10 @@ ghost use lib.ListN.{length, take, drop};
 ghost use lib.Seq.{slice};
 ghost use Rattle.model.specs.Row.{ascending};
 ghost use Rattle.model.specs.Areas.{stride};
-ghost use Rattle.rows.specs.Rows.{rowAt, firstRows};
+ghost use Rattle.rows.specs.Rows.{rowAt, firstRows, locate};
 ghost use Rattle.insertions.specs.Insertions.{Inserts, Removes};
 use rows::Found;
+use rows::Order;
 use rows::STRIDE;
 
 // What inserting found.
@@ -48,6 +49,22 @@ fn close_gap(words: &mut [u32], from: usize, to: usize)
     }
 }
 
+// Where row at of src stands among the first n rows, which ascend, or where it belongs: often behind the last.
+fn find_from_end(words: &[u32], n: usize, src: &[u32], at: usize) -> Found
+    requires { ⌜ (n * stride ≤ length (now words)) × (at * stride + stride ≤ length (now src))
+        × (ascending (firstRows (now words) n) ≡ true) ⌝ }
+    ensures { λ r. ⌜ r ≡ locate (rowAt stride (now (src .entry)) at) (firstRows (now (words .entry)) n) ⌝ }
+{
+    if n == 0 {
+        return Found::Missing(0);
+    }
+    match rows::compare_rows(src, at, words, n - 1) {
+        Order::Less => rows::find(words, n - 1, src, at),
+        Order::Equal => Found::At(n - 1),
+        Order::Greater => Found::Missing(n),
+    }
+}
+
 // Row at of src put among the first n rows, which ascend, unless it is there or there are as many as there may be.
 pub fn insert(words: &mut [u32], n: usize, src: &[u32], at: usize, capacity: usize) -> Inserted
     requires { ⌜ (n ≤ capacity) × (capacity * stride ≤ length (now words)) × (at * stride + stride ≤ length (now src))
@@ -56,7 +73,7 @@ pub fn insert(words: &mut [u32], n: usize, src: &[u32], at: usize, capacity: usi
         (now (words .entry))
         (now (words .exit)) r ⌝ }
 {
-    match rows::find(words, n, src, at) {
+    match find_from_end(words, n, src, at) {
         Found::At(_) => Inserted::Present,
         Found::Missing(p) => {
             if capacity <= n {

@@ -1,4 +1,2 @@
 pub mod Joins
-pub mod Masks
-pub mod Projects
-pub mod Rows
+pub mod Masked

@@ -2,7 +2,7 @@ use native.Mathlib.Omega.{arith}
 use lib.ListN.{take}
 use borrow.Author.Needs.{needs}
 use Rattle.evaluation.proofs.evaluate.Statement.{statement}
-use Rattle.joins.proofs.Rows.{columns-more}
+use Rattle.projections.proofs.Rows.{columns-more}
 use Rattle.model.specs.Network.{evaluateOn, evaluateSet}
 use Rattle.evaluation.proofs.Inside.{fills-none, join-fits, join-inside, operand-narrow, project-inside, select-inside, set-inside}
 use Rattle.model.specs.Algebra.{joinRows, projectRows}
@@ -83,6 +83,7 @@ join-rows-requires c κs =
       ),
       fits,
       c .before .before .before .before .before .before .before .before .before .pre .4,
+      place-few (a .r .width) (a .right .now) (a .r .count) (c .before .before .before .before .before .before .before .before .before .pre .2),
     )
 
 enum-known-node-4 : tie.Need-enum-known-node-4

@@ -18,7 +18,7 @@ use Rattle.insertions.proofs.insert.Tie as tie
 use Rattle.insertions.proofs.insert.Reads as reads
 use Rattle.insertions.proofs.insert.Lts as lts
 use Rattle.words.proofs.copy_run.Reads as copy-run-reads
-use Rattle.rows.proofs.find.Reads as find-reads
+use Rattle.insertions.proofs.find_from_end.Reads as find-from-end-reads
 use Rattle.insertions.proofs.open_gap.Reads as open-gap-reads
 
 -- the rows ascend
@@ -29,13 +29,13 @@ ascends c = ascending-holds (firstRows (c .args .words .now) (c .args .n)) (c .p
 spot : (c : tie.After-p) →
     Spot (Missing (c .p .given .0 .0)) (rowAt stride (c .before .before .before .before .before .before .args .src .now) (c .before .before .before .before .before .before .args .at))
     (firstRows (c .before .before .before .before .before .before .args .words .now) (c .before .before .before .before .before .before .args .n))
-spot c = located-as _ _ _ (ascends (c .before .before .before .before .before .before)) (sym (c .before .before .find .ensures) ∙ c .p .given .1)
+spot c = located-as _ _ _ (ascends (c .before .before .before .before .before .before)) (sym (c .before .before .find-from-end .ensures) ∙ c .p .given .1)
 
 within : (c : tie.After-p) → c .p .given .0 .0 ≤ c .before .before .before .before .before .before .args .n
 within c = rw length-rows at (spot c .0)
 
-find-requires : tie.Need-find-requires
-find-requires c κs = search needs
+find-from-end-requires : tie.Need-find-from-end-requires
+find-from-end-requires c κs = search needs
 
 enum-told : tie.Need-enum-told
 enum-told c = search needs
@@ -77,7 +77,7 @@ returns-2 : tie.Need-returns-2
 returns-2 c =
     let a = c .before .before .before .before .before .before .args in
     inserts-present (a .capacity) (rowAt stride (a .src .now) (a .at)) (firstRows (a .words .now) (a .n)) (a .words .now) (c .enum-told .given .0 .0)
-    (located-as _ _ _ (ascends (c .before .before .before .before .before .before)) (sym (c .before .before .find .ensures) ∙ c .enum-told .given .1))
+    (located-as _ _ _ (ascends (c .before .before .before .before .before .before)) (sym (c .before .before .find-from-end .ensures) ∙ c .enum-told .given .1))
 
 same-length-3 : tie.Need-same-length-3
 same-length-3 c = search needs
@@ -99,7 +99,7 @@ pub insert-spec : {M : Type 1} → statement M
 insert-spec =
     tie.close
     (tie.spec
-    find-requires
+    find-from-end-requires
     enum-told
     enum-known-p
     same-length

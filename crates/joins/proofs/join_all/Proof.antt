@@ -16,30 +16,38 @@ use Rattle.joins.proofs.join_all.Tie as tie
 use Rattle.joins.proofs.join_all.Reads as reads
 use Rattle.joins.proofs.join_all.Lts as lts
 use Rattle.joins.proofs.join_row.Reads as join-row-reads
+use Rattle.keys.proofs.keys_of.Reads as keys-of-reads
 
 abbrev Inv-loop : tie.InvT-loop
-Inv-loop left n right m how out₀ count₀ i₀ out count i = (i ≤ n) × (length out ≡ placeSize) × Stands (putUpTo (joinedWith how (firstRows right m)) [] left i) out count
+Inv-loop left n right m out₀ how keys count₀ i₀ out count i = (i ≤ n) × (length out ≡ placeSize) × Stands (putUpTo (joinedWith how (firstRows right m)) [] left i) out count
 
 abbrev μ-loop : tie.MeasureT-loop
-μ-loop left n right m how out₀ count₀ i₀ out count i = n - i
+μ-loop left n right m out₀ how keys count₀ i₀ out count i = n - i
+
+keys-of-requires : tie.Need-keys-of-requires Inv-loop μ-loop
+keys-of-requires c κs =
+    let start = c .before .before .before .before .before .before in
+    let fits = start .pre .2 in
+    (start .pre .4, start .pre .1, fits .pairs-long, omega (arith, fits .pairs-long), omega arith, fits .pairs)
 
 loop-holds : tie.Need-loop-holds Inv-loop μ-loop
-loop-holds c = let a = c .before .before .before .args
-    in (
+loop-holds c =
+    let start = c .before .before .before .before .before .before .before in
+    let a = start .args in
+    let right = firstRows (a .right .now) (a .m) in (
       omega arith,
-      ap length (c .before .before .before .pre .3) ∙ length-replicate {A = ℕ} placeSize 0,
-      put-start (joinedWith (a .how) (firstRows (a .right .now) (a .m))) [] (a .left .now)
-          (a .n) (λ l e. wide-with (a .how) (c .before .before .before .pre .2) (firstRows (a .right .now) (a .m)) l e (wide-rows stride (a .right .now) 0 (a .m))) tt tt (a .out .now) 0
-          (stands-none (a .out .now) (c .before .before .before .pre .3)),
+      ap length (start .pre .3) ∙ length-replicate {A = ℕ} placeSize 0,
+      put-start (joinedWith (a .t5) right) [] (a .left .now) (a .n) (λ l e. wide-with (a .t5) (start .pre .2) right l e (wide-rows stride (a .right .now) 0 (a .m))) tt tt (a .out .now) 0 (stands-none (a .out .now) (start .pre .3)),
     )
 
 join-row-requires : tie.Need-join-row-requires Inv-loop μ-loop
 join-row-requires c κs =
-    let a = c .before .before .before .before .before .before .args in
-    let r = put-ready (joinedWith (a .how) (firstRows (a .right .now) (a .m))) [] (a .left .now) (a .n)
-    (λ l e. wide-with (a .how) (c .before .before .before .before .before .before .pre .2) (firstRows (a .right .now) (a .m)) l e (wide-rows stride (a .right .now) 0 (a .m))) tt tt
-    (c .before .before .loop .i) (c .before .before .loop .out) (c .before .before .loop .count) (c .before .before .loop .inv .2) in
-    (omega arith, c .before .before .before .before .before .before .pre .1, c .before .before .before .before .before .before .pre .2, r .0, r .1, c .before .before .loop .inv .1)
+    let start = c .before .before .before .before .before .before .before .before .before .before .before in
+    let a = start .args in
+    let l = c .before .before .before .loop in
+    let right = firstRows (a .right .now) (a .m) in
+    let r = put-ready (joinedWith (a .t5) right) [] (a .left .now) (a .n) (λ l e. wide-with (a .t5) (start .pre .2) right l e (wide-rows stride (a .right .now) 0 (a .m))) tt tt (l .i) (l .out) (l .count) (l .inv .2) in
+    (omega arith, start .pre .1, start .pre .2, r .0, r .1, l .inv .1, start .pre .4, c .before .before .before .before .keys-of .ensures)
 
 enum-known-more : tie.Need-enum-known-more Inv-loop μ-loop
 enum-known-more c = search needs
@@ -50,18 +58,18 @@ enum-told c = search needs
 same-length : tie.Need-same-length Inv-loop μ-loop
 same-length c =
     let full = rw (c .enum-told .given .1) at (c .before .before .before .before .join-row .ensures) in
-    omega (arith, full .1, ap length (c .before .before .before .before .before .before .before .before .before .before .before .pre .3))
+    omega (arith, full .1, ap length (c .before .before .before .before .before .before .before .before .before .before .before .before .before .before .before .before .pre .3))
 
 returns : tie.Need-returns Inv-loop μ-loop
 returns c =
-    let a = c .before .before .before .before .before .before .before .before .before .before .before .args in
-    let l = c .before .before .before .before .before .before .before .loop in
+    let start = c .before .before .before .before .before .before .before .before .before .before .before .before .before .before .before .before in
+    let a = start .args in
+    let l = c .before .before .before .before .before .before .before .before .loop in
     let p = c .before .before .before .before .join-row in
     let right = firstRows (a .right .now) (a .m) in
-    let fits = c .before .before .before .before .before .before .before .before .before .before .before .pre .2 in
-    let over = put-exceeds (joinedWith (a .how) right) [] (a .left .now) (a .n) (λ x e. wide-with (a .how) fits right x e (wide-rows stride (a .right .now) 0 (a .m))) tt tt (l .i) (l .out)
-    (p .last .1 .1 .1 .1 .1 .0) (l .count) (p .result) (c .enum-told .given .1) (omega arith) (l .inv .2) (p .ensures) in
-    (rw (← put-all (joinedWith (a .how) right) (a .left .now) (a .n)) (over .0), over .1)
+    let over = put-exceeds (joinedWith (a .t5) right) [] (a .left .now) (a .n) (λ l e. wide-with (a .t5) (start .pre .2) right l e (wide-rows stride (a .right .now) 0 (a .m))) tt tt (l .i) (l .out)
+    (p .last .1 .1 .1 .1 .1 .1 .0) (l .count) (p .result) (c .enum-told .given .1) (omega (arith, c .before .before .before .before .before .before .before .loop-test .taken)) (l .inv .2) (p .ensures) in
+    (rw (← put-all (joinedWith (a .t5) right) (a .left .now) (a .n)) (over .0), over .1)
 
 add-i : tie.Need-add-i Inv-loop μ-loop
 add-i c = omega arith
@@ -71,24 +79,24 @@ loop-less c = omega arith
 
 loop-again : tie.Need-loop-again Inv-loop μ-loop
 loop-again c =
-    let a = c .before .before .before .before .before .before .before .before .before .before .before .before .args in
-    let l = c .before .before .before .before .before .before .before .before .loop in
+    let start = c .before .before .before .before .before .before .before .before .before .before .before .before .before .before .before .before .before in
+    let a = start .args in
+    let l = c .before .before .before .before .before .before .before .before .before .loop in
     let p = c .before .before .before .before .before .join-row in
     let right = firstRows (a .right .now) (a .m) in
-    let fits = c .before .before .before .before .before .before .before .before .before .before .before .before .pre .2 in
-    let s = put-stands (joinedWith (a .how) right) [] (a .left .now) (a .n) (λ x e. wide-with (a .how) fits right x e (wide-rows stride (a .right .now) 0 (a .m))) tt tt (l .i) (l .out)
-    (p .last .1 .1 .1 .1 .1 .0) (l .count) (c .before .more .given .0 .0) (p .result) (c .before .more .given .1) (l .inv .2) (p .ensures) in
-    (omega arith, s .0, s .1)
+    let s = put-stands (joinedWith (a .t5) right) [] (a .left .now) (a .n) (λ l e. wide-with (a .t5) (start .pre .2) right l e (wide-rows stride (a .right .now) 0 (a .m))) tt tt (l .i) (l .out)
+    (p .last .1 .1 .1 .1 .1 .1 .0) (l .count) (c .before .more .given .0 .0) (p .result) (c .before .more .given .1) (l .inv .2) (p .ensures) in
+    (omega (arith, c .before .before .before .before .before .before .before .before .loop-test .taken), s .0, s .1)
 
 same-length-2 : tie.Need-same-length-2 Inv-loop μ-loop
-same-length-2 c = omega (arith, ap length (c .before .before .before .before .before .pre .3))
+same-length-2 c = omega (arith, ap length (c .before .before .before .before .before .before .before .before .before .pre .3))
 
 returns-2 : tie.Need-returns-2 Inv-loop μ-loop
 returns-2 c =
-    let a = c .before .before .before .before .before .args in
+    let a = c .before .before .before .before .before .before .before .before .before .args in
     let e : c .before .loop .i ≡ a .n = omega arith in
     let s = rw e at (c .before .loop .inv .2) in
-    rw (← put-all (joinedWith (a .how) (firstRows (a .right .now) (a .m))) (a .left .now) (a .n)) s
+    rw (← put-all (joinedWith (a .t5) (firstRows (a .right .now) (a .m))) (a .left .now) (a .n)) s
 
 pub join-all-spec : {M : Type 1} → statement M
 join-all-spec =
@@ -96,6 +104,7 @@ join-all-spec =
     (tie.spec
     Inv-loop
     μ-loop
+    keys-of-requires
     loop-holds
     join-row-requires
     enum-known-more

@@ -1,19 +1,21 @@
 use mathlib.Core.Path.{refl, ap, _∙_}
+use Prim.Native.Nat.{_+_}
 use native.Mathlib.Omega.{arith}
 use lib.Seq.{take-all}
 use Rattle.model.specs.Areas.{stride}
 use Rattle.rows.specs.Rows.{firstRows}
+use Rattle.masks.proofs.Masks.{uses}
 use Rattle.joins.specs.Joins.{joinedRows}
-use Rattle.joins.proofs.Masks.{masked-long, masked-rows, right-masked}
+use Rattle.joins.proofs.Masked.{masked-long, masked-rows, right-masked}
 use borrow.Author.Needs.{needs}
 use Rattle.joins.proofs.join_masked.Statement.{statement}
 use Rattle.joins.proofs.join_masked.Tie as tie
 use Rattle.joins.proofs.join_masked.Reads as reads
 use Rattle.joins.proofs.join_masked.Lts as lts
-use Rattle.joins.proofs.leaves_rows.Reads as leaves-rows-reads
+use Rattle.masks.proofs.leaves_rows.Reads as leaves-rows-reads
 use Rattle.joins.proofs.join_all.Reads as join-all-reads
-use Rattle.joins.proofs.mask_rows.Reads as mask-rows-reads
-use Rattle.joins.proofs.used_columns.Reads as used-columns-reads
+use Rattle.projections.proofs.mask_rows.Reads as mask-rows-reads
+use Rattle.masks.proofs.used_columns.Reads as used-columns-reads
 
 join-all-requires : tie.Need-join-all-requires
 join-all-requires c κs = search needs
@@ -49,13 +51,12 @@ slice-aggregate-mask-rows-2 : tie.Need-slice-aggregate-mask-rows-2
 slice-aggregate-mask-rows-2 c = search needs
 
 mask-rows-requires : tie.Need-mask-rows-requires
-mask-rows-requires c κs = let u = c .before .before .before .before .before .used-columns .ensures in (
-  c .before .before .before .before .before .before .before .before .before .before .before .pre .1,
-  omega arith,
-  omega (arith, u .mask .size),
-  rw (take-all stride (c .before .before .before .before .before .used-columns .result) (omega (arith, u .mask .size))) (u .mask .below),
-  refl,
-)
+mask-rows-requires c κs =
+    let start = c .before .before .before .before .before .before .before .before .before .before .before in
+    let a = start .args in
+    let q = c .before .before .before .before .before .used-columns in
+    let u = uses (a .how) (start .pre .2) 1 (a .how .split) (a .how .split + stride) (omega arith) (omega arith) (q .result) (q .ensures) in
+    (start .pre .1, omega arith, omega (arith, u .mask .size), rw (take-all stride (q .result) (omega (arith, u .mask .size))) (u .mask .below), refl)
 
 enum-known-k : tie.Need-enum-known-k
 enum-known-k c = search needs
@@ -82,7 +83,8 @@ join-all-requires-4 c κs =
     let q = c .before .before .before .before .before .before .mask-rows in
     let u = c .before .before .before .before .before .before .before .before .before .before .before .before .used-columns in
     let st = rw (c .before .before .before .k .given .1) at (q .ensures) in
-    (start .pre .0, masked-long (u .result) (u .ensures .mask) (a .right .now) (a .m) (q .last .1 .1 .1 .1 .0) (c .before .before .before .k .given .0 .0) st, start .pre .2, start .pre .3)
+    let us = uses (a .how) (start .pre .2) 1 (a .how .split) (a .how .split + stride) (omega arith) (omega arith) (u .result) (u .ensures) in
+    (start .pre .0, masked-long (u .result) (us .mask) (a .right .now) (a .m) (q .last .1 .1 .1 .1 .0) (c .before .before .before .k .given .0 .0) st, start .pre .2, start .pre .3, st .few)
 
 same-length-4 : tie.Need-same-length-4
 same-length-4 c = search needs
@@ -98,8 +100,9 @@ returns-4 c =
     let left = firstRows (a .left .now) (a .n) in
     let right = firstRows (a .right .now) (a .m) in
     let st = rw (k .1) at (q .ensures) in
-    let same = ap (joinedRows (a .how) left) (masked-rows (u .result) (u .ensures .mask) (a .right .now) (a .m) (q .last .1 .1 .1 .1 .0) (k .0 .0) st)
-    ∙ right-masked (a .how) (start .pre .2) (u .result) (u .ensures) left right in
+    let us = uses (a .how) (start .pre .2) 1 (a .how .split) (a .how .split + stride) (omega arith) (omega arith) (u .result) (u .ensures) in
+    let same = ap (joinedRows (a .how) left) (masked-rows (u .result) (us .mask) (a .right .now) (a .m) (q .last .1 .1 .1 .1 .0) (k .0 .0) st)
+    ∙ right-masked (a .how) (start .pre .2) (u .result) us left right in
     rw (← same) (p .ensures)
 
 pub join-masked-spec : {M : Type 1} → statement M

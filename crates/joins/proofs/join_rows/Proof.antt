@@ -4,19 +4,20 @@ use native.Mathlib.Omega.{arith}
 use lib.Seq.{take-all}
 use Rattle.model.specs.Areas.{stride}
 use Rattle.rows.specs.Rows.{firstRows}
+use Rattle.masks.proofs.Masks.{uses}
 use Rattle.joins.specs.Joins.{joinedRows}
 use Rattle.model.specs.Row.{Row}
 use Rattle.joins.proofs.Joins.{join-makes}
-use Rattle.joins.proofs.Masks.{left-masked, masked-long, masked-rows}
+use Rattle.joins.proofs.Masked.{left-masked, masked-long, masked-rows}
 use borrow.Author.Needs.{needs}
 use Rattle.joins.proofs.join_rows.Statement.{statement}
 use Rattle.joins.proofs.join_rows.Tie as tie
 use Rattle.joins.proofs.join_rows.Reads as reads
 use Rattle.joins.proofs.join_rows.Lts as lts
-use Rattle.joins.proofs.leaves_rows.Reads as leaves-rows-reads
+use Rattle.masks.proofs.leaves_rows.Reads as leaves-rows-reads
 use Rattle.joins.proofs.join_masked.Reads as join-masked-reads
-use Rattle.joins.proofs.mask_rows.Reads as mask-rows-reads
-use Rattle.joins.proofs.used_columns.Reads as used-columns-reads
+use Rattle.projections.proofs.mask_rows.Reads as mask-rows-reads
+use Rattle.masks.proofs.used_columns.Reads as used-columns-reads
 
 join-masked-requires : tie.Need-join-masked-requires
 join-masked-requires c κs = search needs
@@ -55,13 +56,12 @@ slice-aggregate-mask-rows-2 : tie.Need-slice-aggregate-mask-rows-2
 slice-aggregate-mask-rows-2 c = search needs
 
 mask-rows-requires : tie.Need-mask-rows-requires
-mask-rows-requires c κs = let u = c .before .before .before .before .before .used-columns .ensures in (
-  c .before .before .before .before .before .before .before .before .before .before .pre .0,
-  omega arith,
-  omega (arith, u .mask .size),
-  rw (take-all stride (c .before .before .before .before .before .used-columns .result) (omega (arith, u .mask .size))) (u .mask .below),
-  refl,
-)
+mask-rows-requires c κs =
+    let start = c .before .before .before .before .before .before .before .before .before .before in
+    let a = start .args in
+    let q = c .before .before .before .before .before .used-columns in
+    let u = uses (a .how) (start .pre .2) 0 0 (a .how .split) (omega arith) (omega (arith, start .pre .2 .split)) (q .result) (q .ensures) in
+    (start .pre .0, omega arith, omega (arith, u .mask .size), rw (take-all stride (q .result) (omega (arith, u .mask .size))) (u .mask .below), refl)
 
 enum-known-k : tie.Need-enum-known-k
 enum-known-k c = search needs
@@ -91,7 +91,8 @@ join-masked-requires-4 c κs =
     let q = c .before .before .before .before .before .before .mask-rows in
     let u = c .before .before .before .before .before .before .before .before .before .before .before .before .used-columns in
     let st = rw (c .before .before .before .k .given .1) at (q .ensures) in
-    (masked-long (u .result) (u .ensures .mask) (a .left .now) (a .n) (q .last .1 .1 .1 .1 .0) (c .before .before .before .k .given .0 .0) st, start .pre .1, start .pre .2, start .pre .3)
+    let us = uses (a .how) (start .pre .2) 0 0 (a .how .split) (omega arith) (omega (arith, start .pre .2 .split)) (u .result) (u .ensures) in
+    (masked-long (u .result) (us .mask) (a .left .now) (a .n) (q .last .1 .1 .1 .1 .0) (c .before .before .before .k .given .0 .0) st, start .pre .1, start .pre .2, start .pre .3, start .pre .4)
 
 same-length-4 : tie.Need-same-length-4
 same-length-4 c = search needs
@@ -107,8 +108,9 @@ returns-4 c =
     let left = firstRows (a .left .now) (a .n) in
     let right = firstRows (a .right .now) (a .m) in
     let st = rw (k .1) at (q .ensures) in
-    let same = ap (λ (l : List Row). joinedRows (a .how) l right) (masked-rows (u .result) (u .ensures .mask) (a .left .now) (a .n) (q .last .1 .1 .1 .1 .0) (k .0 .0) st)
-    ∙ left-masked (a .how) (start .pre .2) (u .result) (u .ensures) left right in
+    let us = uses (a .how) (start .pre .2) 0 0 (a .how .split) (omega arith) (omega (arith, start .pre .2 .split)) (u .result) (u .ensures) in
+    let same = ap (λ (l : List Row). joinedRows (a .how) l right) (masked-rows (u .result) (us .mask) (a .left .now) (a .n) (q .last .1 .1 .1 .1 .0) (k .0 .0) st)
+    ∙ left-masked (a .how) (start .pre .2) (u .result) us left right in
     λ w pl pr inside. join-makes (a .how) w (a .left .now) (a .n) (a .right .now) (a .m) pl pr inside (start .pre .2) (p .last .1 .1 .1 .1 .1 .0) (p .result) (rw (← same) (p .ensures))
 
 pub join-rows-spec : {M : Type 1} → statement M

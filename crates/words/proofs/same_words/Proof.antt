@@ -35,13 +35,13 @@ loop-less : tie.Need-loop-less Inv-loop μ-loop
 loop-less c = omega arith
 
 loop-again : tie.Need-loop-again Inv-loop μ-loop
-loop-again c = 
+loop-again c =
     let l = c .before .before .before .loop in
     let start = c .before .before .before .before in
     (omega arith, same-more (start .args .a .now) (start .args .b .now) (start .args .count) (l .same) (l .k) (omega arith) (omega arith) (omega arith) (l .inv .1))
 
 returns : tie.Need-returns Inv-loop μ-loop
-returns c = 
+returns c =
     let a = c .before .before .args in
     same-all (a .a .now) (a .b .now) (a .count) (c .before .loop .same) (c .before .loop .k) (omega arith) (c .before .loop .inv .1)
 

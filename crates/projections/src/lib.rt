@@ -1,0 +1,74 @@
+// Some columns of rows: projection (kind 4) on places, and what joins make their rows with.
+ghost use mathlib.Core.Path.{_≡_};
+ghost use mathlib.Core.Bool.{true};
+ghost use Prim.Native.Nat.{ℕ, _+_, _*_, _≤_};
+ghost use lib.ListN.{length, take};
+ghost use Rattle.model.specs.Row.{maxWidth};
+ghost use Rattle.model.specs.Algebra.{projectRows};
+ghost use Rattle.model.specs.Network.{columnsBelow};
+ghost use Rattle.model.specs.Areas.{stride};
+ghost use Rattle.rows.specs.Rows.{rowAt, firstRows};
+ghost use Rattle.places.specs.Places.{Place, Blank, relationIn, Stored, Makes};
+ghost use Rattle.projections.specs.Projections.{joinedRow, maskedRows};
+use places::Made;
+use rows::STRIDE;
+
+// The first n of some columns of row i of the left place followed by row j of the right one, then zeros.
+pub fn columns_row(
+    left: &[u32],
+    i: usize,
+    right: &[u32],
+    j: usize,
+    split: usize,
+    columns: &[usize],
+    n: usize,
+) -> [u32; STRIDE]
+    requires { ⌜ (i * stride + stride ≤ length (now left)) × (j * stride + stride ≤ length (now right))
+        × (split ≤ stride) × (n ≤ maxWidth) × (n ≤ length (now columns))
+        × (columnsBelow (split + stride) (take n (now columns)) ≡ true) ⌝ }
+    ensures { λ r. ⌜ r ≡ joinedRow split (take n (now (columns .entry))) (rowAt stride (now (left .entry)) i)
+        (rowAt stride (now (right .entry)) j) ⌝ }
+{
+    let mut both = [0u32; 2 * STRIDE];
+    words::copy_run(left, i * STRIDE, &mut both, 0, STRIDE);
+    words::copy_run(right, j * STRIDE, &mut both, split, STRIDE);
+    let mut row = [0u32; STRIDE];
+    let mut k = 0;
+    while k < n {
+        row[k] = both[columns[k]];
+        k += 1;
+    }
+    row
+}
+
+// Some columns of each row followed by zeros, in an empty place: how many rows, or that they are more than 64.
+pub fn mask_rows(input: &[u32], n: usize, columns: &[usize], c: usize, out: &mut [u32]) -> Made
+    requires { ⌜ (n * stride ≤ length (now input)) × (c ≤ maxWidth) × (c ≤ length (now columns))
+        × (columnsBelow (stride + stride) (take c (now columns)) ≡ true) × Blank (now out) ⌝ }
+    ensures { λ r. ⌜ Stored (maskedRows (take c (now (columns .entry))) (firstRows (now (input .entry)) n))
+        (now (out .exit)) r ⌝ }
+{
+    let zeros = [0u32; STRIDE];
+    let mut count = 0;
+    let mut i = 0;
+    while i < n {
+        let row = columns_row(input, i, &zeros, 0, STRIDE, columns, c);
+        let Made::Rows(more) = places::put_row(out, count, &row, 0) else {
+            return Made::Over;
+        };
+        count = more;
+        i += 1;
+    }
+    Made::Rows(count)
+}
+
+// The named columns of a place's rows, in an empty place: how many rows, or that they are more than 64.
+pub fn project_rows(input: &[u32], n: usize, columns: &[usize], c: usize, out: &mut [u32]) -> Made
+    requires { ⌜ (n * stride ≤ length (now input)) × (c ≤ maxWidth) × (c ≤ length (now columns))
+        × (columnsBelow stride (take c (now columns)) ≡ true) × Blank (now out) ⌝ }
+    ensures { λ r. ⌜ ((w : ℕ) → Place w (now (input .entry)) n → columnsBelow w (take c (now (columns .entry))) ≡ true →
+        Makes (projectRows (take c (now (columns .entry))) (relationIn w (now (input .entry)) n))
+        (now (out .exit)) r) ⌝ }
+{
+    mask_rows(input, n, columns, c, out)
+}
