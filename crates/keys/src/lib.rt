@@ -1,4 +1,5 @@
-// Keys of rows: what a row holds in the columns of a join's pairs, as one number. Rows agree where their keys are equal.
+// Keys of rows: what a row holds in the columns of a join's pairs, as one number. Rows agree exactly where their keys
+// are equal.
 ghost use mathlib.Core.Path.{_≡_};
 ghost use mathlib.Core.Bool.{true};
 ghost use Prim.Native.Nat.{_+_, _*_, _≤_, _<_};
@@ -29,7 +30,8 @@ fn field_on(rows: &[u32], i: usize, pairs: &[usize], k: usize, side: usize) -> u
 pub fn key_of(rows: &[u32], i: usize, pairs: &[usize], p: usize, side: usize) -> u64
     requires { ⌜ (i * stride + stride ≤ length (now rows)) × (2 * p ≤ length (now pairs)) × (p ≤ maxPairs) × (side ≤ 1)
         × (pairsBelow stride stride (pairsOf p (now pairs)) ≡ true) ⌝ }
-    ensures { λ r. ⌜ Keyed (sideColumns side (pairsOf p (now (pairs .entry)))) (rowAt stride (now (rows .entry)) i) r ⌝ }
+    ensures { λ r. ⌜ Keyed (sideColumns side (pairsOf p (now (pairs .entry)))) (rowAt stride (now (rows .entry)) i)
+        r ⌝ }
 {
     if p < 1 {
         return 0;

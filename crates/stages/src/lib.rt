@@ -5,7 +5,7 @@ ghost use Rattle.stages.specs.declared.Stage.the-variants.{Begin, Cut, T
 ghost use Rattle.stages.specs.Stages.{files, hasInput, isOver};
 
 // The most bytes of a file.
-pub const MAX_FILE: usize = 65536;
+const MAX_FILE: usize = 65536;
 
 // Where the program stands: before everything; at the piece of the file that starts at an offset; at a node's lines of
 // the batch just applied, and then the piece that starts at an offset; at the end.

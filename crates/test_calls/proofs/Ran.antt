@@ -1,35 +1,24 @@
 -- An operation that was run, by its kind. Assumes nothing.
-use mathlib.Core.Path.{ap, refl, _≡_}
+use mathlib.Core.Path.{ap, refl, sym, _∙_, _≡_}
+use mathlib.Core.Bool.{Bool, true, false}
 use mathlib.Core.List.{List, [], _++_, append-nil}
-use Prim.Native.Nat.{ℕ, _+_, _≤_}
+use Prim.Native.Nat.{ℕ, suc, _+_, _≤_, _<_}
 use native.Mathlib.Omega.{arith}
-use lib.ListN.{drop, length, replicate, set, take}
-use borrow.Author.Tests.{ne-eqb}
+use lib.Dec.{leb}
+use lib.ListN.{drop, length, length-take, List·getD-eq-default, replicate, set, take}
+use lib.Seq.{sets, take-all}
+use borrow.Author.Tests.{leb-false, leb-true, ne-eqb}
 use Rattle.model.specs.Record.{Bytes}
 use Rattle.model.specs.Areas.{Areas}
 use Rattle.model.specs.Calls.{checkCall, longestReport}
 use Rattle.model.specs.Text.{line}
+use Rattle.laws.proofs.Parts.{sets-first}
 use Rattle.areas.specs.Lent.{lent}
-use Rattle.lines.specs.Written.{Put, PutLine}
-use Rattle.test_script.specs.declared.Operation.{Operation}
-use Rattle.test_runs.specs.Lines.{Opens, Reports, checkLine}
-use Rattle.test_runs.proofs.Told.{copied}
-use Rattle.test_calls.specs.Operations.{Call, Open, Check, Report, ShortRows, ShortGained, ShortLost, ShortHead, Few, Kind, Name, Network, Word, Values, Calls}
-use Rattle.test_calls.specs.Operations.{Runs, RunsCall, bytesWord, callOf, kindOf, reportOf, short, shortOf, stored, withGained, withHead, withLost, withRows}
-
--- ---- kinds, by the numbers that they are not
-
-pub kind-call : (n : ℕ) → (n ≡ 1 → ⊥) → (n ≡ 2 → ⊥) → (n ≡ 3 → ⊥) → (n ≡ 7 → ⊥) → kindOf n ≡ Calls (callOf n)
-kind-call n h1 h2 h3 h7 = rw (ne-eqb n 1 h1, ne-eqb n 2 h2, ne-eqb n 3 h3, ne-eqb n 7 h7)
-
-pub call-short : (n : ℕ) → (n ≡ 4 → ⊥) → (n ≡ 5 → ⊥) → (n ≡ 6 → ⊥) → callOf n ≡ shortOf n
-call-short n h4 h5 h6 = rw (ne-eqb n 4 h4, ne-eqb n 5 h5, ne-eqb n 6 h6)
-
-pub short-report : (n : ℕ) → (n ≡ 8 → ⊥) → (n ≡ 9 → ⊥) → (n ≡ 11 → ⊥) → shortOf n ≡ reportOf n
-short-report n h8 h9 h11 = rw (ne-eqb n 8 h8, ne-eqb n 9 h9, ne-eqb n 11 h11)
-
-pub report-few : (n : ℕ) → (n ≡ 10 → ⊥) → reportOf n ≡ Few
-report-few n h10 = rw (ne-eqb n 10 h10)
+use Rattle.lines.specs.Written.{PutLine}
+use Rattle.test_calls.specs.declared.script.Operation.{Operation}
+use Rattle.test_calls.specs.Lines.{Applies, Opens, Reports, Writes, checkLine}
+use Rattle.test_calls.specs.Operations.{Kind, Name, Network, Word, Open, Check, Report, Values, ShortRows, ShortGained, ShortLost, ShortHead, Batch, Clear}
+use Rattle.test_calls.specs.Operations.{Does, Leaves, Runs, bytesWord, kindOf, kinds, roomOf, short, stored, withGained, withHead, withLost, withRows}
 
 -- ---- words
 
@@ -47,65 +36,95 @@ module _ (area i v : ℕ) (a : Areas) where
       lent (a .rows) (a .gained) (a .lost) l ≡ stored area i v a
   stored-head n0 n1 n2 h = rw (ne-eqb area 0 n0, ne-eqb area 1 n1, ne-eqb area 2 n2) (ap (λ (l : List ℕ). withHead l a) h)
 
+-- ---- bytes
+
+-- a copy is written from the first byte on
+pub copied : (text part : Bytes) {after : Bytes} → after ≡ take (length part) part ++ drop (length part) text → length part ≤ length text → after ≡ sets text 0 part
+copied text part e h = e ∙ ap (λ (l : Bytes). l ++ drop (length part) text) (take-all (length part) part (omega arith)) ∙ sym (sets-first text part h)
+
+-- the first bytes are no more than so many
+pub length-take-small : (n : ℕ) (l : Bytes) → length (take n l) ≤ n
+length-take-small n l = omega (arith, length-take n l)
+
 -- ---- operations
 
--- a text with room enough
-wide : {shown text : Bytes} {most : ℕ} {after : Bytes} {r : ℕ} → length text ≡ 65536 → Put shown most 0 text after r → most ≤ 65536 → Put shown (length text) 0 text after r
-wide room p h = record { bytes = p .bytes; next = p .next; short = omega (arith, p .short) }
-
-module _ (node : ℕ) (net : Bytes) (a : Areas) (out text : Bytes) (room : length text ≡ 65536) where
-  pub ran-open : {k : Call} {after : Areas} {shown : Bytes} {r : ℕ} → k ≡ Open → Opens net [] a after text shown r → RunsCall k node net a after out out text shown r
-  ran-open e o = rw e (record { wrote = wide room (o .wrote) (omega arith); areas = o .areas; bytes = refl })
-
-  pub ran-check : {k : Call} {shown : Bytes} {r : ℕ} → k ≡ Check → PutLine (checkLine [] (checkCall net a)) [] 3 0 text shown r → RunsCall k node net a a out out text shown r
-  ran-check e p = rw e (record { wrote = wide room p (omega arith); areas = refl; bytes = refl })
-
-  pub ran-report : {k : Call} {after shown : Bytes} {r : ℕ} → k ≡ Report → Reports net [] node a out after text shown r → RunsCall k node net a a out after text shown r
-  ran-report e p = rw e (record { wrote = wide room (p .wrote) (omega arith); areas = refl; bytes = p .bytes })
-
-  pub ran-short-rows : {k : Call} {s g l h : List ℕ} {shown : Bytes} {r : ℕ} → k ≡ ShortRows → Opens net [] (withRows short a) (lent s g l h) text shown r →
-      RunsCall k node net a (lent (a .rows) g l h) out out text shown r
-  ran-short-rows e o = rw e (record { wrote = wide room (o .wrote) (omega arith); areas = ap (withRows (a .rows)) (o .areas); bytes = refl })
-
-  pub ran-short-gained : {k : Call} {shown : Bytes} {r : ℕ} → k ≡ ShortGained → PutLine (checkLine [] (checkCall net (withGained short a))) [] 3 0 text shown r →
-      RunsCall k node net a a out out text shown r
-  ran-short-gained e p = rw e (record { wrote = wide room p (omega arith); areas = refl; bytes = refl })
-
-  pub ran-short-lost : {k : Call} {after shown : Bytes} {r : ℕ} → k ≡ ShortLost → Reports net [] node (withLost short a) out after text shown r →
-      RunsCall k node net a a out after text shown r
-  ran-short-lost e p = rw e (record { wrote = wide room (p .wrote) (omega arith); areas = refl; bytes = p .bytes })
-
-  pub ran-short-head : {k : Call} {s g l h : List ℕ} {shown : Bytes} {r : ℕ} → k ≡ ShortHead → Opens net [] (withHead short a) (lent g l h s) text shown r →
-      RunsCall k node net a (lent g l h (a .head)) out out text shown r
-  ran-short-head e o = rw e (record { wrote = wide room (o .wrote) (omega arith); areas = ap (withHead (a .head)) (o .areas); bytes = refl })
-
-  pub ran-few : {k : Call} {after shown : Bytes} {r : ℕ} → k ≡ Few → Reports net [] node a (replicate 29 0) after text shown r → RunsCall k node net a a out out text shown r
-  ran-few e p = rw e (record { wrote = wide room (p .wrote) (omega arith); areas = refl; bytes = refl })
-
-  pub ran-same : {k l : Call} {after : Areas} {out-after shown : Bytes} {r : ℕ} → k ≡ l → RunsCall l node net a after out out-after text shown r →
-      RunsCall k node net a after out out-after text shown r
-  ran-same e p = rw e p
-
 module _ (op : Operation) (net part : Bytes) (a : Areas) (out text : Bytes) (room : length text ≡ 65536) where
+  -- what prints a text
+  leaves : {k : Kind} (j : Kind) {shown : Bytes} {areas after : Areas} {bytes out-after text-after : Bytes} {r : ℕ} → k ≡ j →
+      (Leaves shown areas bytes after out-after text text-after r → Does j op net part a out after out-after text text-after r) →
+      Leaves shown areas bytes after out-after text text-after r → Runs k op net part a after out out-after text text-after r
+  leaves j e is l = rw e (record { does = is l; fits = omega (arith, l .wrote .short) })
+
   pub ran-name : {k : Kind} {after : Bytes} {r : ℕ} → k ≡ Name → r ≡ length part → after ≡ take (length part) part ++ drop (length part) text → length part ≤ 65536 →
       Runs k op net part a a out out text after r
-  ran-name e n b h = rw e (record { wrote = record { bytes = copied text part b (omega arith); next = omega (arith, n); short = omega arith }; areas = refl; bytes = refl })
+  ran-name e n b h = leaves Name e (λ l. l)
+      (record { wrote = record { bytes = copied text part b (omega arith); next = omega (arith, n); short = omega arith }; areas-are = refl; bytes-are = refl })
 
-  nothing : Put [] (length text) 0 text text 0
+  nothing : Writes [] text text 0
   nothing = record { bytes = refl; next = omega arith; short = omega arith }
 
   pub ran-network : {k : Kind} → k ≡ Network → Runs k op net part a a out out text text 0
-  ran-network e = rw e (record { wrote = nothing; areas = refl; bytes = refl })
+  ran-network e = leaves Network e (λ l. l) (record { wrote = nothing; areas-are = refl; bytes-are = refl })
 
-  pub ran-word : {k : Kind} {after : Areas} → k ≡ Word → after ≡ stored (op .area) (op .index) (op .value) a → Runs k op net part a after out out text text 0
-  ran-word e h = rw e (record { wrote = nothing; areas = h; bytes = refl })
+  pub ran-word : {k : Kind} {after : Areas} {r : ℕ} → k ≡ Word → after ≡ stored (op .area) (op .index) (op .value) a → r ≡ 0 → Runs k op net part a after out out text text r
+  ran-word e h n = rw n (leaves Word e (λ l. l) (record { wrote = nothing; areas-are = h; bytes-are = refl }))
 
-  pub ran-values : {k : Kind} {shown : Bytes} {r : ℕ} → k ≡ Values → length out ≤ longestReport → PutLine (line bytesWord (out ++ [])) bytesWord (length out + 0) 0 text shown r →
+  pub ran-open : {k : Kind} {after : Areas} {shown : Bytes} {r : ℕ} → k ≡ Open → Opens net a after text shown r → Runs k op net part a after out out text shown r
+  ran-open e o = leaves Open e (λ l. l) (record { wrote = o .wrote; areas-are = o .areas; bytes-are = refl })
+
+  pub ran-check : {k : Kind} {shown : Bytes} {r : ℕ} → k ≡ Check → Writes (checkLine (checkCall net a)) text shown r → Runs k op net part a a out out text shown r
+  ran-check e p = leaves Check e (λ l. l) (record { wrote = p; areas-are = refl; bytes-are = refl })
+
+  pub ran-report : {k : Kind} (n : ℕ) {after shown : Bytes} {r : ℕ} → k ≡ Report → n ≡ roomOf (op .value) → Reports net (op .index) a (take n out) after text shown r →
+      Runs k op net part a a out (after ++ drop n out) text shown r
+  ran-report n e s p = leaves Report e (λ l. l)
+      (rw (← s) (record { wrote = p .wrote; areas-are = refl; bytes-are = ap (λ (l : Bytes). l ++ drop n out) (p .bytes) }))
+
+  pub ran-values : {k : Kind} (n : ℕ) {shown : Bytes} {r : ℕ} → k ≡ Values → n ≡ roomOf (op .value) → n ≤ longestReport →
+      PutLine (line bytesWord (take n out ++ [])) bytesWord (length (take n out) + 0) 0 text shown r → Runs k op net part a a out out text shown r
+  ran-values n {shown = shown} {r = r} e s h p =
+      let whole : Writes (line bytesWord (take n out ++ [])) text shown r = record { bytes = p .bytes; next = p .next; short = omega (arith, p .short, length-take-small n out) } in
+      leaves Values e (λ l. l) (record { wrote = rw (← s, ← append-nil (take n out)) whole; areas-are = refl; bytes-are = refl })
+
+  pub ran-short-rows : {k : Kind} {s g l h : List ℕ} {shown : Bytes} {r : ℕ} → k ≡ ShortRows → Opens net (withRows short a) (lent s g l h) text shown r →
+      Runs k op net part a (lent (a .rows) g l h) out out text shown r
+  ran-short-rows e o = leaves ShortRows e (λ l. l) (record { wrote = o .wrote; areas-are = ap (withRows (a .rows)) (o .areas); bytes-are = refl })
+
+  pub ran-short-gained : {k : Kind} {shown : Bytes} {r : ℕ} → k ≡ ShortGained → Writes (checkLine (checkCall net (withGained short a))) text shown r →
       Runs k op net part a a out out text shown r
-  ran-values {shown = shown} {r = r} e h p =
-      let whole : Put (line bytesWord (out ++ [])) (length text) 0 text shown r = wide room p (omega arith) in
-      rw e (record { wrote = rw (← append-nil out) whole; areas = refl; bytes = refl })
+  ran-short-gained e p = leaves ShortGained e (λ l. l) (record { wrote = p; areas-are = refl; bytes-are = refl })
 
-  pub ran-call : {k : Kind} {call : Call} {after : Areas} {out-after shown : Bytes} {r : ℕ} → k ≡ Calls call → RunsCall call (op .index) net a after out out-after text shown r →
-      Runs k op net part a after out out-after text shown r
-  ran-call e p = rw e (record { wrote = p .wrote; areas = p .areas; bytes = p .bytes })
+  pub ran-short-lost : {k : Kind} {after shown : Bytes} {r : ℕ} → k ≡ ShortLost → Reports net (op .index) (withLost short a) out after text shown r →
+      Runs k op net part a a out after text shown r
+  ran-short-lost e p = leaves ShortLost e (λ l. l) (record { wrote = p .wrote; areas-are = refl; bytes-are = p .bytes })
+
+  pub ran-short-head : {k : Kind} {s g l h : List ℕ} {shown : Bytes} {r : ℕ} → k ≡ ShortHead → Opens net (withHead short a) (lent g l h s) text shown r →
+      Runs k op net part a (lent g l h (a .head)) out out text shown r
+  ran-short-head e o = leaves ShortHead e (λ l. l) (record { wrote = o .wrote; areas-are = ap (withHead (a .head)) (o .areas); bytes-are = refl })
+
+  pub ran-batch : {k : Kind} {after : Areas} {shown : Bytes} {r : ℕ} → k ≡ Batch → Applies net part a after text shown r → Runs k op net part a after out out text shown r
+  ran-batch e o = rw e (record { does = record { applies = o; bytes-are = refl }; fits = omega (arith, o .wrote .short) })
+
+  pub ran-clear : {k : Kind} {after : Bytes} {r : ℕ} → k ≡ Clear → after ≡ replicate longestReport 0 → r ≡ 0 → Runs k op net part a a out after text text r
+  ran-clear e h n = rw n (leaves Clear e (λ l. l) (record { wrote = nothing; areas-are = refl; bytes-are = h }))
+
+-- ---- any other number
+
+down : (n k : ℕ) → n ≤ suc k → (n ≡ suc k → ⊥) → n ≤ k
+down n k h ne = omega arith
+
+below : (n k : ℕ) → n < suc k → n ≤ k
+below n k h = omega arith
+
+none : (n : ℕ) → n ≤ 0 → kindOf n ≡ Clear
+none n h = let z : n ≡ 0 = omega arith in rw z
+
+pub other : (n : ℕ) → (n ≡ 1 → ⊥) → (n ≡ 2 → ⊥) → (n ≡ 3 → ⊥) → (n ≡ 4 → ⊥) → (n ≡ 5 → ⊥) → (n ≡ 6 → ⊥) → (n ≡ 7 → ⊥) → (n ≡ 8 → ⊥) → (n ≡ 9 → ⊥) → (n ≡ 10 → ⊥) → (n ≡ 11 → ⊥) →
+    (n ≡ 12 → ⊥) → kindOf n ≡ Clear
+other n h1 h2 h3 h4 h5 h6 h7 h8 h9 h10 h11 h12 = go (leb 13 n) refl
+  where
+    go : (t : Bool) → leb 13 n ≡ t → kindOf n ≡ Clear
+    go true e = List·getD-eq-default kinds Clear (leb-true 13 n e)
+    go false e =
+        let high = down n 6 (down n 7 (down n 8 (down n 9 (down n 10 (down n 11 (below n 12 (leb-false 13 n e)) h12) h11) h10) h9) h8) h7 in
+        none n (down n 0 (down n 1 (down n 2 (down n 3 (down n 4 (down n 5 high h6) h5) h4) h3) h2) h1)

@@ -1,55 +1,50 @@
--- The operations of a script of calls: what each prints, and what it leaves.
+-- The operations of a script: what each prints, and what it leaves.
 use mathlib.Core.Path.{_≡_}
 use mathlib.Core.Bool.{cond}
-use mathlib.Core.List.{List, [], _∷_}
-use Prim.Native.Nat.{ℕ, _-_}
-use lib.Dec.{eqb}
-use lib.ListN.{length, replicate, set}
+use mathlib.Core.List.{List, [], _∷_, _++_}
+use Prim.Native.Nat.{ℕ, _-_, _≤_}
+use lib.Dec.{eqb, ltb}
+use lib.ListN.{drop, getD, length, replicate, set, take}
 use Rattle.model.specs.Record.{Bytes}
 use Rattle.model.specs.Areas.{Areas, headWords}
-use Rattle.model.specs.Calls.{openCall, checkCall, reportCall}
+use Rattle.model.specs.Calls.{checkCall, longestReport, openCall, reportCall}
 use Rattle.model.specs.Text.{line}
 use Rattle.areas.specs.Lent.{lent}
-use Rattle.lines.specs.Written.{Put}
-use Rattle.test_script.specs.declared.Operation.{Operation}
-use Rattle.test_runs.specs.Lines.{verdictLine, checkLine, reportLine}
+use Rattle.test_calls.specs.declared.script.Operation.{Operation}
+use Rattle.test_calls.specs.Lines.{Applies, Writes, checkLine, reportLine, verdictLine}
 
 -- ---- kinds
 
--- the calls, and calls with an area or the bytes for a report too short
-pub data Call : Type 0 where
-  Open : Call
-  Check : Call
-  Report : Call
-  ShortRows : Call
-  ShortGained : Call
-  ShortLost : Call
-  ShortHead : Call
-  Few : Call
-
--- text to print, the network, a word of an area, the bytes of the last report, a call
+-- text to print, the network, a word of an area, a call, the bytes that are lent for a report, a call with an area too
+-- short, a batch, the lent bytes set to 0
 pub data Kind : Type 0 where
   Name : Kind
   Network : Kind
   Word : Kind
+  Open : Kind
+  Check : Kind
+  Report : Kind
   Values : Kind
-  Calls : Call → Kind
+  ShortRows : Kind
+  ShortGained : Kind
+  ShortLost : Kind
+  ShortHead : Kind
+  Batch : Kind
+  Clear : Kind
 
--- by number: a report with something too short; any other number is one into few bytes
-abbrev pub reportOf : ℕ → Call
-reportOf n = cond (eqb n 10) ShortLost Few
+-- by number
+abbrev pub kinds : List Kind
+kinds =
+    Clear ∷ Name ∷ Network ∷ Word ∷ Open ∷ Check ∷ Report ∷ Values ∷ ShortRows ∷ ShortGained ∷ ShortLost ∷ ShortHead
+    ∷ Batch ∷ []
 
--- a call with something too short
-abbrev pub shortOf : ℕ → Call
-shortOf n = cond (eqb n 8) ShortRows (cond (eqb n 9) ShortGained (cond (eqb n 11) ShortHead (reportOf n)))
-
--- a call, by its operation's number
-abbrev pub callOf : ℕ → Call
-callOf n = cond (eqb n 4) Open (cond (eqb n 5) Check (cond (eqb n 6) Report (shortOf n)))
-
--- an operation's kind, by its number
+-- an operation's kind, by its number; any other clears
 abbrev pub kindOf : ℕ → Kind
-kindOf n = cond (eqb n 1) Name (cond (eqb n 2) Network (cond (eqb n 3) Word (cond (eqb n 7) Values (Calls (callOf n)))))
+kindOf number = getD kinds number Clear
+
+-- the bytes that are lent for a report: as many as asked for, at most those of the longest
+abbrev pub roomOf : ℕ → ℕ
+roomOf asked = cond (ltb asked longestReport) asked longestReport
 
 -- ---- the areas
 
@@ -80,81 +75,51 @@ stored area i v a =
     (cond (eqb area 1) (withGained (set (a .gained) i v) a)
     (cond (eqb area 2) (withLost (set (a .lost) i v) a) (withHead (set (a .head) i v) a)))
 
--- ---- a call, with the node, the network, the areas and a report's bytes
-
--- what it prints
-abbrev pub callText : Call → ℕ → Bytes → Areas → Bytes → Bytes
-callText Open node net a out = verdictLine [] (openCall net a .verdict)
-callText Check node net a out = checkLine [] (checkCall net a)
-callText Report node net a out = reportLine [] (reportCall net node a out)
-callText ShortRows node net a out = verdictLine [] (openCall net (withRows short a) .verdict)
-callText ShortGained node net a out = checkLine [] (checkCall net (withGained short a))
-callText ShortLost node net a out = reportLine [] (reportCall net node (withLost short a) out)
-callText ShortHead node net a out = verdictLine [] (openCall net (withHead short a) .verdict)
-callText Few node net a out = reportLine [] (reportCall net node a (replicate 29 0))
-
--- the areas after it: those of opening, but for the one that was too short
-abbrev pub callAreas : Call → Bytes → Areas → Areas
-callAreas Open net a = openCall net a .areas
-callAreas Check net a = a
-callAreas Report net a = a
-callAreas ShortRows net a = withRows (a .rows) (openCall net (withRows short a) .areas)
-callAreas ShortGained net a = a
-callAreas ShortLost net a = a
-callAreas ShortHead net a = withHead (a .head) (openCall net (withHead short a) .areas)
-callAreas Few net a = a
-
--- the report's bytes after it
-abbrev pub callOut : Call → ℕ → Bytes → Areas → Bytes → Bytes
-callOut Open node net a out = out
-callOut Check node net a out = out
-callOut Report node net a out = reportCall net node a out .out
-callOut ShortRows node net a out = out
-callOut ShortGained node net a out = out
-callOut ShortLost node net a out = reportCall net node (withLost short a) out .out
-callOut ShortHead node net a out = out
-callOut Few node net a out = out
-
--- it is run
-pub record RunsCall (k : Call) (node : ℕ) (net : Bytes) (a after : Areas) (out out-after text text-after : Bytes)
-    (r : ℕ) : Type 0 where
-  pub wrote : Put (callText k node net a out) (length text) 0 text text-after r
-  pub areas : after ≡ callAreas k net a
-  pub bytes : out-after ≡ callOut k node net a out
-
--- ---- an operation, with the network, its own text, the areas and a report's bytes
+-- ---- an operation, with the network, its own text, the areas and the bytes that are lent for a report
 
 -- "bytes"
 abbrev pub bytesWord : Bytes
 bytesWord = 98 ∷ 121 ∷ 116 ∷ 101 ∷ 115 ∷ []
 
--- what it prints
-abbrev pub textOf : Kind → Operation → Bytes → Bytes → Areas → Bytes → Bytes
-textOf Name op net part a out = part
-textOf Network op net part a out = []
-textOf Word op net part a out = []
-textOf Values op net part a out = line bytesWord out
-textOf (Calls k) op net part a out = callText k (op .index) net a out
+-- it prints a text, and leaves these areas and lent bytes
+pub record Leaves (shown : Bytes) (areas : Areas) (bytes : Bytes) (after : Areas) (out-after text text-after : Bytes)
+    (r : ℕ) : Type 0 where
+  pub wrote : Writes shown text text-after r
+  pub areas-are : after ≡ areas
+  pub bytes-are : out-after ≡ bytes
 
--- the areas after it
-abbrev pub areasAfter : Kind → Operation → Bytes → Areas → Areas
-areasAfter Name op net a = a
-areasAfter Network op net a = a
-areasAfter Word op net a = stored (op .area) (op .index) (op .value) a
-areasAfter Values op net a = a
-areasAfter (Calls k) op net a = callAreas k net a
+-- it applies a batch, and leaves the lent bytes
+pub record LeavesBatch (net batch : Bytes) (a : Areas) (bytes : Bytes) (after : Areas)
+    (out-after text text-after : Bytes) (r : ℕ) : Type 0 where
+  pub applies : Applies net batch a after text text-after r
+  pub bytes-are : out-after ≡ bytes
 
--- the report's bytes after it
-abbrev pub outAfter : Kind → Operation → Bytes → Areas → Bytes → Bytes
-outAfter Name op net a out = out
-outAfter Network op net a out = out
-outAfter Word op net a out = out
-outAfter Values op net a out = out
-outAfter (Calls k) op net a out = callOut k (op .index) net a out
+-- what it does, by its kind
+abbrev pub Does : Kind → Operation → Bytes → Bytes → Areas → Bytes → Areas → Bytes → Bytes → Bytes → ℕ → Type 0
+Does Name op net part a out = Leaves part a out
+Does Network op net part a out = Leaves [] a out
+Does Word op net part a out = Leaves [] (stored (op .area) (op .index) (op .value) a) out
+Does Open op net part a out = Leaves (verdictLine (openCall net a .verdict)) (openCall net a .areas) out
+Does Check op net part a out = Leaves (checkLine (checkCall net a)) a out
+Does Report op net part a out =
+    Leaves (reportLine (reportCall net (op .index) a (take (roomOf (op .value)) out))) a
+    (reportCall net (op .index) a (take (roomOf (op .value)) out) .out ++ drop (roomOf (op .value)) out)
+Does Values op net part a out = Leaves (line bytesWord (take (roomOf (op .value)) out)) a out
+Does ShortRows op net part a out =
+    Leaves (verdictLine (openCall net (withRows short a) .verdict))
+    (withRows (a .rows) (openCall net (withRows short a) .areas)) out
+Does ShortGained op net part a out = Leaves (checkLine (checkCall net (withGained short a))) a out
+Does ShortLost op net part a out =
+    Leaves (reportLine (reportCall net (op .index) (withLost short a) out)) a
+    (reportCall net (op .index) (withLost short a) out .out)
+Does ShortHead op net part a out =
+    Leaves (verdictLine (openCall net (withHead short a) .verdict))
+    (withHead (a .head) (openCall net (withHead short a) .areas)) out
+Does Batch op net part a out = LeavesBatch net part a out
+Does Clear op net part a out = Leaves [] a (replicate longestReport 0)
 
 -- it is run
 pub record Runs (k : Kind) (op : Operation) (net part : Bytes) (a after : Areas)
     (out out-after text text-after : Bytes) (r : ℕ) : Type 0 where
-  pub wrote : Put (textOf k op net part a out) (length text) 0 text text-after r
-  pub areas : after ≡ areasAfter k op net a
-  pub bytes : out-after ≡ outAfter k op net a out
+  pub does : Does k op net part a out after out-after text text-after r
+  pub fits : r ≤ length text

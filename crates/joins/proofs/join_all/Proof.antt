@@ -37,7 +37,8 @@ loop-holds c =
     let right = firstRows (a .right .now) (a .m) in (
       omega arith,
       ap length (start .pre .3) ∙ length-replicate {A = ℕ} placeSize 0,
-      put-start (joinedWith (a .t5) right) [] (a .left .now) (a .n) (λ l e. wide-with (a .t5) (start .pre .2) right l e (wide-rows stride (a .right .now) 0 (a .m))) tt tt (a .out .now) 0 (stands-none (a .out .now) (start .pre .3)),
+      put-start (joinedWith (a .t5) right) [] (a .left .now) (a .n)
+          (λ l e. wide-with (a .t5) (start .pre .2) right l e (wide-rows stride (a .right .now) 0 (a .m))) tt tt (a .out .now) 0 (stands-none (a .out .now) (start .pre .3)),
     )
 
 join-row-requires : tie.Need-join-row-requires Inv-loop μ-loop
@@ -46,7 +47,8 @@ join-row-requires c κs =
     let a = start .args in
     let l = c .before .before .before .loop in
     let right = firstRows (a .right .now) (a .m) in
-    let r = put-ready (joinedWith (a .t5) right) [] (a .left .now) (a .n) (λ l e. wide-with (a .t5) (start .pre .2) right l e (wide-rows stride (a .right .now) 0 (a .m))) tt tt (l .i) (l .out) (l .count) (l .inv .2) in
+    let r = put-ready (joinedWith (a .t5) right) [] (a .left .now) (a .n)
+    (λ l e. wide-with (a .t5) (start .pre .2) right l e (wide-rows stride (a .right .now) 0 (a .m))) tt tt (l .i) (l .out) (l .count) (l .inv .2) in
     (omega arith, start .pre .1, start .pre .2, r .0, r .1, l .inv .1, start .pre .4, c .before .before .before .before .keys-of .ensures)
 
 enum-known-more : tie.Need-enum-known-more Inv-loop μ-loop
@@ -67,8 +69,10 @@ returns c =
     let l = c .before .before .before .before .before .before .before .before .loop in
     let p = c .before .before .before .before .join-row in
     let right = firstRows (a .right .now) (a .m) in
-    let over = put-exceeds (joinedWith (a .t5) right) [] (a .left .now) (a .n) (λ l e. wide-with (a .t5) (start .pre .2) right l e (wide-rows stride (a .right .now) 0 (a .m))) tt tt (l .i) (l .out)
-    (p .last .1 .1 .1 .1 .1 .1 .0) (l .count) (p .result) (c .enum-told .given .1) (omega (arith, c .before .before .before .before .before .before .before .loop-test .taken)) (l .inv .2) (p .ensures) in
+    let over = put-exceeds (joinedWith (a .t5) right) [] (a .left .now) (a .n)
+    (λ l e. wide-with (a .t5) (start .pre .2) right l e (wide-rows stride (a .right .now) 0 (a .m))) tt tt (l .i) (l .out)
+    (p .last .1 .1 .1 .1 .1 .1 .0) (l .count) (p .result) (c .enum-told .given .1)
+    (omega (arith, c .before .before .before .before .before .before .before .loop-test .taken)) (l .inv .2) (p .ensures) in
     (rw (← put-all (joinedWith (a .t5) right) (a .left .now) (a .n)) (over .0), over .1)
 
 add-i : tie.Need-add-i Inv-loop μ-loop
@@ -84,7 +88,8 @@ loop-again c =
     let l = c .before .before .before .before .before .before .before .before .before .loop in
     let p = c .before .before .before .before .before .join-row in
     let right = firstRows (a .right .now) (a .m) in
-    let s = put-stands (joinedWith (a .t5) right) [] (a .left .now) (a .n) (λ l e. wide-with (a .t5) (start .pre .2) right l e (wide-rows stride (a .right .now) 0 (a .m))) tt tt (l .i) (l .out)
+    let s = put-stands (joinedWith (a .t5) right) [] (a .left .now) (a .n)
+    (λ l e. wide-with (a .t5) (start .pre .2) right l e (wide-rows stride (a .right .now) 0 (a .m))) tt tt (l .i) (l .out)
     (p .last .1 .1 .1 .1 .1 .1 .0) (l .count) (c .before .more .given .0 .0) (p .result) (c .before .more .given .1) (l .inv .2) (p .ensures) in
     (omega (arith, c .before .before .before .before .before .before .before .before .loop-test .taken), s .0, s .1)
 

@@ -76,7 +76,7 @@ columns-row-requires : tie.Need-columns-row-requires Inv-loop μ-loop
 columns-row-requires c κs =
     let start = c .before .before .before .before .before .before .before .before .before .before .before .before .before .before in
     let fits = start .pre .2 in
-    (start .pre .0, omega arith, fits .split, fits .few, fits .columns-long, fits .columns)
+    (omega (arith, start .pre .0, start .pre .1), omega (arith, start .pre .1), fits .split, fits .few, fits .columns-long, fits .columns)
 
 slice-aggregate-put-row : tie.Need-slice-aggregate-put-row Inv-loop μ-loop
 slice-aggregate-put-row c = omega arith
@@ -108,13 +108,15 @@ enum-told c = search needs
 same-length : tie.Need-same-length Inv-loop μ-loop
 same-length c =
     let full = rw (c .enum-told .given .1) at (c .before .before .before .before .put-row .ensures) in
-    omega (arith, full .1, c .before .before .before .before .before .before .before .before .before .before .before .before .before .before .before .before .before .before .before .before .before .before .pre .5)
+    let start = c .before .before .before .before .before .before .before .before .before .before .before .before .before .before .before .before .before .before .before .before .before .before in
+    omega (arith, full .1, start .pre .5)
 
 returns : tie.Need-returns Inv-loop μ-loop
 returns c =
-    let start = c .before .before .before .before .before .before .before .before .before .before .before .before .before .before .before .before .before .before .before .before .before .before in
+    let then = c .before .before .before .before .before .before .before .before .before .before .before in
+    let start = then .before .before .before .before .before .before .before .before .before .before .before in
     let a = start .args in
-    let l = c .before .before .before .before .before .before .before .before .before .before .before .before .before .before .loop in
+    let l = then .before .before .before .loop in
     let p = c .before .before .before .before .put-row in
     let q = c .before .before .before .before .before .before .before .columns-row in
     let fits = start .pre .2 in
@@ -122,11 +124,12 @@ returns c =
     let row = rowAt stride (a .left .now) (a .i) in
     let base = firstRows (a .out .now) (a .count) in
     let asc = ascending-holds base (start .pre .4) in
-    let agreed = key-agrees pairs row (c .before .before .before .before .before .before .before .before .before .before .before .before .before .before .before .key-of .result) (c .before .before .before .before .before .before .before .before .before .before .before .before .before .before .before .key-of .ensures) (a .right .now) (a .m) (a .keys .now) (start .pre .7) (l .j) (omega (arith, c .before .before .before .before .before .before .before .before .before .before .before .before .before .loop-test .taken))
-    (c .before .before .before .before .before .before .before .before .before .before .before .if1 .taken) in
+    let agreed = key-agrees pairs row (then .before .before .before .before .key-of .result) (then .before .before .before .before .key-of .ensures)
+    (a .right .now) (a .m) (a .keys .now) (start .pre .7)
+    (l .j) (omega (arith, then .before .before .loop-test .taken)) (then .if1 .taken) in
     let put = joined-one (a .t5) fits row (rowAt stride (a .right .now) (l .j)) (q .result) (firstRows (l .out) (l .rows)) (p .last .0) (p .result) agreed (q .ensures) (p .ensures) in
     let over = put-exceeds (joinedIf (a .t5) row) base (a .right .now) (a .m) (wide-joined (a .t5) fits row) (wide-rows stride (a .out .now) 0 (a .count))
-    asc (l .j) (l .out) (p .last .0) (l .rows) (p .result) (c .enum-told .given .1) (omega (arith, c .before .before .before .before .before .before .before .before .before .before .before .before .before .loop-test .taken)) (l .inv .2) put in
+    asc (l .j) (l .out) (p .last .0) (l .rows) (p .result) (c .enum-told .given .1) (omega (arith, then .before .before .loop-test .taken)) (l .inv .2) put in
     (rw (← joined-from (a .t5) fits row base (a .right .now) (a .m)) (over .0), over .1)
 
 loop-less : tie.Need-loop-less Inv-loop μ-loop
@@ -134,9 +137,10 @@ loop-less c = omega arith
 
 loop-again : tie.Need-loop-again Inv-loop μ-loop
 loop-again c =
-    let start = c .before .before .before .before .before .before .before .before .before .before .before .before .before .before .before .before .before .before .before .before .before .before .before in
+    let then = c .before .before .before .before .before .before .before .before .before .before .before .before in
+    let start = then .before .before .before .before .before .before .before .before .before .before .before in
     let a = start .args in
-    let l = c .before .before .before .before .before .before .before .before .before .before .before .before .before .before .before .loop in
+    let l = then .before .before .before .loop in
     let p = c .before .before .before .before .before .put-row in
     let q = c .before .before .before .before .before .before .before .before .columns-row in
     let fits = start .pre .2 in
@@ -144,12 +148,13 @@ loop-again c =
     let row = rowAt stride (a .left .now) (a .i) in
     let base = firstRows (a .out .now) (a .count) in
     let asc = ascending-holds base (start .pre .4) in
-    let agreed = key-agrees pairs row (c .before .before .before .before .before .before .before .before .before .before .before .before .before .before .before .before .key-of .result) (c .before .before .before .before .before .before .before .before .before .before .before .before .before .before .before .before .key-of .ensures) (a .right .now) (a .m) (a .keys .now) (start .pre .7) (l .j) (omega (arith, c .before .before .before .before .before .before .before .before .before .before .before .before .before .before .loop-test .taken))
-    (c .before .before .before .before .before .before .before .before .before .before .before .before .if1 .taken) in
+    let agreed = key-agrees pairs row (then .before .before .before .before .key-of .result) (then .before .before .before .before .key-of .ensures)
+    (a .right .now) (a .m) (a .keys .now) (start .pre .7)
+    (l .j) (omega (arith, then .before .before .loop-test .taken)) (then .if1 .taken) in
     let put = joined-one (a .t5) fits row (rowAt stride (a .right .now) (l .j)) (q .result) (firstRows (l .out) (l .rows)) (p .last .0) (p .result) agreed (q .ensures) (p .ensures) in
     let s = put-stands (joinedIf (a .t5) row) base (a .right .now) (a .m) (wide-joined (a .t5) fits row) (wide-rows stride (a .out .now) 0 (a .count))
     asc (l .j) (l .out) (p .last .0) (l .rows) (c .before .more .given .0 .0) (p .result) (c .before .more .given .1) (l .inv .2) put in
-    (omega (arith, c .before .before .before .before .before .before .before .before .before .before .before .before .before .before .loop-test .taken), s .0, s .1)
+    (omega (arith, then .before .before .loop-test .taken), s .0, s .1)
 
 loop-less-2 : tie.Need-loop-less-2 Inv-loop μ-loop
 loop-less-2 c = omega arith
@@ -161,8 +166,9 @@ loop-again-2 c =
     let l = c .before .before .before .loop in
     let row = rowAt stride (a .left .now) (a .i) in
     let base = firstRows (a .out .now) (a .count) in
-    let differs = key-differs (pairsOf (a .t5 .p) (a .t5 .pairs)) row (c .before .before .before .before .key-of .result) (c .before .before .before .before .key-of .ensures) (a .right .now) (a .m) (a .keys .now) (start .pre .7) (l .j) (omega arith)
-    (c .if1 .left) in
+    let differs = key-differs (pairsOf (a .t5 .p) (a .t5 .pairs)) row (c .before .before .before .before .key-of .result) (c .before .before .before .before .key-of .ensures)
+    (a .right .now) (a .m) (a .keys .now)
+    (start .pre .7) (l .j) (omega arith) (c .if1 .left) in
     let none = joined-none (a .t5) row (rowAt stride (a .right .now) (l .j)) differs in (
       omega arith,
       l .inv .1,

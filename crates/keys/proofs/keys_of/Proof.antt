@@ -25,7 +25,7 @@ loop-holds c =
 key-of-requires : tie.Need-key-of-requires Inv-loop μ-loop
 key-of-requires c κs =
     let q = c .before .before .before .before .pre in
-    (omega arith, q .2, q .3, q .4, q .5)
+    (omega arith, q .2, q .3, omega (arith, q .4), q .5)
 
 mul-keys : tie.Need-mul-keys Inv-loop μ-loop
 mul-keys c = omega arith

@@ -37,7 +37,7 @@ copy-run-requires-2 : tie.Need-copy-run-requires-2 Inv-loop μ-loop
 copy-run-requires-2 c κs =
     let start = c .before .before .before .before .before .before .before in
     let q = c .before .before .copy-run in
-    (start .pre .1, omega (arith, start .pre .2, ap length (q .ensures)))
+    (omega (arith, start .pre .0, start .pre .1), omega (arith, start .pre .2, ap length (q .ensures)))
 
 loop-holds : tie.Need-loop-holds Inv-loop μ-loop
 loop-holds c = (zero-le, refl, refl)
@@ -80,8 +80,10 @@ loop-again c =
     let a = start .args in
     let b = column-below (a .split + stride) (a .columns .now) (a .n) (c .before .before .loop .k) (start .pre .5) (omega arith) (omega arith) in
     let l = c .before .before .loop in
-    let field = both-field (a .left .now) (a .right .now) (a .i) (a .j) (a .split) (getD (a .columns .now) (l .k) 0) (replicate (2 * stride) 0) (c .before .before .before .before .before .before .before .copy-run .last .1 .1 .0)
-    (c .before .before .before .before .copy-run2 .last .1 .1 .0) (start .pre .0) (start .pre .1) (start .pre .2) b refl (c .before .before .before .before .before .before .before .copy-run .ensures) (c .before .before .before .before .copy-run2 .ensures) in (
+    let field = both-field (a .left .now) (a .right .now) (a .i) (a .j) (a .split) (getD (a .columns .now) (l .k) 0)
+    (replicate (2 * stride) 0) (c .before .before .before .before .before .before .before .copy-run .last .1 .1 .0)
+    (c .before .before .before .before .copy-run2 .last .1 .1 .0) (start .pre .0) (start .pre .1) (start .pre .2) b
+    refl (c .before .before .before .before .before .before .before .copy-run .ensures) (c .before .before .before .before .copy-run2 .ensures) in (
       omega arith,
       row-filled (joinedField (a .split) (rowAt stride (a .left .now) (a .i)) (rowAt stride (a .right .now) (a .j))) (a .columns .now) (l .k)
           (l .row) (getD (c .before .before .before .before .copy-run2 .last .1 .1 .0) (getD (a .columns .now) (l .k) 0) 0) (omega arith) (omega arith) (l .inv .1) field,

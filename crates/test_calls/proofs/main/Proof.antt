@@ -1,23 +1,27 @@
+use borrow.Author.Needs.{needs}
 use mathlib.Core.Path.{sym, _∙_, _≡_}
 use mathlib.Core.List.{List}
 use mathlib.Core.Logic.{⊎-elim}
 use Prim.Native.Nat.{ℕ, _-_, _≤_}
 use native.Mathlib.Omega.{arith}
-use lib.ListN.{length, take}
+use lib.ListN.{drop, length, take}
 use lib.Seq.{length-take-le}
-use borrow.Author.Needs.{needs}
+use Rattle.model.specs.Areas.{areaSize, headWords}
+use Rattle.model.specs.Calls.{longestReport}
+use Rattle.test_calls.proofs.Ran.{length-take-small}
 use Rattle.test_calls.proofs.main.Statement.{statement}
 use Rattle.test_calls.proofs.main.Tie as tie
 use Rattle.test_calls.proofs.main.Reads as reads
 use Rattle.test_calls.proofs.main.Lts as lts
-use Rattle.model.specs.Areas.{areaSize, headWords}
-use Rattle.model.specs.Calls.{longestReport}
+use Rattle.io.proofs.large_buffer.Reads as large-buffer-reads
+use Rattle.io.proofs.read_full.Reads as read-full-reads
+use Rattle.io.proofs.write_all.Reads as write-all-reads
+use Rattle.test_calls.proofs.run.Reads as run-reads
+use Rattle.test_calls.proofs.script.operation_at.Reads as operation-at-reads
 
 abbrev Inv-loop : tie.InvT-loop
-Inv-loop input n text₀ out₀ rows₀ gained₀ lost₀ head₀ from₀ to₀ at₀ text out rows gained lost head from to at =
-    (length input ≡ 65536) × (n ≤ 65536) × (from ≤ to) × (to ≤ n) × (length text ≡ 65536) × (length out ≡ longestReport) × (length rows ≡ areaSize) × (length gained ≡ areaSize)
-    × (length lost ≡ areaSize)
-    × (length head ≡ headWords)
+Inv-loop input n text₀ out₀ rows₀ gained₀ lost₀ head₀ from₀ to₀ at₀ text out rows gained lost head from to at = (length input ≡ 65536) × (n ≤ 65536) × (from ≤ to) × (to ≤ n) × (length text
+    ≡ 65536) × (length out ≡ longestReport) × (length rows ≡ areaSize) × (length gained ≡ areaSize) × (length lost ≡ areaSize) × (length head ≡ headWords)
 
 abbrev μ-loop : tie.MeasureT-loop
 μ-loop input n text₀ out₀ rows₀ gained₀ lost₀ head₀ from₀ to₀ at₀ text out rows gained lost head from to at = n - at
@@ -31,8 +35,8 @@ joined : (c : tie.Joined1 Inv-loop μ-loop) → (c .if1 .from ≤ c .if1 .to) ×
 joined c =
     let i = c .before .before .before .before .before .loop .inv in
     let w = c .before .before .operation-at .ensures in
-    let n = size (c .before .before .before .before .before .before .before .before .read-full .last .1 .0)
-    (c .before .before .before .before .before .before .before .before .read-full .result) (i .0) (i .1) in
+    let n = size (c .before .before .before .before .before .before .before .before .read-full .last .1 .0) (c .before .before .before .before .before .before .before .before .read-full
+    .result) (i .0) (i .1) in
     ⊎-elim (λ s. (omega (arith, s .1, s .2, w .text), omega (arith, s .2, w .whole, n))) (λ s. (omega (arith, s .1, s .2, i .2), omega (arith, s .2, i .3))) (c .if1 .came)
 
 large-buffer-requires : tie.Need-large-buffer-requires Inv-loop μ-loop
@@ -53,96 +57,130 @@ loop-holds c = search needs
 array-share-prefix-input : tie.Need-array-share-prefix-input Inv-loop μ-loop
 array-share-prefix-input c = search needs
 
-slice-aggregate-operation-at : tie.Need-slice-aggregate-operation-at Inv-loop μ-loop
-slice-aggregate-operation-at c = search needs
+slice-aggregate-all : tie.Need-slice-aggregate-all Inv-loop μ-loop
+slice-aggregate-all c = search needs
 
 operation-at-requires : tie.Need-operation-at-requires Inv-loop μ-loop
 operation-at-requires c κs = search needs
 
-array-share-prefix-input-2 : tie.Need-array-share-prefix-input-2 Inv-loop μ-loop
-array-share-prefix-input-2 c = search needs
+sub-run : tie.Need-sub-run Inv-loop μ-loop
+sub-run c = let j = joined (c .before .before) in j .0
 
-slice-aggregate-run-at : tie.Need-slice-aggregate-run-at Inv-loop μ-loop
-slice-aggregate-run-at c = search needs
+part-run-start : tie.Need-part-run-start Inv-loop μ-loop
+part-run-start c = let i = c .before .before .before .before .before .before .before .loop .inv in
+    let n = size (c .before .before .before .before .before .before .before .before .before .before .read-full .last .1 .0) (c .before .before .before .before .before .before .before
+    .before .before .before .read-full .result) (i .0) (i .1) in
+    let j = joined (c .before .before) in
+    omega (arith, j .0, j .1, n)
 
-slice-aggregate-run-at-2 : tie.Need-slice-aggregate-run-at-2 Inv-loop μ-loop
-slice-aggregate-run-at-2 c = search needs
+part-run-end : tie.Need-part-run-end Inv-loop μ-loop
+part-run-end c = let i = c .before .before .before .before .before .before .before .loop .inv in
+    let n = size (c .before .before .before .before .before .before .before .before .before .before .read-full .last .1 .0) (c .before .before .before .before .before .before .before
+    .before .before .before .read-full .result) (i .0) (i .1) in
+    let j = joined (c .before .before) in
+    omega (arith, j .1, n)
 
-slice-aggregate-run-at-3 : tie.Need-slice-aggregate-run-at-3 Inv-loop μ-loop
-slice-aggregate-run-at-3 c = search needs
+sub-run-2 : tie.Need-sub-run-2 Inv-loop μ-loop
+sub-run-2 c = let w = c .before .before .before .before .before .operation-at .ensures in w .text
 
-slice-aggregate-run-at-4 : tie.Need-slice-aggregate-run-at-4 Inv-loop μ-loop
-slice-aggregate-run-at-4 c = search needs
+part-run-start-2 : tie.Need-part-run-start-2 Inv-loop μ-loop
+part-run-start-2 c = let w = c .before .before .before .before .before .operation-at .ensures in omega (arith, w .text, w .whole)
 
-slice-aggregate-run-at-5 : tie.Need-slice-aggregate-run-at-5 Inv-loop μ-loop
-slice-aggregate-run-at-5 c = search needs
+part-run-end-2 : tie.Need-part-run-end-2 Inv-loop μ-loop
+part-run-end-2 c = let w = c .before .before .before .before .before .operation-at .ensures in w .whole
 
-slice-aggregate-run-at-6 : tie.Need-slice-aggregate-run-at-6 Inv-loop μ-loop
-slice-aggregate-run-at-6 c = search needs
+slice-aggregate-run : tie.Need-slice-aggregate-run Inv-loop μ-loop
+slice-aggregate-run c = search needs
 
-slice-aggregate-run-at-7 : tie.Need-slice-aggregate-run-at-7 Inv-loop μ-loop
-slice-aggregate-run-at-7 c = search needs
+slice-aggregate-run-2 : tie.Need-slice-aggregate-run-2 Inv-loop μ-loop
+slice-aggregate-run-2 c = search needs
 
-run-at-requires : tie.Need-run-at-requires Inv-loop μ-loop
-run-at-requires c κs =
-    let j = joined (c .before .before .before .before .before .before .before) in
-    let i = c .before .before .before .before .before .before .before .before .before .before .before .before .loop .inv in
-    let w = c .before .before .before .before .before .before .before .before .before .operation-at .ensures in
-    let n = size (c .before .before .before .before .before .before .before .before .before .before .before .before .before .before .before .read-full .last .1 .0)
-    (c .before .before .before .before .before .before .before .before .before .before .before .before .before .before .before .read-full .result) (i .0) (i .1) in
-    (j .0, omega (arith, j .1, n), w .text, w .whole, omega (arith, n, i .1), omega (arith, i .5), i .4)
+slice-aggregate-run-3 : tie.Need-slice-aggregate-run-3 Inv-loop μ-loop
+slice-aggregate-run-3 c = search needs
+
+slice-aggregate-run-4 : tie.Need-slice-aggregate-run-4 Inv-loop μ-loop
+slice-aggregate-run-4 c = search needs
+
+slice-aggregate-run-5 : tie.Need-slice-aggregate-run-5 Inv-loop μ-loop
+slice-aggregate-run-5 c = search needs
+
+slice-aggregate-run-6 : tie.Need-slice-aggregate-run-6 Inv-loop μ-loop
+slice-aggregate-run-6 c = search needs
+
+run-requires : tie.Need-run-requires Inv-loop μ-loop
+run-requires c κs = let i = c .before .before .before .before .before .before .before .before .before .before .before .before .before .before .before .loop .inv in
+    let w = c .before .before .before .before .before .before .before .before .before .before .before .before .operation-at .ensures in
+    let n = size (c .before .before .before .before .before .before .before .before .before .before .before .before .before .before .before .before .before .before .read-full .last .1 .0)
+    (c .before .before .before .before .before .before .before .before .before .before .before .before .before .before .before .before .before .before .read-full .result) (i .0) (i .1) in (
+      omega (
+        arith,
+        length-take-small (c .before .before .before .before .before .before .before .before .before .before .before .before .operation-at .result .next - c .before .before
+            .before .before .before .before .before .before .before .before .before .before .operation-at .result .from) (drop (c .before .before .before .before .before .before .before .before
+            .before .before .before .before .operation-at .result .from) (take (c .before .before .before .before .before .before .before .before .before .before .before .before .before .before
+            .before .before .before .before .read-full .result) (c .before .before .before .before .before .before .before .before .before .before .before .before .before .before .before .before
+            .before .before .read-full .last .1 .0))),
+        w .whole,
+        n,
+        i .1,
+      ),
+      omega (arith, i .9),
+      i .5,
+      i .4,
+    )
 
 array-share-prefix-text : tie.Need-array-share-prefix-text Inv-loop μ-loop
 array-share-prefix-text c = omega (
   arith,
-  c .before .before .before .before .before .before .run-at .ensures .wrote .short,
-  c .before .before .before .before .before .before .before .before
-      .before .before .before .before .before .before .before .before .before .before .before .loop .inv .4,
+  c .before .before .before .before .before .before .run .ensures .fits,
+  c .before .before .before .before .before .before .before .before .before
+      .before .before .before .before .before .before .before .before .before .before .before .before .before .loop .inv .4,
 )
 
 slice-aggregate-write-all : tie.Need-slice-aggregate-write-all Inv-loop μ-loop
-slice-aggregate-write-all c = sym (length-take-le (c .before .before .before .before .before .before .before .run-at .result)
-    (c .before .before .before .before .before .before .before .run-at .last .1 .1 .1 .1 .1 .1 .1 .1 .1 .0) (omega (
+slice-aggregate-write-all c = sym (length-take-le (c .before .before .before .before .before .before .before .run .result) (c .before .before .before .before .before .before .before .run
+    .last .1 .1 .1 .1 .1 .1 .1 .1 .0) (omega (
       arith,
-      c .before .before .before .before .before .before .before .run-at .ensures .wrote .short,
-      c .before .before .before .before .before .before .before .run-at .kept .1 .1 .1 .1 .1
-          .1 .1 .1 .1 .0,
+      c .before .before .before .before .before .before .before .run .ensures .fits,
+      c .before .before .before .before .before .before .before
+          .run .kept .1 .1 .1 .1 .1 .1 .1 .1 .0,
     )))
 
 write-all-requires : tie.Need-write-all-requires Inv-loop μ-loop
 write-all-requires c κs = search needs
 
 loop-less : tie.Need-loop-less Inv-loop μ-loop
-loop-less c =
-    let i = c .before .before .before .before .before .before .before .before .before .before .before .before .before .before .before .before .before .before .before .before .before .loop .inv in
-    let w = c .before .before .before .before .before .before .before .before .before .before .before .before .before .before .before .before .before .before .operation-at .ensures in
+loop-less c = let i = c .before .before .before .before .before .before .before .before .before .before .before .before .before .before .before .before .before .before .before .before
+    .before .before .before .before .loop .inv in
+    let w = c .before .before .before .before .before .before .before .before .before .before .before .before .before .before .before .before .before .before .before .before .before
+    .operation-at .ensures in
     let n = size (c .before .before .before .before .before .before .before .before .before .before .before .before .before .before .before .before .before .before .before .before .before
-    .before .before .before .read-full .last .1 .0) (c .before .before .before .before .before .before .before .before .before .before .before .before .before .before .before .before
-    .before .before .before .before .before .before .before .before .read-full .result) (i .0) (i .1) in
+    .before .before .before .before .before .before .read-full .last .1 .0) (c .before .before .before .before .before .before .before .before .before .before .before .before .before
+    .before .before .before .before .before .before .before .before .before .before .before .before .before .before .read-full .result) (i .0) (i .1) in
     omega (
       arith,
       w .after,
       w .whole,
       n,
       c .before .before .before .before .before .before .before .before .before .before .before .before .before .before .before .before .before .before
-          .before .before .loop-test .taken,
+          .before .before .before .before .before .loop-test .taken,
     )
 
 loop-again : tie.Need-loop-again Inv-loop μ-loop
-loop-again c =
-    let i = c .before .before .before .before .before .before .before .before .before .before .before .before .before .before .before .before .before .before .before .before .before .loop .inv in
-    let j = joined (c .before .before .before .before .before .before .before .before .before .before .before .before .before .before .before .before) in
-    let k = c .before .before .before .before .before .before .before .before .run-at .kept in (
+loop-again c = let i = c .before .before .before .before .before .before .before .before .before .before .before .before .before .before .before .before .before .before .before .before
+    .before .before .before .before .loop .inv in
+    let j = joined (c .before .before .before .before .before .before .before .before .before .before .before .before .before .before .before .before .before .before .before) in
+    let k = c .before .before .before .before .before .before .before .before .run .kept in (
       i .0,
       i .1,
       j .0,
       j .1,
-      k .1 .1 .1 .1 .1 .1 .1 .1 .1 .0 ∙ i .4,
-      k .1 .1 .1 .1 .1 .1 .1 .1 .0 ∙ i .5,
-      k .1 .1 .1 .1 .0 ∙ i .6,
-      k .1 .1 .1 .1 .1 .0 ∙ i .7,
-      k .1 .1 .1 .1 .1 .1 .0 ∙ i .8,
-      k .1 .1 .1 .1 .1 .1 .1 .0 ∙ i .9,
+      k .1 .1 .1 .1 .1 .1 .1 .1 .0 ∙ i .4,
+      k .1 .1 .1 .1 .1 .1 .1 .0 ∙ i .5,
+      k .1 .1 .1 .0 ∙ i .6,
+      k .1 .1 .1 .1 .0 ∙ i .7,
+      k .1 .1 .1 .1 .1 .0 ∙ i .8,
+      k .1 .1 .1 .1
+          .1 .1 .0 ∙ i .9,
     )
 
 returns : tie.Need-returns Inv-loop μ-loop
@@ -160,17 +198,21 @@ main-spec =
     large-buffer-requires-2
     loop-holds
     array-share-prefix-input
-    slice-aggregate-operation-at
+    slice-aggregate-all
     operation-at-requires
-    array-share-prefix-input-2
-    slice-aggregate-run-at
-    slice-aggregate-run-at-2
-    slice-aggregate-run-at-3
-    slice-aggregate-run-at-4
-    slice-aggregate-run-at-5
-    slice-aggregate-run-at-6
-    slice-aggregate-run-at-7
-    run-at-requires
+    sub-run
+    part-run-start
+    part-run-end
+    sub-run-2
+    part-run-start-2
+    part-run-end-2
+    slice-aggregate-run
+    slice-aggregate-run-2
+    slice-aggregate-run-3
+    slice-aggregate-run-4
+    slice-aggregate-run-5
+    slice-aggregate-run-6
+    run-requires
     array-share-prefix-text
     slice-aggregate-write-all
     write-all-requires

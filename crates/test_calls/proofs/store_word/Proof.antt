@@ -22,30 +22,42 @@ same-length : tie.Need-same-length
 same-length c = search needs
 
 returns : tie.Need-returns
-returns c = let a = c .before .before .before .before .before .before .before .before .before .args in stored-rows (a .op .area) (a .op .index) (a .op .value) (lent (a .rows .now)
-    (a .gained .now) (a .lost .now) (a .head .now)) (c .before .before .before .before .match .keys1) (c .before .before .store .ensures)
+returns c = let a = c .before .before .before .before .before .before .before .before .before .args in (
+  stored-rows (a .op .area) (a .op .index) (a .op .value) (lent (a .rows .now)
+      (a .gained .now) (a .lost .now) (a .head .now)) (c .before .before .before .before .match .keys1) (c .before .before .store .ensures .0),
+  c .before .before .store .ensures .1,
+)
 
 same-length-2 : tie.Need-same-length-2
 same-length-2 c = search needs
 
 returns-2 : tie.Need-returns-2
-returns-2 c = let a = c .before .before .before .before .before .before .before .before .before .args in stored-gained (a .op .area) (a .op .index) (a .op .value) (lent (a .rows .now)
-    (a .gained .now) (a .lost .now) (a .head .now)) (c .before .before .before .before .match .keys2) (c .before .before .store2 .ensures)
+returns-2 c = let a = c .before .before .before .before .before .before .before .before .before .args in (
+  stored-gained (a .op .area) (a .op .index) (a .op .value) (lent (a .rows .now)
+      (a .gained .now) (a .lost .now) (a .head .now)) (c .before .before .before .before .match .keys2) (c .before .before .store2 .ensures .0),
+  c .before .before .store2 .ensures .1,
+)
 
 same-length-3 : tie.Need-same-length-3
 same-length-3 c = search needs
 
 returns-3 : tie.Need-returns-3
-returns-3 c = let a = c .before .before .before .before .before .before .before .before .before .args in stored-lost (a .op .area) (a .op .index) (a .op .value) (lent (a .rows .now)
-    (a .gained .now) (a .lost .now) (a .head .now)) (c .before .before .before .before .match .keys3) (c .before .before .store3 .ensures)
+returns-3 c = let a = c .before .before .before .before .before .before .before .before .before .args in (
+  stored-lost (a .op .area) (a .op .index) (a .op .value) (lent (a .rows .now)
+      (a .gained .now) (a .lost .now) (a .head .now)) (c .before .before .before .before .match .keys3) (c .before .before .store3 .ensures .0),
+  c .before .before .store3 .ensures .1,
+)
 
 same-length-4 : tie.Need-same-length-4
 same-length-4 c = search needs
 
 returns-4 : tie.Need-returns-4
-returns-4 c = let a = c .before .before .before .before .before .before .before .before .before .args in stored-head (a .op .area) (a .op .index) (a .op .value) (lent (a .rows .now)
-    (a .gained .now) (a .lost .now) (a .head .now)) (c .before .before .before .before .match .rest .0 .0 .1) (c .before .before .before .before .match .rest .0 .1)
-    (c .before .before .before .before .match .rest .1) (c .before .before .store4 .ensures)
+returns-4 c = let a = c .before .before .before .before .before .before .before .before .before .args in (
+  stored-head (a .op .area) (a .op .index) (a .op .value) (lent (a .rows .now)
+      (a .gained .now) (a .lost .now) (a .head .now)) (c .before .before .before .before .match .rest .0 .0 .1) (c .before .before .before .before .match .rest .0 .1)
+      (c .before .before .before .before .match .rest .1) (c .before .before .store4 .ensures .0),
+  c .before .before .store4 .ensures .1,
+)
 
 pub store-word-spec : {M : Type 1} → statement M
 store-word-spec =

@@ -1,0 +1,64 @@
+-- The lines that tell what a call of the monitor gave.
+use mathlib.Core.Path.{_≡_}
+use mathlib.Core.Bool.{cond}
+use mathlib.Core.List.{List, [], _∷_, _++_}
+use Prim.Native.Nat.{ℕ}
+use lib.ListN.{length}
+use Rattle.model.specs.Record.{Bytes, Verdict}
+use Rattle.model.specs.Areas.{Areas}
+use Rattle.model.specs.Calls.{Applied, CheckAnswer, ReportAnswer, Result, openCall, checkCall, reportCall}
+use Rattle.model.specs.Text.{line}
+use Rattle.lines.specs.Written.{Put}
+
+-- ---- lines
+
+-- a verdict
+abbrev pub verdictLine : Verdict → Bytes
+verdictLine v = line [] (v .number ∷ v .place ∷ [])
+
+-- the coherence check's answer; yes is 1
+abbrev pub checkLine : CheckAnswer → Bytes
+checkLine c = line [] (c .verdict .number ∷ c .verdict .place ∷ cond (c .yes?) 1 0 ∷ [])
+
+-- a report's verdict and size
+abbrev pub reportLine : ReportAnswer → Bytes
+reportLine r = line [] (r .verdict .number ∷ r .verdict .place ∷ r .size ∷ [])
+
+-- " apply"
+abbrev pub applyWord : Bytes
+applyWord = 32 ∷ 97 ∷ 112 ∷ 112 ∷ 108 ∷ 121 ∷ []
+
+-- " head"
+abbrev pub headWord : Bytes
+headWord = 32 ∷ 104 ∷ 101 ∷ 97 ∷ 100 ∷ []
+
+-- a batch's verdict, and what the check then says
+abbrev pub appliedLine : Verdict → CheckAnswer → Bytes
+appliedLine v c = line applyWord (v .number ∷ v .place ∷ c .verdict .number ∷ cond (c .yes?) 1 0 ∷ [])
+
+-- a batch: its line, and the head's words after it
+abbrev pub batchLines : Verdict → CheckAnswer → List ℕ → Bytes
+batchLines v c head = appliedLine v c ++ line headWord head
+
+-- ---- calls
+
+-- a text is written from the first byte on
+abbrev pub Writes : Bytes → Bytes → Bytes → ℕ → Type 0
+Writes shown text after r = Put shown (length text) 0 text after r
+
+-- the areas are opened, and the verdict's line is written
+pub record Opens (net : Bytes) (a after : Areas) (text text-after : Bytes) (r : ℕ) : Type 0 where
+  pub wrote : Writes (verdictLine (openCall net a .verdict)) text text-after r
+  pub areas : after ≡ openCall net a .areas
+
+-- a report is made, and the line of its verdict and size is written
+pub record Reports (net : Bytes) (node : ℕ) (a : Areas) (out out-after text text-after : Bytes) (r : ℕ) : Type 0 where
+  pub wrote : Writes (reportLine (reportCall net node a out)) text text-after r
+  pub bytes : out-after ≡ reportCall net node a out .out
+
+-- a batch is applied, and its lines are written
+pub record Applies (net batch : Bytes) (a after : Areas) (text text-after : Bytes) (r : ℕ) : Type 0 where
+  pub result : Result
+  pub applied : Applied net batch a result
+  pub areas : after ≡ result .areas
+  pub wrote : Writes (batchLines (result .verdict) (checkCall net after) (after .head)) text text-after r
