@@ -1,15 +1,10 @@
-//! The five workloads, made here: a network and batches that a plain station accepts, the same for every run.
+//! The workloads that are made here: batches that a plain station accepts, the same for every run.
 use crate::model::{Network, Station};
-
-/// A workload: a name, a network's bytes and its batches.
-pub struct Workload {
-    pub name: String,
-    pub network: Vec<u8>,
-    pub batches: Vec<Vec<u8>>,
-}
+use crate::networks;
+use crate::workload::Workload;
 
 /// xorshift, so that every run makes the same batches.
-struct Random(u64);
+pub struct Random(u64);
 
 impl Random {
     fn below(&mut self, n: u32) -> u32 {
@@ -20,78 +15,71 @@ impl Random {
     }
 }
 
-/// A record of the house format: its length, its kind, its fields of 2 bytes.
-fn record(kind: u16, fields: &[u16]) -> Vec<u8> {
-    let size = 4 + 2 * fields.len() as u16;
-    [size, kind].iter().chain(fields).flat_map(|x| x.to_le_bytes()).collect()
+/// Batches of so many events: each table is filled to its least rows, and from then on has at least these and at most
+/// its most (or one more than its least, if that is more).
+struct Maker<'a> {
+    events: usize,
+    least: usize,
+    most: usize,
+    tables: &'a [usize],
+    row: fn(usize, &mut Random) -> Vec<u32>,
 }
 
-fn event(put: bool, table: u16, row: &[u32]) -> Vec<u8> {
+/// How many batches a workload has.
+const BATCHES: usize = 400;
+
+/// Events of a batch while tables are filled.
+const FILLING: usize = 16;
+
+/// The rows of each table.
+type Held = Vec<Vec<Vec<u32>>>;
+
+fn event(put: bool, table: usize, row: &[u32]) -> Vec<u8> {
     let size = 6 + 4 * row.len() as u16;
-    let mut out: Vec<u8> = [size, if put { 32 } else { 33 }, table].iter().flat_map(|x| x.to_le_bytes()).collect();
-    out.extend(row.iter().flat_map(|x| x.to_le_bytes()));
-    out
+    let head = [size, if put { 32 } else { 33 }, table as u16];
+    head.iter().flat_map(|x| x.to_le_bytes()).chain(row.iter().flat_map(|x| x.to_le_bytes())).collect()
 }
 
-/// The order's network N.
-fn network_n() -> Vec<u8> {
-    [
-        record(1, &[2]),
-        record(2, &[0, 1, 5, 8, 0]),
-        record(4, &[1, 1, 0]),
-        record(1, &[1]),
-        record(7, &[2, 3]),
-        record(9, &[4, 3]),
-    ]
-    .concat()
-}
+impl Maker<'_> {
+    /// One event on the rows of a table, and its bytes.
+    fn event(&self, held: &mut Held, r: &mut Random) -> Vec<u8> {
+        let t = r.below(self.tables.len() as u32) as usize;
+        let rows = &mut held[t];
+        let put = rows.len() <= self.least || (rows.len() < self.most && r.below(2) == 0);
+        if !put {
+            let at = r.below(rows.len() as u32) as usize;
+            return event(false, self.tables[t], &rows.swap_remove(at));
+        }
+        let new = (self.row)(t, r);
+        let bytes = event(true, self.tables[t], &new);
+        if !rows.contains(&new) {
+            rows.push(new);
+        }
+        bytes
+    }
 
-/// An orchard of 24 nodes. Tables: catches (block, trap, week, count), lures (trap, species), blocks (block, owner), sprays (block, week) and
-/// limits (species, week, count).
-fn orchard() -> Vec<u8> {
-    let tables = [[4], [2], [2], [2], [3]].map(|width| record(1, &width)).concat();
-    let nodes = [
-        record(2, &[0, 3, 5, 8, 0]),                      // 5 catches of 8 or more
-        record(4, &[5, 2, 0, 2]),                         // 6 their blocks and weeks
-        record(2, &[1, 1, 1, 2, 0]),                      // 7 lures for another species than 2
-        record(5, &[5, 7, 1, 1, 0, 4, 0, 2, 3, 5]),       // 8 block, week, count, species
-        record(5, &[8, 2, 1, 0, 0, 4, 5, 0, 1, 3]),       // 9 owner, block, week, species
-        record(5, &[8, 4, 2, 3, 0, 1, 1, 4, 0, 1, 2, 6]), // 10 block, week, count, limit
-        record(3, &[10, 2, 5, 3]),                        // 11 at or above the limit
-        record(4, &[11, 2, 0, 1]),                        // 12 their blocks and weeks
-        record(5, &[5, 5, 2, 0, 0, 2, 2, 3, 0, 1, 5]),    // 13 pairs of traps in one block and week
-        record(3, &[13, 1, 4, 2]),                        // 14 the first trap above the second
-        record(4, &[14, 1, 0]),                           // 15 blocks with two heavy traps
-        record(8, &[6, 3]),                               // 16 heavy and sprayed
-        record(7, &[6, 3]),                               // 17 heavy and not sprayed
-        record(4, &[17, 1, 0]),                           // 18 their blocks
-        record(6, &[15, 18]),                             // 19 either
-        record(4, &[12, 1, 0]),                           // 20 blocks at their limit
-        record(7, &[19, 20]),                             // 21 either, below the limit
-        record(8, &[19, 20]),                             // 22 either, at the limit
-        record(5, &[22, 2, 1, 0, 0, 2, 0, 2]),            // 23 and whom to tell
-    ];
-    let watches = [[12, 3], [16, 2], [17, 3], [21, 3], [22, 1], [23, 3]].map(|w| record(9, &w)).concat();
-    [tables, nodes.concat(), watches].concat()
-}
+    /// The batches; those that the plain station refuses are left out.
+    fn batches(&self, network: &[u8]) -> Vec<Vec<u8>> {
+        let network = Network::read(network).expect("the network is accepted");
+        let (mut r, mut station, mut out) = (Random(0x9e3779b97f4a7c15), Station::open(&network), Vec::new());
+        let (mut held, mut filled): (Held, bool) = (vec![Vec::new(); self.tables.len()], false);
+        while out.len() < BATCHES {
+            filled |= held.iter().all(|rows| rows.len() >= self.least);
+            let mut next = held.clone();
+            let events = if filled { self.events } else { FILLING };
+            let batch: Vec<u8> = (0..events).flat_map(|_| self.event(&mut next, &mut r)).collect();
+            if station.apply(&batch) == (0, 0) {
+                held = next;
+                out.push(batch);
+            }
+        }
+        out
+    }
 
-/// Ten joins of two tables, three of them products.
-fn joins() -> Vec<u8> {
-    let tables = [record(1, &[4]), record(1, &[4])].concat();
-    let nodes = [
-        record(5, &[0, 1, 0, 2, 1, 5]),
-        record(5, &[1, 0, 0, 2, 2, 6]),
-        record(5, &[0, 1, 0, 1, 2]),
-        record(5, &[0, 1, 1, 0, 0, 2, 1, 5]),
-        record(5, &[0, 1, 1, 1, 1, 2, 3, 6]),
-        record(5, &[1, 0, 1, 2, 2, 2, 1, 5]),
-        record(5, &[0, 0, 1, 0, 0, 2, 1, 5]),
-        record(5, &[1, 1, 2, 1, 1, 2, 2, 1, 5]),
-        record(5, &[0, 1, 2, 0, 0, 1, 1, 2, 2, 6]),
-        record(5, &[0, 1, 2, 0, 0, 2, 2, 2, 1, 5]),
-    ];
-    let watches: Vec<u8> = (2..12).flat_map(|node| record(9, &[node, 3])).collect();
-    [tables, nodes.concat(), watches].concat()
+    fn workload(&self, name: String, network: Vec<u8>) -> Workload {
+        let batches = self.batches(&network);
+        Workload { name, network, batches }
+    }
 }
 
 /// A row of a table of the orchard.
@@ -105,74 +93,26 @@ fn orchard_row(table: usize, r: &mut Random) -> Vec<u32> {
     }
 }
 
-/// Batches of so many events that keep each table between two sizes once it is filled; those that the plain station refuses are left out.
-fn batches(
-    network: &[u8],
-    count: usize,
-    events: usize,
-    sizes: (usize, usize),
-    tables: &[usize],
-    row: impl Fn(usize, &mut Random) -> Vec<u32>,
-) -> Vec<Vec<u8>> {
-    let net = Network::read(network).expect("the network is accepted");
-    let (mut r, mut station, mut out) = (Random(0x9e3779b97f4a7c15), Station::open(&net), Vec::new());
-    let mut held: Vec<Vec<Vec<u32>>> = vec![Vec::new(); tables.len()];
-    while out.len() < count {
-        let filling = held.iter().any(|rows| rows.len() < sizes.0);
-        let mut next = held.clone();
-        let mut batch = Vec::new();
-        for _ in 0..if filling { 16 } else { events } {
-            let t = r.below(tables.len() as u32) as usize;
-            let rows = &mut next[t];
-            if rows.len() < sizes.0 || (rows.len() < sizes.1 && r.below(2) == 0) {
-                let new = row(t, &mut r);
-                batch.extend(event(true, tables[t] as u16, &new));
-                if !rows.contains(&new) {
-                    rows.push(new);
-                }
-            } else {
-                let at = r.below(rows.len() as u32) as usize;
-                batch.extend(event(false, tables[t] as u16, &rows.swap_remove(at)));
-            }
-        }
-        if station.apply(&batch) == (0, 0) {
-            held = next;
-            out.push(batch);
-        }
-    }
-    out
+/// The first so many nodes of the orchard, so many events a batch, tables between two sizes.
+pub fn orchard(name: String, nodes: usize, events: usize, (least, most): (usize, usize)) -> Workload {
+    let tables = &[0, 1, 2, 3, 4][..nodes.min(5)];
+    Maker { events, least, most, tables, row: orchard_row }.workload(name, networks::orchard(nodes))
+}
+
+/// The order's network N, one event a batch.
+fn n() -> Workload {
+    let row = |table, r: &mut Random| (table..2).map(|_| r.below(16)).collect();
+    Maker { events: 1, least: 4, most: 40, tables: &[0, 3], row }.workload("w1".into(), networks::n())
+}
+
+/// Ten joins, one event a batch.
+fn joins() -> Workload {
+    let row = |_, r: &mut Random| vec![r.below(24), r.below(8), r.below(8), r.below(8)];
+    Maker { events: 1, least: 60, most: 64, tables: &[0, 1], row }.workload("w3".into(), networks::joins())
 }
 
 /// All five.
 pub fn all() -> Vec<Workload> {
-    let make =
-        |name: &str, network: Vec<u8>, batches: Vec<Vec<u8>>| Workload { name: name.to_string(), network, batches };
-    let n = network_n();
-    let orchard = orchard();
-    let joins = joins();
-    let mut out =
-        vec![make(
-            "w1",
-            n.clone(),
-            batches(&n, 2400, 1, (4, 40), &[0, 3], |t, r| {
-                if t == 0 {
-                    vec![r.below(16), r.below(16)]
-                } else {
-                    vec![r.below(16)]
-                }
-            }),
-        )];
-    for events in [1, 8, 64] {
-        out.push(make(
-            &format!("w2-{events}"),
-            orchard.clone(),
-            batches(&orchard, 2000, events, (32, 60), &[0, 1, 2, 3, 4], orchard_row),
-        ));
-    }
-    out.push(make(
-        "w3",
-        joins.clone(),
-        batches(&joins, 2000, 1, (60, 64), &[0, 1], |_, r| vec![r.below(24), r.below(8), r.below(8), r.below(8)]),
-    ));
-    out
+    let orchards = [1, 8, 64].map(|events| orchard(format!("w2-{events}"), 24, events, (32, 60)));
+    [n()].into_iter().chain(orchards).chain([joins()]).collect()
 }

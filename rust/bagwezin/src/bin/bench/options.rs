@@ -1,0 +1,78 @@
+//! What the program was asked for.
+use std::path::Path;
+
+pub const USAGE: &str = "\
+usage: bench [--count] [FOLDER...]
+       bench [--count] --growth [FILE.svg]
+       bench --apply N FOLDER
+
+Times a batch: the library, the independent model, and one scan of the areas, in microseconds and in scans.
+
+  FOLDER...            folders with network.bin and batch.bin, each batch ended by a mark;
+                       without any, the five workloads that the program makes itself
+  --growth [FILE.svg]  the time by events a batch, nodes and rows a table; and a plot of it, if a file is named
+  --count              also instructions and mispredicted branches a batch, by valgrind; takes a minute
+  --apply N FOLDER     only opens and applies the first N batches, as --count does under valgrind
+  --help               this text
+";
+
+/// What is measured.
+#[derive(Debug, Default)]
+pub struct Options {
+    pub folders: Vec<String>,
+    pub count: bool,
+    /// Growth, and the file of its plot.
+    pub growth: Option<Option<String>>,
+}
+
+pub enum Task {
+    Help,
+    /// So many batches of a folder.
+    Apply(usize, String),
+    Measure(Options),
+}
+
+/// The task that the words ask for.
+pub fn read(words: &[String]) -> Result<Task, String> {
+    if words.iter().any(|word| word == "--help" || word == "-h") {
+        return Ok(Task::Help);
+    }
+    if words.first().is_some_and(|word| word == "--apply") {
+        return apply(&words[1..]);
+    }
+    let mut options = Options::default();
+    let mut rest = words.iter().peekable();
+    while let Some(word) = rest.next() {
+        match word.as_str() {
+            "--count" => options.count = true,
+            "--growth" => options.growth = Some(rest.next_if(|next| next.ends_with(".svg")).cloned()),
+            _ if word.starts_with('-') => return Err(format!("there is no option {word}: --help lists them")),
+            _ => options.folders.push(word.clone()),
+        }
+    }
+    fits(&options)?;
+    Ok(Task::Measure(options))
+}
+
+fn apply(words: &[String]) -> Result<Task, String> {
+    let [most, folder] = words else {
+        return Err("--apply takes a number of batches and one folder: --apply 100 FOLDER".into());
+    };
+    match most.parse() {
+        Ok(most) => Ok(Task::Apply(most, folder.clone())),
+        Err(_) => Err(format!("'{most}' is not a number of batches: --apply 100 FOLDER")),
+    }
+}
+
+/// Whether the options go together, and the plot's folder is there; told before anything is measured.
+fn fits(options: &Options) -> Result<(), String> {
+    let Some(svg) = &options.growth else { return Ok(()) };
+    if let Some(folder) = options.folders.first() {
+        return Err(format!("--growth makes its own workloads: leave out {folder}, or end the plot's name in .svg"));
+    }
+    let parent = svg.as_ref().and_then(|file| Path::new(file).parent());
+    match parent.filter(|folder| !folder.as_os_str().is_empty() && !folder.is_dir()) {
+        Some(folder) => Err(format!("there is no folder {} for the plot: make it, or name another", folder.display())),
+        None => Ok(()),
+    }
+}
