@@ -17,17 +17,17 @@ use rows::STRIDE;
 const WORD: u64 = 4294967296;
 
 // Row i's field in the column of pair k on a side, left 0 or right 1; the pairs' columns stand in turn.
-fn field_on(rows: &[u32], i: usize, pairs: &[usize], k: usize, side: usize) -> u32
+fn field_on(rows: &[u32], i: usize, pairs: &[u16], k: usize, side: usize) -> u32
     requires { ⌜ (i * stride + stride ≤ length (now rows)) × (2 * k + side < length (now pairs))
         × (getD (now pairs) (2 * k + side) 0 < stride) ⌝ }
     ensures is { λ r. ⌜ r ≡ getD (rowAt stride (now (rows .entry)) i) (getD (now (pairs .entry)) (2 * k + side) 0) 0 ⌝ }
     ensures fits { λ r. ⌜ r < 4294967296 ⌝ }
 {
-    rows[i * STRIDE + pairs[2 * k + side]]
+    rows[i * STRIDE + pairs[2 * k + side] as usize]
 }
 
 // The key of row i for the first p pairs on a side.
-pub fn key_of(rows: &[u32], i: usize, pairs: &[usize], p: usize, side: usize) -> u64
+pub fn key_of(rows: &[u32], i: usize, pairs: &[u16], p: usize, side: usize) -> u64
     requires { ⌜ (i * stride + stride ≤ length (now rows)) × (2 * p ≤ length (now pairs)) × (p ≤ maxPairs) × (side ≤ 1)
         × (pairsBelow stride stride (pairsOf p (now pairs)) ≡ true) ⌝ }
     ensures { λ r. ⌜ Keyed (sideColumns side (pairsOf p (now (pairs .entry)))) (rowAt stride (now (rows .entry)) i)
@@ -44,7 +44,7 @@ pub fn key_of(rows: &[u32], i: usize, pairs: &[usize], p: usize, side: usize) ->
 }
 
 // The keys of the first n rows, then zeros.
-pub fn keys_of(rows: &[u32], n: usize, pairs: &[usize], p: usize, side: usize) -> [u64; MAX_ROWS]
+pub fn keys_of(rows: &[u32], n: usize, pairs: &[u16], p: usize, side: usize) -> [u64; MAX_ROWS]
     requires { ⌜ (n ≤ maxRows) × (n * stride ≤ length (now rows)) × (2 * p ≤ length (now pairs)) × (p ≤ maxPairs)
         × (side ≤ 1) × (pairsBelow stride stride (pairsOf p (now pairs)) ≡ true) ⌝ }
     ensures { λ r. ⌜ KeyedRows (sideColumns side (pairsOf p (now (pairs .entry)))) (now (rows .entry)) n r ⌝ }

@@ -12,17 +12,20 @@ ghost use Rattle.masks.specs.Masks.{leavesColumn, leavesRows};
 use nodes::MAX_PAIRS;
 use rows::STRIDE;
 
+// The column of a mask that keeps nothing: the first of the zeros behind a row.
+const MASKED: u16 = STRIDE as u16;
+
 // A join: the left rows' width, its pairs' columns, left and right in turn, and the columns that it gives.
 pub struct Joining {
     pub split: usize,
     pub p: usize,
-    pub pairs: [usize; 2 * MAX_PAIRS],
+    pub pairs: [u16; 2 * MAX_PAIRS],
     pub n: usize,
-    pub columns: [usize; STRIDE],
+    pub columns: [u16; STRIDE],
 }
 
 // A mask made to keep the columns of pairs on a side, left 0 or right 1.
-fn keep_pairs(used: &mut [usize; STRIDE], pairs: &[usize], p: usize, side: usize)
+fn keep_pairs(used: &mut [u16; STRIDE], pairs: &[u16], p: usize, side: usize)
     requires { ⌜ (length (now used) ≡ stride) × (2 * p ≤ length (now pairs)) × (side ≤ 1)
         × (pairsBelow stride stride (pairsOf p (now pairs)) ≡ true) ⌝ }
     ensures { λ _. ⌜ now (used .exit) ≡ keeping (pairColumns (now (pairs .entry)) p side) (now (used .entry)) ⌝ }
@@ -30,23 +33,23 @@ fn keep_pairs(used: &mut [usize; STRIDE], pairs: &[usize], p: usize, side: usize
     let mut j = 0;
     while j < p {
         let c = pairs[2 * j + side];
-        used[c] = c;
+        used[c as usize] = c;
         j += 1;
     }
 }
 
 // A mask made to keep those columns, counted from the first, that are below the end.
-fn keep_columns(used: &mut [usize; STRIDE], columns: &[usize], n: usize, first: usize, end: usize)
+fn keep_columns(used: &mut [u16; STRIDE], columns: &[u16], n: usize, first: usize, end: usize)
     requires { ⌜ (length (now used) ≡ stride) × (n ≤ length (now columns)) × (end ≤ first + stride) ⌝ }
     ensures { λ _. ⌜ now (used .exit) ≡ keeping (columnsFrom first end (take n (now (columns .entry))))
         (now (used .entry)) ⌝ }
 {
     let mut j = 0;
     while j < n {
-        let c = columns[j];
+        let c = columns[j] as usize;
         if first <= c {
             if c < end {
-                used[c - first] = c - first;
+                used[c - first] = (c - first) as u16;
             }
         }
         j += 1;
@@ -54,29 +57,29 @@ fn keep_columns(used: &mut [usize; STRIDE], columns: &[usize], n: usize, first: 
 }
 
 // The mask of what a join uses of a side, whose columns are from the first up to the end.
-pub fn used_columns(how: Joining, side: usize, first: usize, end: usize) -> [usize; STRIDE]
+pub fn used_columns(how: Joining, side: usize, first: usize, end: usize) -> [u16; STRIDE]
     requires { ⌜ JoinFits how × (side ≤ 1) × (end ≤ first + stride) ⌝ }
     ensures { λ r. ⌜ r ≡ usedColumns how side first end ⌝ }
 {
-    let mut used = [STRIDE; STRIDE];
+    let mut used = [MASKED; STRIDE];
     keep_pairs(&mut used, &how.pairs, how.p, side);
     keep_columns(&mut used, &how.columns, how.n, first, end);
     used
 }
 
 // Whether a mask leaves column k of every row as it is: it keeps the column, or every field there is 0.
-fn leaves_column(rows: &[u32], n: usize, used: &[usize; STRIDE], k: usize) -> bool
+fn leaves_column(rows: &[u32], n: usize, used: &[u16; STRIDE], k: usize) -> bool
     requires { ⌜ (n * stride ≤ length (now rows)) × (k < stride) ⌝ }
     ensures { λ r. ⌜ r ≡ leavesColumn (now (used .entry)) (firstRows (now (rows .entry)) n) k ⌝ }
 {
-    if used[k] != STRIDE {
+    if used[k] != MASKED {
         return true;
     }
     rows::zero_field(rows, n, k)
 }
 
 // Whether a mask leaves every row as it is.
-pub fn leaves_rows(rows: &[u32], n: usize, used: &[usize; STRIDE]) -> bool
+pub fn leaves_rows(rows: &[u32], n: usize, used: &[u16; STRIDE]) -> bool
     requires { ⌜ n * stride ≤ length (now rows) ⌝ }
     ensures { λ r. ⌜ r ≡ leavesRows (now (used .entry)) (firstRows (now (rows .entry)) n) ⌝ }
 {

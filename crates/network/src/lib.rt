@@ -21,8 +21,8 @@ use verdicts::Verdict;
 // A node with its columns, and its pairs as left and right columns in turn.
 pub struct Slot {
     pub node: Node,
-    pub columns: [usize; MAX_WIDTH],
-    pub pairs: [usize; 2 * MAX_PAIRS],
+    pub columns: [u16; MAX_WIDTH],
+    pub pairs: [u16; 2 * MAX_PAIRS],
 }
 
 // The nodes in order of their records, with each node's width, level and watch's sign (0: no watch).
@@ -43,28 +43,28 @@ pub struct Reading {
 // ---- building the network
 
 // n columns of the record from field k on, then zeros.
-fn columns_of(bytes: &[u8], at: usize, k: usize, n: usize) -> [usize; MAX_WIDTH]
+fn columns_of(bytes: &[u8], at: usize, k: usize, n: usize) -> [u16; MAX_WIDTH]
     requires { ⌜ (1 ≤ n → at + 4 + 2 * k + 2 * n ≤ length (now bytes)) × (n ≤ maxWidth) ⌝ }
     ensures { λ r. ⌜ r ≡ padded maxWidth (fieldsAt (now (bytes .entry)) at k n) ⌝ }
 {
-    let mut fields = [0usize; MAX_WIDTH];
+    let mut fields = [0u16; MAX_WIDTH];
     let mut i = 0;
     while i < n {
-        fields[i] = records::field_at(bytes, at, k + i);
+        fields[i] = records::field_at(bytes, at, k + i) as u16;
         i += 1;
     }
     fields
 }
 
 // The columns of n pairs of the record from field 3 on, then zeros.
-fn pairs_of(bytes: &[u8], at: usize, n: usize) -> [usize; 2 * MAX_PAIRS]
+fn pairs_of(bytes: &[u8], at: usize, n: usize) -> [u16; 2 * MAX_PAIRS]
     requires { ⌜ (1 ≤ n → at + 10 + 4 * n ≤ length (now bytes)) × (n ≤ maxPairs) ⌝ }
     ensures { λ r. ⌜ r ≡ padded (2 * maxPairs) (fieldsAt (now (bytes .entry)) at 3 (2 * n)) ⌝ }
 {
-    let mut fields = [0usize; 2 * MAX_PAIRS];
+    let mut fields = [0u16; 2 * MAX_PAIRS];
     let mut i = 0;
     while i < 2 * n {
-        fields[i] = records::field_at(bytes, at, 3 + i);
+        fields[i] = records::field_at(bytes, at, 3 + i) as u16;
         i += 1;
     }
     fields
@@ -128,8 +128,8 @@ fn no_network() -> Network
 {
     let slot = Slot {
         node: Node::Table { width: 0 },
-        columns: [0usize; MAX_WIDTH],
-        pairs: [0usize; 2 * MAX_PAIRS],
+        columns: [0u16; MAX_WIDTH],
+        pairs: [0u16; 2 * MAX_PAIRS],
     };
     Network {
         count: 0,

@@ -20,7 +20,7 @@ pub fn columns_row(
     right: &[u32],
     j: usize,
     split: usize,
-    columns: &[usize],
+    columns: &[u16],
     n: usize,
 ) -> [u32; STRIDE]
     requires { ⌜ (i * stride + stride ≤ length (now left)) × (j * stride + stride ≤ length (now right))
@@ -35,14 +35,14 @@ pub fn columns_row(
     let mut row = [0u32; STRIDE];
     let mut k = 0;
     while k < n {
-        row[k] = both[columns[k]];
+        row[k] = both[columns[k] as usize];
         k += 1;
     }
     row
 }
 
 // Some columns of each row followed by zeros, in an empty place: how many rows, or that they are more than 64.
-pub fn mask_rows(input: &[u32], n: usize, columns: &[usize], c: usize, out: &mut [u32]) -> Made
+pub fn mask_rows(input: &[u32], n: usize, columns: &[u16], c: usize, out: &mut [u32]) -> Made
     requires { ⌜ (n * stride ≤ length (now input)) × (c ≤ maxWidth) × (c ≤ length (now columns))
         × (columnsBelow (stride + stride) (take c (now columns)) ≡ true) × Blank (now out) ⌝ }
     ensures { λ r. ⌜ Stored (maskedRows (take c (now (columns .entry))) (firstRows (now (input .entry)) n))
@@ -63,7 +63,7 @@ pub fn mask_rows(input: &[u32], n: usize, columns: &[usize], c: usize, out: &mut
 }
 
 // The named columns of a place's rows, in an empty place: how many rows, or that they are more than 64.
-pub fn project_rows(input: &[u32], n: usize, columns: &[usize], c: usize, out: &mut [u32]) -> Made
+pub fn project_rows(input: &[u32], n: usize, columns: &[u16], c: usize, out: &mut [u32]) -> Made
     requires { ⌜ (n * stride ≤ length (now input)) × (c ≤ maxWidth) × (c ≤ length (now columns))
         × (columnsBelow stride (take c (now columns)) ≡ true) × Blank (now out) ⌝ }
     ensures { λ r. ⌜ ((w : ℕ) → Place w (now (input .entry)) n → columnsBelow w (take c (now (columns .entry))) ≡ true →

@@ -25,6 +25,9 @@ mul-result-3 c = search needs
 shared-slice-read-result : tie.Need-shared-slice-read-result
 shared-slice-read-result c = search needs
 
+cast-result : tie.Need-cast-result
+cast-result c = search needs
+
 add-result-2 : tie.Need-add-result-2
 add-result-2 c = search needs
 
@@ -50,6 +53,7 @@ field-on-spec =
     add-result
     mul-result-3
     shared-slice-read-result
+    cast-result
     add-result-2
     mul-result-4
     shared-slice-read-result-2

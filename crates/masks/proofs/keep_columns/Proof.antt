@@ -29,6 +29,12 @@ mul-c c = omega arith
 shared-slice-read-c : tie.Need-shared-slice-read-c Inv-loop μ-loop
 shared-slice-read-c c = omega arith
 
+cast-c : tie.Need-cast-c Inv-loop μ-loop
+cast-c c = omega (arith, c .shared-slice-known .given (c .before .before .loop .j))
+
+cast-used : tie.Need-cast-used Inv-loop μ-loop
+cast-used c = omega arith
+
 mul-used : tie.Need-mul-used Inv-loop μ-loop
 mul-used c = omega arith
 
@@ -71,6 +77,8 @@ keep-columns-spec =
     loop-holds
     mul-c
     shared-slice-read-c
+    cast-c
+    cast-used
     mul-used
     element-write-used
     add-j

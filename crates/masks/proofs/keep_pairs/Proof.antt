@@ -31,6 +31,10 @@ mul-c-2 c = omega arith
 shared-slice-read-c : tie.Need-shared-slice-read-c Inv-loop μ-loop
 shared-slice-read-c c = omega arith
 
+cast-used : tie.Need-cast-used Inv-loop μ-loop
+cast-used c = let a = c .before .before .before .args in
+    omega (arith, side-below (a .pairs .now) (a .p) (c .before .before .loop .j) (a .side) (c .before .before .before .pre .3) (omega arith) (omega arith))
+
 mul-used : tie.Need-mul-used Inv-loop μ-loop
 mul-used c = let a = c .before .before .before .args in
     omega (arith, side-below (a .pairs .now) (a .p) (c .before .before .loop .j) (a .side) (c .before .before .before .pre .3) (omega arith) (omega arith))
@@ -70,6 +74,7 @@ keep-pairs-spec =
     add-c
     mul-c-2
     shared-slice-read-c
+    cast-used
     mul-used
     element-write-used
     add-j

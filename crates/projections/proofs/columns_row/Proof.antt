@@ -48,6 +48,13 @@ mul-row c = omega arith
 shared-slice-read-row : tie.Need-shared-slice-read-row Inv-loop μ-loop
 shared-slice-read-row c = omega arith
 
+cast-row : tie.Need-cast-row Inv-loop μ-loop
+cast-row c =
+    let start = c .before .before .before .before .before .before .before .before .before .before .before .before in
+    let a = start .args in
+    let b = column-below (a .split + stride) (a .columns .now) (a .n) (c .before .before .loop .k) (start .pre .5) (omega arith) (omega arith) in
+    omega (arith, b)
+
 mul-row-2 : tie.Need-mul-row-2 Inv-loop μ-loop
 mul-row-2 c =
     let start = c .before .before .before .before .before .before .before .before .before .before .before .before in
@@ -111,6 +118,7 @@ columns-row-spec =
     loop-holds
     mul-row
     shared-slice-read-row
+    cast-row
     mul-row-2
     array-read-row
     mul-row-3
