@@ -49,4 +49,4 @@ pub const ANSWER: usize = 97;
 /// The most bytes of a report: 128 records of 22 bytes.
 pub const REPORT: usize = 2816;
 /// The most bytes of stack that a call of the static library takes.
-pub const STACK: usize = 77 * 1024;
+pub const STACK: usize = 64 * 1024;
