@@ -4,16 +4,14 @@ use mathlib.Core.Bool.{Bool, true, false, _&&_}
 use mathlib.Core.List.{List, [], _∷_, map}
 use mathlib.Core.Logic.{⊎-elim}
 use Prim.Native.Nat.{ℕ, zero, suc, _+_, _-_, _*_, _≤_, _<_}
-use native.Mathlib.Nat.{not-suc-le-zero, le-of-suc-le-suc, eq-or-lt-of-le, zero-add}
+use native.Mathlib.Nat.{not-suc-le-zero, eq-or-lt-of-le, zero-add}
 use native.Mathlib.Omega.{arith}
-use lib.Dec.{eqb, ltb}
+use lib.Dec.{eqb}
 use lib.ListN.{length, getD, set, drop, List·getD-append, replicate}
 use lib.Seq.{getD-drop}
-use borrow.Author.Tests.{ltb-true, eqb-true, eqb-false, eq-eqb, ne-eqb}
+use borrow.Author.Tests.{eqb-true, eqb-false, eq-eqb, ne-eqb}
 use Rattle.model.specs.Row.{Row, numbersBelow, maxRows}
 use Rattle.model.specs.Algebra.{Pair, agree}
-use Rattle.model.specs.Network.{pairsBelow}
-use Rattle.laws.proofs.Sets.{and-first, and-second}
 use Rattle.model.specs.Areas.{padded, stride}
 use Rattle.nodes.specs.Nodes.{pairsOf}
 use Rattle.laws.proofs.Parts.{length-counted, counted-at, numbers-more, map-append}
@@ -22,30 +20,6 @@ use Rattle.rows.specs.Rows.{rowAt}
 use Rattle.keys.specs.Keys.{sideColumn, sideColumns, keyOf, FieldsFit, Keyed, KeyedRows}
 
 -- ---- the columns of pairs
-
--- pair k, of pairs whose columns are below the stride
-pub pair-below : (pairs : List ℕ) (p k : ℕ) → pairsBelow stride stride (pairsOf p pairs) ≡ true → k < p → (getD pairs (2 * k) 0 < stride) × (getD pairs (2 * k + 1) 0 < stride)
-pair-below pairs zero k e h = absurd (not-suc-le-zero h)
-pair-below pairs (suc p) zero e h =
-    let b : (ltb (getD pairs 0 0) stride && ltb (getD pairs 1 0) stride)
-    ≡ true = and-first (ltb (getD pairs 0 0) stride && ltb (getD pairs 1 0) stride) (pairsBelow stride stride (pairsOf p (drop 2 pairs))) e in (
-      ltb-true (getD pairs 0 0) stride (and-first (ltb (getD pairs 0 0) stride) (ltb (getD pairs 1 0) stride) b),
-      ltb-true (getD pairs 1 0) stride (and-second (ltb (getD pairs 0 0) stride) (ltb (getD pairs 1 0) stride) b),
-    )
-pair-below pairs (suc p) (suc k) e h =
-    let b : (ltb (getD pairs 0 0) stride && ltb (getD pairs 1 0) stride)
-    ≡ true = and-first (ltb (getD pairs 0 0) stride && ltb (getD pairs 1 0) stride) (pairsBelow stride stride (pairsOf p (drop 2 pairs))) e in
-    let ih : (getD (drop 2 pairs) (2 * k) 0 < stride) × (getD (drop 2 pairs) (2 * k + 1) 0 < stride) = pair-below (drop 2 pairs) p k
-    (and-second (ltb (getD pairs 0 0) stride && ltb (getD pairs 1 0) stride) (pairsBelow stride stride (pairsOf p (drop 2 pairs))) e) (le-of-suc-le-suc h) in
-    let f : 2 * suc k ≡ 2 + 2 * k = omega arith in
-    let g : 2 * suc k + 1 ≡ 2 + (2 * k + 1) = omega arith in
-    (rw (f, ← getD-drop 2 pairs (2 * k) 0) (ih .0), rw (g, ← getD-drop 2 pairs (2 * k + 1) 0) (ih .1))
-
--- its column on a side
-pub side-below : (pairs : List ℕ) (p k side : ℕ) → pairsBelow stride stride (pairsOf p pairs) ≡ true → k < p → side ≤ 1 → getD pairs (2 * k + side) 0 < stride
-side-below pairs p k zero e h s = let z : 2 * k + 0 ≡ 2 * k = omega arith in rw z (pair-below pairs p k e h .0)
-side-below pairs p k (suc zero) e h s = pair-below pairs p k e h .1
-side-below pairs p k (suc (suc side)) e h s = absurd (omega arith)
 
 -- the column of the pair at an index on a side
 side-column : (pairs : List ℕ) (k side : ℕ) → side ≤ 1 → sideColumn side (record { left = getD (drop k pairs) 0 0; right = getD (drop k pairs) 1 0 }) ≡ getD pairs (k + side) 0

@@ -1,7 +1,8 @@
 use native.Mathlib.Omega.{arith}
 use Rattle.model.specs.Areas.{stride}
 use Rattle.rows.specs.Rows.{rowAt}
-use Rattle.keys.proofs.Keys.{key-none, key-one, key-two, side-below}
+use Rattle.masks.proofs.Masks.{side-below}
+use Rattle.keys.proofs.Keys.{key-none, key-one, key-two}
 use borrow.Author.Needs.{needs}
 use Rattle.keys.proofs.key_of.Statement.{statement}
 use Rattle.keys.proofs.key_of.Tie as tie
