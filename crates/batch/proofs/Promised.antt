@@ -1,5 +1,4 @@
 -- What a batch leaves keeps the promise, case by case. Assumes nothing.
--- ---- promises
 use mathlib.Core.List.{List, _∷_, map, []}
 use mathlib.Core.Path.{_≡_, refl, _∙_, ap, subst, sym, ap₂}
 use mathlib.Core.Bool.{false, true, Bool, _||_}
@@ -11,7 +10,9 @@ use borrow.Author.Tests.{eq-eqb, ne-eqb}
 use Rattle.model.specs.Network.{Node, within, AllFit, widths}
 use Rattle.model.specs.Areas.{Areas, holding, holdingRows, layout, coherent, over, stateIn, batchNumber, rowsIn, tablesOf, goodForm, sameRelations, stampAt, headOf, KeepsRest, areaOf}
 use Rattle.model.specs.Station.{Step, State, limit, refusedStep, advance, advanceRows, step, lastNumber, applyEvents}
-use Rattle.model.specs.Record.{isAccepted, refused, accepted, Bytes, Verdict}
+use Rattle.model.specs.Record.{isAccepted, refused, accepted, Bytes, Verdict, offsets}
+use Rattle.named_tables.specs.Named.{NamesNodes}
+use Rattle.tables.proofs.Acts.{accepted-names}
 use Rattle.model.specs.Calls.{resultOf, promiseOf, settled, free, Result, Keeps, Free, freelyRefused, freelyAccepted}
 use Rattle.model.specs.Row.{Relation, numbersBelow, maxNodes}
 use Rattle.network.specs.declared.Network.{Network}
@@ -21,7 +22,7 @@ use Rattle.network.specs.Reading.{nodesOf}
 use Rattle.model.specs.Batch.{readBatch}
 use Rattle.states.proofs.Batches.{batch-within}
 use Rattle.propagation.specs.Propagated.{Propagatable, tablesAfter, newRows, limitVerdict}
-use Rattle.working.specs.Worked.{WorkedTo}
+use Rattle.working.specs.Worked.{told, WorkedTo}
 use Rattle.new_rows.specs.Working.{working}
 use Rattle.coherence.specs.Held.{rowsHeld}
 use Rattle.model.specs.Evaluation.{overfull, evaluate}
@@ -132,6 +133,10 @@ module _ (net : Network) (bs : Bytes) (rows gained lost head : List ℕ) (can : 
     pub ready : Propagatable net rows head bs
     ready = record { checkable = can .checkable; accepts = u .accepts }
 
+    -- the batch's events name nodes
+    pub names : NamesNodes bs (offsets bs)
+    names = accepted-names (nodesOf net) bs 0 (u .accepts) (rw (nodes-count net (can .checkable .built)) (can .checkable .built .sound .few))
+
     abbrev old : List Relation
     old = rowsHeld net rows head
 
@@ -190,11 +195,12 @@ module _ (net : Network) (bs : Bytes) (rows gained lost head : List ℕ) (can : 
             frees (nodesOf net) (lent rows gained lost head) st c number-free (record { verdict = refused 14 i; areas = lent rows gained lost head }) (freelyRefused refl node refl)
 
     -- every node's new rows worked out and written
-    module _ (work counts : List ℕ) (changed : List Bool) (to : WorkedTo head (newRows net rows head bs) (working (net .widths) rows work counts changed) (net .count)) where
+    module _ (work counts : List ℕ) (changed : List Bool) (picks sizes : List ℕ)
+        (to : WorkedTo head (newRows net rows head bs) (working (net .widths) rows work counts changed) (told picks sizes) (net .count)) where
       pub fits : Fitting (widths (nodesOf net)) (newRows net rows head bs)
-      fits = new-fits net rows head bs ready (working (net .widths) rows work counts changed) to
+      fits = new-fits net rows head bs ready (working (net .widths) rows work counts changed) (told picks sizes) to
 
-      abbrev pub worked-out : WorkedOut net rows gained lost head work counts changed
+      abbrev pub worked-out : WorkedOut net rows gained lost head work counts changed picks sizes
       worked-out = record { built = can .checkable .built; long = can .long; form = can .form; new = newRows net rows head bs; worked = to; fits = fits }
 
       abbrev next : State
@@ -210,7 +216,7 @@ module _ (net : Network) (bs : Bytes) (rows gained lost head : List ℕ) (can : 
       longs = long-parts rows gained lost head (can .long)
 
       changes-many : length (next .changes) ≡ net .count
-      changes-many = changes-count net rows gained lost head work counts changed worked-out
+      changes-many = changes-count net rows gained lost head work counts changed picks sizes worked-out
 
       stamps-many : length (next .stamps) ≤ maxNodes
       unfolding stateIn
@@ -229,9 +235,9 @@ module _ (net : Network) (bs : Bytes) (rows gained lost head : List ℕ) (can : 
       keeps-rest =
           let r : length (areaOf layout (newRows net rows head bs)) ≡ areaSize = area-length (widths (nodesOf net)) (newRows net rows head bs) fits in
           let g : length (areaOf layout (map (λ c. c .gained) (next .changes))) ≡ areaSize = area-length (widths (nodesOf net)) (map (λ c. c .gained) (next .changes))
-          (gained-fit net rows gained lost head work counts changed worked-out) in
+          (gained-fit net rows gained lost head work counts changed picks sizes worked-out) in
           let l : length (areaOf layout (map (λ c. c .lost) (next .changes))) ≡ areaSize = area-length (widths (nodesOf net)) (map (λ c. c .lost) (next .changes))
-          (lost-fit net rows gained lost head work counts changed worked-out) in
+          (lost-fit net rows gained lost head work counts changed picks sizes worked-out) in
           record {
             rows-length = over-length (areaOf layout (newRows net rows head bs)) rows (rw r (longs .0));
             rows = over-rest (areaOf layout (newRows net rows head bs)) rows areaSize r;

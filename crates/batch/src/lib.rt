@@ -3,6 +3,7 @@ ghost use Rattle.areas.specs.Lent.{lent};
 ghost use Rattle.network.specs.Reading.{resultWith};
 ghost use Rattle.batch.specs.Applying.{Applicable, AppliedTo, Unrefused};
 use areas::AREA;
+use differences::PICKS;
 use network::Network;
 use propagation::Propagated;
 use rows::MAX_NODES;
@@ -30,11 +31,38 @@ fn advance(
     let mut work = [0u32; AREA];
     let mut counts = [0u32; MAX_NODES];
     let mut changed = [false; MAX_NODES];
-    let done = propagation::propagate(net, bytes, rows, head, &mut work, &mut counts, &mut changed);
+    let mut due = named_tables::named_nodes(bytes);
+    let mut picks = [0u8; MAX_NODES * PICKS];
+    let mut sizes = [0u32; 2 * MAX_NODES];
+    let done = propagation::propagate(
+        net,
+        bytes,
+        rows,
+        head,
+        &mut work,
+        &mut counts,
+        &mut changed,
+        &mut due,
+        &mut picks,
+        &mut sizes,
+    );
     let Propagated::All = done else {
         return propagation::verdict_of(done);
     };
-    transition::write_state(net, &work, &counts, &changed, rows, gained, lost, head);
+    transition::write_state(
+        net.count,
+        &net.levels,
+        &work,
+        &counts,
+        &changed,
+        &due,
+        &picks,
+        &sizes,
+        rows,
+        gained,
+        lost,
+        head,
+    );
     propagation::verdict_of(done)
 }
 
@@ -55,7 +83,7 @@ pub fn apply_batch(
     if head[0] == LAST {
         return verdicts::refused(9, 0);
     }
-    let read = events::read_batch(net, bytes);
+    let read = events::read_batch(net.count, &net.widths, &net.levels, bytes);
     if read.number != 0 {
         return read;
     }

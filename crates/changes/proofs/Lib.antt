@@ -1,3 +1,3 @@
 pub mod Filled
-pub mod Kept
+pub mod Node
 pub mod Out

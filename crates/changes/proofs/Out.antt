@@ -1,19 +1,16 @@
 -- What is known of the areas and of the new rows when the writing begins, and after each node. Assumes nothing.
--- one element more of a list of lengths
-use mathlib.Core.List.{List, map, _++_, _∷_, []}
-use Prim.Native.Nat.{ℕ, _<_, _+_, suc, _≤_}
-use lib.ListN.{length, take, getD, set, length-map, replicate}
+use mathlib.Core.List.{List, []}
+use Prim.Native.Nat.{ℕ, _<_, _+_, _≤_}
+use lib.ListN.{length, getD}
 use mathlib.Core.Path.{_≡_, ap, _∙_, refl, ap₂, sym}
 use native.Mathlib.Omega.{arith}
-use lib.Seq.{take-suc, length-take-le}
 use mathlib.Core.Bool.{Bool, true, cond, false, not}
 use native.Mathlib.Nat.{le-refl}
-use Rattle.model.specs.Row.{Relation, sameRows, maxNodes, maxRows, maxWidth}
-use Rattle.model.specs.Areas.{padded, Areas, rowsIn, layout, goodArea, rowCount, gainedCount, lostCount, goodStamps, goodWorked, heldIn}
-use Rattle.rows.proofs.Padding.{padded-more}
+use Rattle.model.specs.Row.{Relation, sameRows, maxNodes, maxWidth}
+use Rattle.model.specs.Areas.{Areas, rowsIn, layout, goodArea, rowCount, gainedCount, lostCount, goodStamps, goodWorked, heldIn, areaSize, headWords}
 use Rattle.model.specs.Network.{widths}
 use Rattle.network.specs.declared.Network.{Network}
-use Rattle.changes.specs.Written.{WorkedOut, gainedOf, lostOf, WritesNodes, filled, WritesNode, placed}
+use Rattle.changes.specs.Written.{WorkedOut, Writable, gainedOf, lostOf, WritesNodes, filled, WritesNode, placed}
 use Rattle.areas.specs.Lent.{lent, placeAt}
 use Rattle.network.specs.Reading.{nodesOf, Built}
 use Rattle.areas.proofs.Good.{long-parts}
@@ -26,31 +23,14 @@ use Rattle.states.proofs.Written.{sized}
 use Rattle.model.specs.Delta.{netChanges, netChange, Change, isChanged, changeAt}
 use Rattle.states.proofs.Changes.{changes-length, gained-fits, lost-fits, map-at, changes-at, changed-is}
 use Rattle.model.specs.Algebra.{differenceRows}
-use Rattle.working.specs.Worked.{Worked}
+use Rattle.working.specs.Worked.{told, gainsAt, lossesAt, Worked}
 use Rattle.new_rows.specs.Working.{working, oldRows}
 use Rattle.places.specs.Places.{Place, relationIn}
-use Rattle.working.proofs.Differ.{fills-place, same-flag}
+use Rattle.working.proofs.Differ.{fills-place}
 use Rattle.laws.proofs.Sets.{ascending-holds}
-use Rattle.places.proofs.Places.{place-count}
 use Rattle.changes.proofs.Filled.{filled-later, filled-length, filled-more, filled-none}
-use Rattle.changes.specs.declared.Sizes.{Sizes}
-use Rattle.states.proofs.Head.{padded-length}
-use Rattle.laws.proofs.Parts.{map-append}
-use Rattle.model.specs.Areas.{areaSize, headWords}
 
-lengths-more : (rels : List Relation) (i : ℕ) → i < length rels → map length (take (i + 1) rels) ≡ map length (take i rels) ++ (length (getD rels i []) ∷ [])
-lengths-more rels i h = let e : i + 1
-    ≡ suc i = omega arith in ap (λ (k : ℕ). map length (take k rels)) e ∙ ap (map length) (take-suc rels i [] h) ∙ map-append {A = Relation} {B = ℕ} length (take i rels) (getD rels i [] ∷ [])
-
--- a count set in an array of 32
-sizes-more : (rels : List Relation) (i : ℕ) (array : List ℕ) (x : ℕ) → i < length rels → length rels ≤ maxNodes → array ≡ padded maxNodes (map length (take i rels)) → x ≡ length (getD rels i []) →
-    set array i x ≡ padded maxNodes (map length (take (i + 1) rels))
-sizes-more rels i array x h few e f =
-    let size : length (map length (take i rels)) ≡ i = length-map (take i rels) length ∙ length-take-le i rels (omega arith) in
-    ap₂ {A = List ℕ} {B = ℕ} {C = List ℕ} (λ a y. set a i y) e f ∙ padded-more maxNodes (map length (take i rels)) (length (getD rels i [])) i size (omega arith)
-    ∙ ap (padded maxNodes) (sym (lengths-more rels i h))
-
-module _ (net : Network) (rows gained lost head work counts : List ℕ) (changed : List Bool) (o : WorkedOut net rows gained lost head work counts changed) where
+module _ (net : Network) (rows gained lost head work counts : List ℕ) (changed : List Bool) (picks sizes : List ℕ) (o : WorkedOut net rows gained lost head work counts changed picks sizes) where
   abbrev a : Areas
   a = lent rows gained lost head
 
@@ -120,7 +100,7 @@ module _ (net : Network) (rows gained lost head work counts : List ℕ) (changed
     width : getD (widths (nodesOf net)) i 0 ≡ getD (net .widths) i 0
     width = width-is net b i h
 
-    ready : Worked head (working (net .widths) rows work counts changed) (getD (o .new) i []) i
+    ready : Worked head (working (net .widths) rows work counts changed) (told picks sizes) (getD (o .new) i []) i
     ready = o .worked .worked i h
 
     rows-place : Place (getD (widths (nodesOf net)) i 0) (placeAt rows i) (rowCount head i)
@@ -154,15 +134,9 @@ module _ (net : Network) (rows gained lost head work counts : List ℕ) (changed
         (ascending-holds (getD (o .new) i []) (o .fits .asc i (inside i h))))
         ∙ ap isChanged (sym (changes-at old (o .new) i (old-fits .size ∙ sym (o .fits .size)) (rw (old-fits .size ∙ size) h)))
 
-    kept-count : getD changed i false ≡ false → getD counts i 0 ≡ rowCount head i
-    kept-count e =
-        let same : getD (o .new) i [] ≡ getD old i [] = same-flag (getD (o .new) i []) (getD old i [])
-        (ap (λ (r : Relation). not (sameRows (getD (o .new) i []) r)) (sym old-same) ∙ sym (ready .changed) ∙ e) in
-        ready .count ∙ ap length same ∙ ap length (sym (rows-place .1)) ∙ place-count (getD (widths (nodesOf net)) i 0) (placeAt rows i) (rowCount head i) (rows-place .0)
-
     -- ---- while the places before it are written
 
-    module _ (rows′ gained′ lost′ gains losses : List ℕ) (k : WritesNodes (nodesOf net) (o .new) rows gained lost head rows′ gained′ lost′ gains losses i) where
+    module _ (rows′ gained′ lost′ : List ℕ) (k : WritesNodes (nodesOf net) (o .new) rows gained lost head rows′ gained′ lost′ i) where
       before : (rels : List Relation) → Fitting (widths (nodesOf net)) rels → i ≤ length rels
       before rels f = omega (arith, f .size, size, h)
 
@@ -188,37 +162,32 @@ module _ (net : Network) (rows gained lost head work counts : List ℕ) (changed
           go true = refl
           go false = rows-still
 
-      -- what writing the node asks
-      pub record Asks : Type 0 where
-        pub rows-long : areaSize ≤ length rows′
-        pub gained-long : areaSize ≤ length gained′
-        pub lost-long : areaSize ≤ length lost′
-        pub work-long : areaSize ≤ length work
-        pub new-at : Place (getD (widths (nodesOf net)) i 0) (placeAt (cond (getD changed i false) work rows′) i) (getD counts i 0)
-        pub old-at : Place (getD (widths (nodesOf net)) i 0) (placeAt rows′ i) (rowCount head i)
-        pub gained-at′ : Place (getD (widths (nodesOf net)) i 0) (placeAt gained′ i) (gainedCount head i)
-        pub lost-at′ : Place (getD (widths (nodesOf net)) i 0) (placeAt lost′ i) (lostCount head i)
-        pub kept : getD changed i false ≡ false → getD counts i 0 ≡ rowCount head i
-
-      pub asks : Asks
-      asks =
-          record {
-            rows-long = long-still (o .new) rows rows′ (o .fits) (longs .0) (k .rows-are);
-            gained-long = long-still (gainedOf old (o .new)) gained gained′ gained-fit (longs .1) (k .gained-are);
-            lost-long = long-still (lostOf old (o .new)) lost lost′ lost-fit (longs .2) (k .lost-are);
-            work-long = omega (arith, o .worked .sized .work);
-            new-at = rw present-still (new-place .0);
-            old-at = rw rows-still (rows-place .0);
-            gained-at′ = rw gained-still gained-place;
-            lost-at′ = rw lost-still lost-place;
-            kept = kept-count;
-          }
-
       was : relationIn (getD (widths (nodesOf net)) i 0) (placeAt rows′ i) (rowCount head i) ≡ getD old i []
       was = ap (λ (s : List ℕ). relationIn (getD (widths (nodesOf net)) i 0) s (rowCount head i)) rows-still ∙ rows-place .1
 
       is : relationIn (getD (widths (nodesOf net)) i 0) (placeAt (cond (getD changed i false) work rows′) i) (getD counts i 0) ≡ getD (o .new) i []
       is = ap (λ (s : List ℕ). relationIn (getD (widths (nodesOf net)) i 0) s (getD counts i 0)) present-still ∙ new-place .1
+
+      -- the node can be written
+      pub can-write : Writable rows′ gained′ lost′ head work counts changed picks sizes i
+      can-write =
+          record {
+            inside = omega (arith, h, few-nodes);
+            rows-long = long-still (o .new) rows rows′ (o .fits) (longs .0) (k .rows-are);
+            gained-long = long-still (gainedOf old (o .new)) gained gained′ gained-fit (longs .1) (k .gained-are);
+            lost-long = long-still (lostOf old (o .new)) lost lost′ lost-fit (longs .2) (k .lost-are);
+            head-long = longs .3;
+            work-long = omega (arith, o .worked .sized .work);
+            counts-long = o .worked .sized .counts;
+            changed-long = o .worked .sized .changed;
+            told-long = o .worked .told;
+            width = getD (widths (nodesOf net)) i 0;
+            old-at = rw rows-still (rows-place .0);
+            new-at = rw present-still (new-place .0);
+            gained-at = rw gained-still gained-place;
+            lost-at = rw lost-still lost-place;
+            tells = rw (was ∙ sym old-same, rows-still, is) (ready .tells);
+          }
 
       gained-is : differenceRows (relationIn (getD (widths (nodesOf net)) i 0) (placeAt (cond (getD changed i false) work rows′) i) (getD counts i 0))
           (relationIn (getD (widths (nodesOf net)) i 0) (placeAt rows′ i) (rowCount head i)) ≡ getD (gainedOf old (o .new)) i []
@@ -228,21 +197,15 @@ module _ (net : Network) (rows gained lost head work counts : List ℕ) (changed
           (relationIn (getD (widths (nodesOf net)) i 0) (placeAt (cond (getD changed i false) work rows′) i) (getD counts i 0)) ≡ getD (lostOf old (o .new)) i []
       lost-is = ap₂ {A = Relation} {B = Relation} {C = Relation} (λ x y. differenceRows x y) was is ∙ sym (lost-at i h)
 
-      -- the sizes of a change are those of places
-      pub sizes-small : (rows″ gained″ lost″ : List ℕ) (sizes : Sizes) → WritesNode (relationIn (getD (widths (nodesOf net)) i 0) (placeAt rows′ i) (rowCount head i))
-          (relationIn (getD (widths (nodesOf net)) i 0) (placeAt (cond (getD changed i false) work rows′) i) (getD counts i 0)) rows′ gained′ lost′ rows″ gained″ lost″ i sizes →
-          (sizes .gained ≤ maxRows) × (sizes .lost ≤ maxRows)
-      sizes-small rows″ gained″ lost″ sizes n =
-          let g : sizes .gained ≡ length (getD (gainedOf old (o .new)) i []) = ap (λ (x : Sizes). x .gained) (n .sizes-are) ∙ ap length gained-is in
-          let l : sizes .lost ≡ length (getD (lostOf old (o .new)) i []) = ap (λ (x : Sizes). x .lost) (n .sizes-are) ∙ ap length lost-is in
-          (omega (arith, g, gained-fit .small i (inside i h)), omega (arith, l, lost-fit .small i (inside i h)))
-
       -- one node more
-      pub writes-more : (rows″ gained″ lost″ : List ℕ) (sizes : Sizes) →
-          WritesNode (relationIn (getD (widths (nodesOf net)) i 0) (placeAt rows′ i) (rowCount head i))
-          (relationIn (getD (widths (nodesOf net)) i 0) (placeAt (cond (getD changed i false) work rows′) i) (getD counts i 0)) rows′ gained′ lost′ rows″ gained″ lost″ i sizes →
-          WritesNodes (nodesOf net) (o .new) rows gained lost head rows″ gained″ lost″ (set gains i (sizes .gained)) (set losses i (sizes .lost)) (i + 1)
-      writes-more rows″ gained″ lost″ sizes n =
+      pub writes-more : (rows″ gained″ lost″ : List ℕ) →
+          ((q : Writable rows′ gained′ lost′ head work counts changed picks sizes i) → WritesNode (relationIn (q .width) (placeAt rows′ i) (rowCount head i))
+          (relationIn (q .width) (placeAt (cond (getD changed i false) work rows′) i) (getD counts i 0)) rows′ gained′ lost′ rows″ gained″ lost″ i) →
+          WritesNodes (nodesOf net) (o .new) rows gained lost head rows″ gained″ lost″ (i + 1)
+      unfolding can-write
+      writes-more rows″ gained″ lost″ written =
+          let n : WritesNode (relationIn (getD (widths (nodesOf net)) i 0) (placeAt rows′ i) (rowCount head i))
+          (relationIn (getD (widths (nodesOf net)) i 0) (placeAt (cond (getD changed i false) work rows′) i) (getD counts i 0)) rows′ gained′ lost′ rows″ gained″ lost″ i = written can-write in
           record {
             rows-are = n .rows-are ∙ ap₂ {A = List ℕ} {B = Relation} {C = List ℕ} (λ s r. placed s i r) (k .rows-are) is
                 ∙ filled-more (o .new) rows (sized (widths (nodesOf net)) (o .new) (o .fits)) i (below (o .new) (o .fits));
@@ -250,44 +213,35 @@ module _ (net : Network) (rows gained lost head work counts : List ℕ) (changed
                 ∙ filled-more (gainedOf old (o .new)) gained (sized (widths (nodesOf net)) (gainedOf old (o .new)) gained-fit) i (below (gainedOf old (o .new)) gained-fit);
             lost-are = n .lost-are ∙ ap₂ {A = List ℕ} {B = Relation} {C = List ℕ} (λ s r. placed s i r) (k .lost-are) lost-is
                 ∙ filled-more (lostOf old (o .new)) lost (sized (widths (nodesOf net)) (lostOf old (o .new)) lost-fit) i (below (lostOf old (o .new)) lost-fit);
-            gains-are = sizes-more (gainedOf old (o .new)) i gains (sizes .gained) (below (gainedOf old (o .new)) gained-fit) (short (gainedOf old (o .new)) gained-fit) (k .gains-are)
-                (ap (λ (x : Sizes). x .gained) (n .sizes-are) ∙ ap length gained-is);
-            losses-are = sizes-more (lostOf old (o .new)) i losses (sizes .lost) (below (lostOf old (o .new)) lost-fit) (short (lostOf old (o .new)) lost-fit) (k .losses-are)
-                (ap (λ (x : Sizes). x .lost) (n .sizes-are) ∙ ap length lost-is);
           }
         where
           below : (rels : List Relation) → Fitting (widths (nodesOf net)) rels → i < length rels
           below rels f = omega (arith, f .size, size, h)
 
-          short : (rels : List Relation) → Fitting (widths (nodesOf net)) rels → length rels ≤ maxNodes
-          short rels f = omega (arith, f .size, f .few)
+    -- how many rows the node gained and lost
+    pub gains-is : gainsAt (told picks sizes) i ≡ length (getD (gainedOf old (o .new)) i [])
+    gains-is = ready .tells .came .count ∙ ap length (ap (differenceRows (getD (o .new) i [])) old-same ∙ sym (gained-at i h))
+
+    pub losses-is : lossesAt (told picks sizes) i ≡ length (getD (lostOf old (o .new)) i [])
+    losses-is = ready .tells .gone .count ∙ ap length (ap (λ (r : Relation). differenceRows r (getD (o .new) i [])) old-same ∙ sym (lost-at i h))
 
   -- nothing written yet
-  pub writes-none : WritesNodes (nodesOf net) (o .new) rows gained lost head rows gained lost (replicate maxNodes 0) (replicate maxNodes 0) 0
+  pub writes-none : WritesNodes (nodesOf net) (o .new) rows gained lost head rows gained lost 0
   writes-none =
       record {
         rows-are = filled-none (o .new) rows (sized (widths (nodesOf net)) (o .new) (o .fits));
         gained-are = filled-none (gainedOf old (o .new)) gained (sized (widths (nodesOf net)) (gainedOf old (o .new)) gained-fit);
         lost-are = filled-none (lostOf old (o .new)) lost (sized (widths (nodesOf net)) (lostOf old (o .new)) lost-fit);
-        gains-are = refl;
-        losses-are = refl;
       }
 
   -- the lengths stay
-  pub writes-lengths : (rows′ gained′ lost′ gains losses : List ℕ) (i : ℕ) → i ≤ net .count → WritesNodes (nodesOf net) (o .new) rows gained lost head rows′ gained′ lost′ gains losses i →
-      (length rows′ ≡ length rows) × (length gained′ ≡ length gained) × (length lost′ ≡ length lost) × (length gains ≡ maxNodes) × (length losses ≡ maxNodes)
-  writes-lengths rows′ gained′ lost′ gains losses i h k = (
+  pub writes-lengths : (rows′ gained′ lost′ : List ℕ) (i : ℕ) → i ≤ net .count → WritesNodes (nodesOf net) (o .new) rows gained lost head rows′ gained′ lost′ i →
+      (length rows′ ≡ length rows) × (length gained′ ≡ length gained) × (length lost′ ≡ length lost)
+  writes-lengths rows′ gained′ lost′ i h k = (
     area (o .new) rows rows′ (o .fits) (longs .0) (k .rows-are),
     area (gainedOf old (o .new)) gained gained′ gained-fit (longs .1) (k .gained-are),
     area (lostOf old (o .new)) lost lost′ lost-fit (longs .2) (k .lost-are),
-    array (gainedOf old (o .new)) gains gained-fit (k .gains-are),
-    array (lostOf old (o .new)) losses lost-fit
-        (k .losses-are),
   )
     where
       area : (rels : List Relation) (x y : List ℕ) → Fitting (widths (nodesOf net)) rels → areaSize ≤ length x → y ≡ filled rels i x → length y ≡ length x
       area rels x y f l e = ap length e ∙ filled-length rels x (sized (widths (nodesOf net)) rels f) i (omega (arith, f .size, size, h)) (omega (arith, h, few-nodes, l))
-
-      array : (rels : List Relation) (x : List ℕ) → Fitting (widths (nodesOf net)) rels → x ≡ padded maxNodes (map length (take i rels)) → length x ≡ maxNodes
-      array rels x f e = ap length e
-          ∙ padded-length maxNodes (map length (take i rels)) (rw (length-map (take i rels) length, length-take-le i rels (omega (arith, f .size, size, h))) (omega (arith, h, few-nodes)))

@@ -2,20 +2,20 @@
 use mathlib.Core.Bool.{Bool, false, true}
 use mathlib.Core.List.{List, map}
 use mathlib.Core.Path.{ap, ap₂, refl, sym, _∙_, _≡_}
-use Prim.Native.Nat.{_+_, _<_, ℕ, _≤_}
+use Prim.Native.Nat.{_+_, _*_, _<_, ℕ, _≤_}
 use native.Mathlib.Omega.{arith}
 use native.Mathlib.Nat.{le-refl}
 use lib.ListN.{getD, length, take}
-use lib.Seq.{take-all}
 use Rattle.coherence.specs.Held.{Derived, Places, givenAt, heldAt}
 use Rattle.places.specs.Places.{Fills}
-use Rattle.model.specs.Row.{Relation, sameRow, sameRows, maxRows, maxWidth, Wide}
+use Rattle.model.specs.Row.{Row, Relation, sameRow, sameRows, maxRows, maxWidth, Wide}
 use Rattle.network.specs.declared.Slot.{Slot}
 use Rattle.rows.specs.Rows.{firstRows}
-use Rattle.rows.proofs.Checked.{placed-rows, place-length}
+use Rattle.rows.proofs.Checked.{placed-rows}
+use Rattle.rows.proofs.Words.{rows-part}
 use Rattle.words.specs.Runs.{sameFirst}
 use Rattle.rows.proofs.Place.{held-wide, length-held}
-use Rattle.model.specs.Areas.{layout, placeOf, rowCount, placeSize, stride}
+use Rattle.model.specs.Areas.{layout, placeOf, rowCount, stride}
 use Rattle.model.specs.Network.{leftOf, rightOf}
 use Rattle.laws.proofs.ByKind.{on-wide}
 use Rattle.coherence.proofs.Placed.{rows-few, words-at}
@@ -38,30 +38,27 @@ fewer ws n m rows head h p =
       good = λ i k. p .good i (omega arith);
     }
 
--- rows of one width and count with the same words are the same
-pub words-rows-same : (w : ℕ) (a b : Relation) → w ≤ maxWidth → Wide w a → Wide w b → length a ≤ maxRows → length a ≡ length b → placeOf layout a ≡ placeOf layout b → a ≡ b
-words-rows-same w a b h wa wb few size e =
-    let read : (r : Relation) → Wide w r → length r ≤ maxRows → map (take w) (firstRows (placeOf layout r) (length r)) ≡ r = λ r wr f. ap (map (take w)) (placed-rows w r h wr f)
-    ∙ unpadded stride w r wr in
-    sym (read a wa few)
-    ∙ ap₂ {A = List ℕ} {B = ℕ} {C = Relation} (λ s n. map (take w) (firstRows s n)) e size
-    ∙ read b wb (rw (← size) few)
+-- the first words of a place are those of its rows
+front-rows : (w : ℕ) (a : Relation) (x : List ℕ) (n : ℕ) → w ≤ maxWidth → Wide w a → length a ≤ maxRows → n ≡ length a → x ≡ placeOf layout a →
+    map (take w) (firstRows (take (n * stride) x) n) ≡ a
+front-rows w a x n h wa few size e =
+    ap (map (take w)) (rows-part stride (n * stride) x 0 n (le-refl (n * stride)) ∙ ap₂ {A = List ℕ} {B = ℕ} {C = List Row} firstRows e size ∙ placed-rows w a h wa few)
+    ∙ unpadded stride w a wa
 
--- two places with the rows of one width: the words are the same exactly if the rows are
-pub places-decide : (w : ℕ) (a b : Relation) (x y : List ℕ) → w ≤ maxWidth → Wide w a → Wide w b → length a ≤ maxRows → length a ≡ length b → x ≡ placeOf layout a → y ≡ placeOf layout b →
-    sameFirst placeSize x y ≡ sameRows a b
-places-decide w a b x y narrow wa wb few size ex ey =
-    let whole : (r : Relation) (s : List ℕ) → Wide w r → length r ≤ maxRows → s ≡ placeOf layout r →
-    take placeSize s ≡ s = λ r s wr f e. take-all placeSize s (rw (ap length e ∙ place-length w r narrow wr f) (le-refl placeSize)) in
-    let first : take placeSize x ≡ x = whole a x wa few ex in
-    let second : take placeSize y ≡ y = whole b y wb (rw (← size) few) ey in
-    bool-same (sameFirst placeSize x y) (sameRows a b)
+-- two places with n rows of one width: the rows' words are the same exactly if the rows are
+pub places-decide : (w : ℕ) (a b : Relation) (x y : List ℕ) (n : ℕ) → w ≤ maxWidth → Wide w a → Wide w b → length a ≤ maxRows → n ≡ length a → n ≡ length b → x ≡ placeOf layout a
+    → y ≡ placeOf layout b → sameFirst (n * stride) x y ≡ sameRows a b
+places-decide w a b x y n narrow wa wb few size same ex ey =
+    bool-same (sameFirst (n * stride) x y) (sameRows a b)
     (λ g.
-    let same : a ≡ b = words-rows-same w a b narrow wa wb few size (sym ex ∙ sym first ∙ sameRow-eq (take placeSize x) (take placeSize y) g ∙ second ∙ ey) in
-    ap (sameRows a) (sym same) ∙ sameRows-refl a)
+    let rows : a ≡ b =
+    sym (front-rows w a x n narrow wa few size ex)
+    ∙ ap (λ (s : List ℕ). map (take w) (firstRows s n)) (sameRow-eq (take (n * stride) x) (take (n * stride) y) g)
+    ∙ front-rows w b y n narrow wb (rw (sym same ∙ size) few) same ey in
+    ap (sameRows a) (sym rows) ∙ sameRows-refl a)
     (λ g.
     let words : x ≡ y = ex ∙ ap (placeOf layout) (sameRows-eq a b g) ∙ sym ey in
-    ap (λ (s : List ℕ). sameRow (take placeSize x) (take placeSize s)) (sym words) ∙ sameRow-refl (take placeSize x))
+    ap (λ (s : List ℕ). sameRow (take (n * stride) x) (take (n * stride) s)) (sym words) ∙ sameRow-refl (take (n * stride) x))
 
 -- relations of other sizes are not the same
 pub sizes-differ : (a b : Relation) → (length a ≡ length b → ⊥) → sameRows a b ≡ false
@@ -97,8 +94,8 @@ module _ (slot : Slot) (ws rows head : List ℕ) (i : ℕ) (p : Places ws (i + 1
   over-differs o = sizes-differ (heldAt ws head rows i) (givenAt slot ws head rows) (λ g. absurd (omega (arith, o, g, rows-few ws (i + 1) rows head p i here)))
 
   -- the same count: the same rows exactly if the words are the same
-  pub words-decide : (out : List ℕ) (count : ℕ) → Fills (givenAt slot ws head rows) out count → rowCount head i ≡ count → sameFirst placeSize (placeAt rows i) out
+  pub words-decide : (out : List ℕ) (count : ℕ) → Fills (givenAt slot ws head rows) out count → rowCount head i ≡ count → sameFirst (count * stride) (placeAt rows i) out
       ≡ sameRows (heldAt ws head rows i) (givenAt slot ws head rows)
   words-decide out count f e =
-      places-decide (getD ws i 0) (heldAt ws head rows i) (givenAt slot ws head rows) (placeAt rows i) out (p .narrow i) wide-held wide-given (rows-few ws (i + 1) rows head p i here)
-      (length-held layout (getD ws i 0) (rowCount head i) rows i ∙ e ∙ f .count) (words-at ws (i + 1) rows head p i here) (f .is)
+      places-decide (getD ws i 0) (heldAt ws head rows i) (givenAt slot ws head rows) (placeAt rows i) out count (p .narrow i) wide-held wide-given (rows-few ws (i + 1) rows head p i here)
+      (sym (length-held layout (getD ws i 0) (rowCount head i) rows i ∙ e)) (f .count) (words-at ws (i + 1) rows head p i here) (f .is)

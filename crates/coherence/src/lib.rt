@@ -15,6 +15,7 @@ use evaluation::Held;
 use network::Network;
 use network::Slot;
 use places::Made;
+use rows::STRIDE;
 
 // The width and the count of node i's rows.
 fn held(widths: &[usize], head: &[u32], i: usize) -> Held
@@ -68,7 +69,7 @@ fn rows_agree(slot: Slot, widths: &[usize], rows: &[u32], head: &[u32], i: usize
             if head[ROW_COUNTS + i] as usize != count {
                 return false;
             }
-            words::same_words(&rows[i * PLACE..i * PLACE + PLACE], &out, PLACE)
+            words::same_words(&rows[i * PLACE..i * PLACE + PLACE], &out, count * STRIDE)
         }
     }
 }

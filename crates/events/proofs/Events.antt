@@ -15,7 +15,7 @@ use Rattle.network.specs.Reading.{Built, noSlot, nodesOf, slotNode}
 use Rattle.model.specs.Record.{Bytes, Verdict, accepted, fieldAt, firstBroken, isBroken, kindAt, lengthAt, offsets, refused, rule}
 use Rattle.model.specs.Batch.{Event, eventAt, eventFault, eventFaultBy, eventFits, eventFitsBy, isEventKind, maxEvents, readBatch, readEvents}
 use Rattle.records.proofs.Header.{Whole, whole}
-use Rattle.events.specs.Reading.{ReadsEvent, isTableIn, numberOf, sizeOf}
+use Rattle.events.specs.Reading.{NumbersOf, ReadsEvent, isTableIn, numberOf, sizeOf}
 use Rattle.events.specs.declared.EventRecord.{EventRecord}
 use Rattle.events.specs.declared.EventRecord.the-variants.{Event as Brought, Broken, NoEvent, TooMany, Misfit}
 use Rattle.network.proofs.Nodes.{level-at, nodes-count, slot-node, width-is}
@@ -102,12 +102,18 @@ module _ (net : Network) (b : Built net) (bs : Bytes) where
           both false q r s u = refl
 
   -- a reading by the arrays says what the rules say of the nodes
-  pub reads-number : (before at : ℕ) (r : EventRecord) → ReadsEvent (net .count) (net .widths) (net .levels) before bs at r → numberOf r ≡ eventFault (nodesOf net) before bs at
+  built-number : (before at : ℕ) (r : EventRecord) → ReadsEvent (net .count) (net .widths) (net .levels) before bs at r → numberOf r ≡ eventFault (nodesOf net) before bs at
   unfolding eventFault
-  reads-number before at r e = e .number ∙ ap (λ (f : Bool). eventFaultBy f before bs at) (fits-same at)
+  built-number before at r e = e .number ∙ ap (λ (f : Bool). eventFaultBy f before bs at) (fits-same at)
 
-  pub reads-size : (before at : ℕ) (r : EventRecord) (n : ℕ) → ReadsEvent (net .count) (net .widths) (net .levels) before bs at r → r ≡ Brought n → n ≡ lengthAt bs at
-  reads-size before at r n e f = sym (ap sizeOf f) ∙ e .size (ap numberOf f)
+-- the same of numbers that are a network's
+pub reads-number : {count : ℕ} {ws ls : List ℕ} (o : NumbersOf count ws ls) (bs : Bytes) (before at : ℕ) (r : EventRecord) → ReadsEvent count ws ls before bs at r →
+    numberOf r ≡ eventFault (nodesOf (o .net)) before bs at
+reads-number o bs before at r e =
+    built-number (o .net) (o .built) bs before at r (rw (o .count-is, o .widths-are, o .levels-are) e)
+
+pub reads-size : (count : ℕ) (ws ls : List ℕ) (bs : Bytes) (before at : ℕ) (r : EventRecord) (n : ℕ) → ReadsEvent count ws ls before bs at r → r ≡ Brought n → n ≡ lengthAt bs at
+reads-size count ws ls bs before at r n e f = sym (ap sizeOf f) ∙ e .size (ap numberOf f)
 
 -- what is no event has a number
 pub refused-number : (r : EventRecord) → OneOf (1 ∷ 2 ∷ 3 ∷ 4 ∷ []) (tagOf the-type r) → numberOf r ≡ 0 → ⊥
@@ -119,6 +125,35 @@ refused-number Broken k e = omega arith
 refused-number NoEvent k e = omega arith
 refused-number TooMany k e = omega arith
 refused-number Misfit k e = omega arith
+
+-- ---- what is known of a record without a fault
+
+unbroken : (fits : Bool) (k : ℕ) (bs : Bytes) (at : ℕ) → eventFaultBy fits k bs at ≡ 0 → isBroken bs at ≡ false
+unbroken fits k bs at e = go (isBroken bs at) refl
+  where
+    go : (t : Bool) → isBroken bs at ≡ t → isBroken bs at ≡ false
+    go true f = let z : _≡_ {A = ℕ} 10 0 = rw f at e in absurd (omega arith)
+    go false f = f
+
+-- an event that is read is not the 65th
+unfilled : (fits : Bool) (k : ℕ) (bs : Bytes) (at : ℕ) → eventFaultBy fits k bs at ≡ 0 → k + 1 ≤ maxEvents
+unfilled fits k bs at e = go (isBroken bs at) (isEventKind (kindAt bs at)) (leb maxEvents k) fits refl e
+  where
+    go : (p q r u : Bool) → leb maxEvents k ≡ r → firstBroken (rule 10 p ∷ rule 11 (not q) ∷ rule 12 r ∷ rule 13 (not u) ∷ []) ≡ 0 → k + 1 ≤ maxEvents
+    go true q r u f z = absurd (omega arith)
+    go false false r u f z = absurd (omega arith)
+    go false true true u f z = absurd (omega arith)
+    go false true false u f z = omega (arith, leb-false maxEvents k f)
+
+module _ (count : ℕ) (ws ls : List ℕ) (before : ℕ) (bs : Bytes) (at : ℕ) (r : EventRecord) (n : ℕ) (e : ReadsEvent count ws ls before bs at r) (f : r ≡ Brought n) where
+  faultless : eventFaultBy (eventFitsBy count (isTableIn ls) ws bs at) before bs at ≡ 0
+  faultless = sym (e .number) ∙ ap numberOf f
+
+  pub brought-whole : Whole bs at
+  brought-whole = whole bs at (unbroken (eventFitsBy count (isTableIn ls) ws bs at) before bs at faultless)
+
+  pub brought-few : before + 1 ≤ maxEvents
+  brought-few = unfilled (eventFitsBy count (isTableIn ls) ws bs at) before bs at faultless
 
 -- ---- record after record
 
@@ -151,25 +186,7 @@ module _ (nodes : List model.Node) (bs : Bytes) where
 
   whole-event : (k at : ℕ) → eventFault nodes k bs at ≡ 0 → isBroken bs at ≡ false
   unfolding eventFault
-  whole-event k at e = go (isBroken bs at) refl
-    where
-      go : (t : Bool) → isBroken bs at ≡ t → isBroken bs at ≡ false
-      go true f = let z : _≡_ {A = ℕ} 10 0 = rw f at e in absurd (omega arith)
-      go false f = f
-
-  pub event-whole : (k at : ℕ) → eventFault nodes k bs at ≡ 0 → Whole bs at
-  event-whole k at e = whole bs at (whole-event k at e)
-
-  -- an event that is read is not the 65th
-  pub event-few : (k at : ℕ) → eventFault nodes k bs at ≡ 0 → k + 1 ≤ maxEvents
-  unfolding eventFault
-  event-few k at e = go (isBroken bs at) (isEventKind (kindAt bs at)) (leb maxEvents k) (eventFits nodes bs at) refl e
-    where
-      go : (p q r u : Bool) → leb maxEvents k ≡ r → firstBroken (rule 10 p ∷ rule 11 (not q) ∷ rule 12 r ∷ rule 13 (not u) ∷ []) ≡ 0 → k + 1 ≤ maxEvents
-      go true q r u f z = absurd (omega arith)
-      go false false r u f z = absurd (omega arith)
-      go false true true u f z = absurd (omega arith)
-      go false true false u f z = omega (arith, leb-false maxEvents k f)
+  whole-event k at e = unbroken (eventFits nodes bs at) k bs at e
 
   pub left-next : (k at next : ℕ) → Left k at → at < length bs → eventFault nodes k bs at ≡ 0 → next ≡ at + lengthAt bs at → Left (k + 1) next
   unfolding verdictFrom

@@ -7,8 +7,18 @@ use lib.Dec.{eqb}
 use lib.ListN.{getD}
 use Rattle.model.specs.Record.{Bytes, lengthAt}
 use Rattle.model.specs.Batch.{eventFitsBy, eventFaultBy}
+use Rattle.network.specs.declared.Network.{Network}
+use Rattle.network.specs.Reading.{Built}
 use Rattle.events.specs.declared.EventRecord.{EventRecord}
 use Rattle.events.specs.declared.EventRecord.the-variants.{Event, Broken, NoEvent, TooMany, Misfit}
+
+-- a node count, widths and levels that are a network's
+pub record NumbersOf (count : ℕ) (ws ls : List ℕ) : Type 0 where
+  pub net : Network
+  pub built : Built net
+  pub count-is : net .count ≡ count
+  pub widths-are : net .widths ≡ ws
+  pub levels-are : net .levels ≡ ls
 
 -- a table is a node of level 0
 abbrev pub isTableIn : List ℕ → ℕ → Bool

@@ -6,10 +6,9 @@ ghost use lib.ListN.{length};
 ghost use Rattle.model.specs.Record.{isBroken};
 ghost use Rattle.model.specs.Batch.{isEventKind, eventFitsBy, readBatch};
 ghost use Rattle.model.specs.Row.{maxNodes, Narrow};
-ghost use Rattle.network.specs.Reading.{nodesOf, Built};
+ghost use Rattle.network.specs.Reading.{nodesOf};
 ghost use Rattle.verdicts.specs.Verdicts.{verdictOf};
-ghost use Rattle.events.specs.Reading.{isTableIn, ReadsEvent, numberOf};
-use network::Network;
+ghost use Rattle.events.specs.Reading.{NumbersOf, isTableIn, ReadsEvent, numberOf};
 use records::MAX_EVENTS;
 use records::PUT;
 use records::REMOVE;
@@ -97,18 +96,23 @@ fn number_of(reading: EventRecord) -> usize
     }
 }
 
-// What reading a batch says: refusals 10 to 13, the first record that fails decides.
-pub fn read_batch(net: Network, bytes: &[u8]) -> Verdict
-    requires { ⌜ Built net ⌝ }
-    ensures reads { λ r. ⌜ verdictOf r ≡ readBatch (nodesOf net) (now (bytes .entry)) .verdict ⌝ }
+// What reading a batch says, given a network's node count, widths and levels: refusals 10 to 13, the first record that
+// fails decides.
+pub fn read_batch<'a>(
+    count: usize,
+    widths: &'a [usize],
+    levels: &'a [usize],
+    bytes: &'a [u8],
+) -> Verdict
+    requires { ⌜ NumbersOf count (now widths) (now levels) ⌝ }
+    ensures reads { λ r. ⌜ ((o : NumbersOf count (now (widths .entry)) (now (levels .entry))) →
+        verdictOf r ≡ readBatch (nodesOf (o .net)) (now (bytes .entry)) .verdict) ⌝ }
 {
-    let count = net.count;
-    let levels = net.levels;
     let mut before = 0;
     let mut at = 0;
     while at < bytes.len() {
         let here = at;
-        let reading = read_event(bytes, here, before, count, &net.widths, &levels);
+        let reading = read_event(bytes, here, before, count, widths, levels);
         let EventRecord::Event(size) = reading else {
             return verdicts::refused(number_of(reading), here);
         };

@@ -83,7 +83,8 @@ joined-cell v w l r c f g h = go (ltb c v) refl
 
 module _ (how : Joining) (w : ℕ) (left : List ℕ) (n : ℕ) (right : List ℕ) (m : ℕ) (pl : Place (how .split) left n) (pr : Place w right m) (inside : JoinsIn how w) where
   joined-rows : (l : Row) → length l ≡ how .split → (rel : Relation) → Wide w rel →
-      map (joinedRow (how .split) (take (how .n) (how .columns)) (padded stride l)) (map (padded stride) rel) ≡ map (padded stride) (map (λ r. columnsOf (take (how .n) (how .columns)) (l ++ r)) rel)
+      map (joinedRow (how .split) (take (how .n) (how .columns)) (padded stride l)) (map (padded stride) rel) ≡ map (padded stride) (map (λ r. columnsOf (take (how .n) (how .columns)) (l ++
+      r)) rel)
   joined-rows l f [] h = refl
   joined-rows l f (r ∷ rel) h =
       ap₂ {A = Row} {B = List Row} {C = List Row} (λ x y. x ∷ y)

@@ -38,7 +38,8 @@ widthIs (watchItem w) ws = 0
 -- so it is of a kind
 abbrev BringsNarrow : Kind → Type 0
 BringsNarrow kind =
-    (ws signs : List ℕ) (bs : Bytes) (at : ℕ) → kind .shape bs at ≡ true → itemFits ws signs (kind .item bs at) ≡ true → ((i : ℕ) → getD ws i 0 ≤ maxWidth) → widthIs (kind .item bs at) ws ≤ maxWidth
+    (ws signs : List ℕ) (bs : Bytes) (at : ℕ) → kind .shape bs at ≡ true → itemFits ws signs (kind .item bs at) ≡ true → ((i : ℕ) → getD ws i 0 ≤ maxWidth) → widthIs (kind .item bs at) ws ≤
+    maxWidth
 
 -- so it is of each kind of a list
 abbrev AllNarrow : List Kind → Type 0

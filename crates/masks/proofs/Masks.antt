@@ -126,7 +126,8 @@ module _ (how : Joining) (side first end : ℕ) where
       ext-getD 0 (keeping given (keeping paired (replicate stride stride))) (usedColumns how side first end)
       (keeping-long given (keeping paired (replicate stride stride)) ∙ sym used-long)
       (λ k g. let b : k < stride = omega (arith, keeping-long given (keeping paired (replicate stride stride))) in
-      keeping-at given (keeping paired (replicate stride stride)) k b ∙ ap (cond (among given k) k) (keeping-at paired (replicate stride stride) k b ∙ ap (cond (among paired k) k) (full k stride b))
+      keeping-at given (keeping paired (replicate stride stride)) k b ∙ ap (cond (among given k) k) (keeping-at paired (replicate stride stride) k b ∙ ap (cond (among paired k) k) (full k
+      stride b))
       ∙ go (among paired k) (among given k) k ∙ sym (used-at k b))
     where
       full : (k n : ℕ) → k < n → getD (replicate n stride) k 0 ≡ stride

@@ -1,7 +1,6 @@
 -- A table's rows in the working array of 128 rows: put there, folded, and taken back to a place. Assumes nothing.
--- rows in 512 words that were 0 are those in 256 such words, and 256 zeros
-use mathlib.Core.List.{List, _++_, append-assoc, map, append-nil}
-use lib.ListN.{length, replicate, replicate-append-replicate, drop, take}
+use mathlib.Core.List.{List, _++_, map}
+use lib.ListN.{length, replicate, drop, take}
 use Prim.Native.Nat.{_≤_, _-_, _+_, ℕ, _<_, _*_}
 use mathlib.Core.Path.{_≡_, ap, _∙_, sym, ap₂}
 use native.Mathlib.Omega.{arith}
@@ -9,7 +8,7 @@ use lib.Seq.{paste, take-take, take-at}
 use native.Mathlib.Nat.{zero-mul, zero-add}
 use Rattle.model.specs.Row.{Row, Relation, maxNodes, maxRows, Wide}
 use Rattle.rows.specs.Rows.{words, stored, firstRows}
-use Rattle.rows.proofs.Words.{drop-zeros, words-rows, length-words, wide-rows, length-rows}
+use Rattle.rows.proofs.Words.{words-rows, length-words, wide-rows, length-rows}
 use Rattle.model.specs.Record.{Bytes, offsets}
 use Rattle.places.specs.Places.{Place, relationIn, Fills}
 use Rattle.areas.specs.Lent.{placeAt}
@@ -17,19 +16,16 @@ use Rattle.tables.specs.Fold.{StandsFolded, Foldable, Table, foldRows, foldAt}
 use Rattle.places.proofs.Places.{place-few, place-wide, rows-ascend, place-rows, stored-blank}
 use Rattle.tables.proofs.Folds.{stands-table}
 use Rattle.laws.proofs.Sets.{ascending-holds}
-use Rattle.model.specs.Areas.{padded, placeOf, layout, areaSize, foldedSize, placeSize, stride}
+use Rattle.model.specs.Areas.{padded, areaSize, foldedSize, placeSize, stride}
 use Rattle.tables.proofs.Acts.{fold-padded, fold-wide}
 use Rattle.rows.proofs.Place.{length-map-padded, wide-padded}
-use Rattle.rows.proofs.Checked.{place-length}
 
-long-stored : (l : List Row) → length (words l) ≤ placeSize → stored l (replicate foldedSize 0) ≡ stored l (replicate placeSize 0) ++ replicate placeSize 0
-unfolding stored
-long-stored l h =
-    let e : foldedSize - length (words l) ≡ placeSize - length (words l) + placeSize = omega arith in
-    ap (λ (z : List ℕ). words l ++ z)
-    (drop-zeros (length (words l)) foldedSize ∙ ap (λ (n : ℕ). replicate {A = ℕ} n 0) e ∙ sym (replicate-append-replicate {A = ℕ} (placeSize - length (words l)) placeSize 0))
-    ∙ sym (append-assoc (words l) (replicate (placeSize - length (words l)) 0) (replicate placeSize 0))
-    ∙ ap (λ (z : List ℕ). words l ++ z ++ replicate placeSize 0) (sym (drop-zeros (length (words l)) placeSize))
+-- the first words of a node's place are those of its rows
+pub front-words : (w : ℕ) (area : List ℕ) (i n : ℕ) → Place w (placeAt area i) n → take (n * stride) (drop (i * placeSize) area) ≡ words (firstRows (placeAt area i) n)
+front-words w area i n p =
+    let few : n ≤ maxRows = place-few w (placeAt area i) n p in
+    sym (take-take (n * stride) (i * placeSize + placeSize - i * placeSize) (drop (i * placeSize) area) (omega (arith, few)))
+    ∙ sym (words-rows stride (placeAt area i) 0 n (rw (p .long) (omega (arith, few, zero-mul stride))))
 
 module _ (bs : Bytes) (t w : ℕ) (rows : List ℕ) (n : ℕ) (inside : t < maxNodes) (long : areaSize ≤ length rows) (p : Place w (placeAt rows t) n) (f : Foldable bs t w) where
   rel : Relation
@@ -42,17 +38,12 @@ module _ (bs : Bytes) (t w : ℕ) (rows : List ℕ) (n : ℕ) (inside : t < maxN
   abbrev filled : List ℕ
   filled = paste (replicate foldedSize 0) 0 (drop (t * placeSize) rows) (n * stride)
 
-  front-is : take (n * stride) (drop (t * placeSize) rows) ≡ words (firstRows (placeAt rows t) n)
-  front-is =
-      sym (take-take (n * stride) (t * placeSize + placeSize - t * placeSize) (drop (t * placeSize) rows) (omega (arith, few)))
-      ∙ sym (words-rows stride (placeAt rows t) 0 n (rw (p .long) (omega (arith, few, zero-mul stride))))
-
   size : length (words (firstRows (placeAt rows t) n)) ≡ n * stride
   size = length-words stride (firstRows (placeAt rows t) n) (wide-rows stride (placeAt rows t) 0 n) ∙ ap (λ (k : ℕ). k * stride) (length-rows stride (placeAt rows t) 0 n)
 
   filled-is : filled ≡ stored (firstRows (placeAt rows t) n) (replicate foldedSize 0)
   unfolding stored
-  filled-is = ap₂ {A = List ℕ} {B = ℕ} {C = List ℕ} (λ a k. a ++ drop k (replicate foldedSize 0)) front-is (zero-add (n * stride) ∙ sym size)
+  filled-is = ap₂ {A = List ℕ} {B = ℕ} {C = List ℕ} (λ a k. a ++ drop k (replicate foldedSize 0)) (front-words w rows t n p) (zero-add (n * stride) ∙ sym size)
 
   wide : Wide w (relationIn w (placeAt rows t) n)
   wide = place-wide w (placeAt rows t) n p
@@ -76,16 +67,20 @@ module _ (bs : Bytes) (t w : ℕ) (rows : List ℕ) (n : ℕ) (inside : t < maxN
     pub after-over : maxRows < count → maxRows < length after
     after-over h = omega (arith, h, count-is)
 
-    pub after-fills : (place : List ℕ) → count ≤ maxRows → place ≡ paste (replicate placeSize 0) 0 (drop 0 out) placeSize → Fills after place count
+    pub after-fills : (place : List ℕ) → count ≤ maxRows → place ≡ paste (replicate placeSize 0) 0 (drop 0 out) (count * stride) → Fills after place count
+    unfolding stored
     after-fills place h e =
         let wide-after : Wide w after = fold-wide bs t w (offsets bs) (relationIn w (placeAt rows t) n) wide in
         let small : length after ≤ maxRows = omega (arith, h, count-is) in
-        let words-size : length (words (map (padded stride) after)) ≡ length after * stride = length-words stride (map (padded stride) after) (wide-padded w stride after (p .narrow) wide-after)
-        ∙ ap (λ (k : ℕ). k * stride) (length-map-padded stride after) in
-        let stands : out ≡ stored (map (padded stride) after) (replicate foldedSize 0) = s .is ∙ ap (λ (l : List Row). stored l (replicate foldedSize 0)) after-is in
-        let back : stored (map (padded stride) after) (replicate placeSize 0) ≡ placeOf layout after = stored-blank w after (p .narrow) wide-after small in
-        let taken : take placeSize out ≡ placeOf layout after =
-        ap (take placeSize) (stands ∙ long-stored (map (padded stride) after) (rw words-size (omega arith))) ∙ take-at (stored (map (padded stride) after) (replicate placeSize 0))
-        (replicate placeSize 0) placeSize
-        (ap length back ∙ place-length w after (p .narrow) wide-after small) ∙ back in
-        record { count = count-is; few = h; is = e ∙ append-nil (take placeSize out) ∙ taken }
+        let l : List Row = map (padded stride) after in
+        let words-size : length (words (map (padded stride) after)) ≡ count * stride = length-words stride (map (padded stride) after) (wide-padded w stride after (p .narrow) wide-after)
+        ∙ ap (λ (k : ℕ). k * stride) (length-map-padded stride after ∙ sym count-is) in
+        let taken : take (count * stride) out ≡ words (map (padded stride) after) =
+        ap (take (count * stride)) (s .is ∙ ap (λ (r : List Row). stored r (replicate foldedSize 0)) after-is)
+        ∙ take-at (words (map (padded stride) after)) (drop (length (words (map (padded stride) after))) (replicate foldedSize 0)) (count * stride) words-size in
+        record {
+          count = count-is;
+          few = h;
+          is = e ∙ ap₂ {A = List ℕ} {B = ℕ} {C = List ℕ} (λ a k. a ++ drop k (replicate placeSize 0)) taken (zero-add (count * stride) ∙ sym words-size)
+              ∙ stored-blank w after (p .narrow) wide-after small;
+        }

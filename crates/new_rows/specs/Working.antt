@@ -11,7 +11,7 @@ use Rattle.model.specs.Areas.{rowCount, areaSize, headWords}
 use Rattle.network.specs.declared.Slot.{Slot}
 use Rattle.network.specs.Reading.{slotNode}
 use Rattle.areas.specs.Lent.{placeAt}
-use Rattle.places.specs.Places.{Place, relationIn}
+use Rattle.places.specs.Places.{Place, Blank, relationIn}
 use Rattle.model.specs.Network.{leftOf, rightOf, evaluateOn}
 use Rattle.coherence.specs.Held.{heldAt, Derived}
 use Rattle.tables.specs.Fold.{Foldable, foldRows}
@@ -74,6 +74,7 @@ pub record Workable (slot : Slot) (level : ℕ) (bs : Bytes) (head : List ℕ) (
   pub old : Place (getD (m .widths) i 0) (placeAt (m .rows) i) (rowCount head i)
   pub old-is : relationIn (getD (m .widths) i 0) (placeAt (m .rows) i) (rowCount head i) ≡ oldRows head m i
   pub unchanged : getD (m .changed) i false ≡ false
+  pub blank : Blank (placeAt (m .work) i)
   pub table : level ≡ 0 → Foldable bs i (getD (m .widths) i 0)
   pub derived : (level ≡ 0 → ⊥) → Derived slot (m .widths) i
   pub left : (level ≡ 0 → ⊥) → Present m (leftOf (slotNode slot))

@@ -55,7 +55,7 @@ fn work_table(
     if MAX_ROWS < count {
         return Made::Over;
     }
-    words::copy_run(&words, 0, out, 0, PLACE);
+    words::copy_run(&words, 0, out, 0, count * STRIDE);
     Made::Rows(count)
 }
 

@@ -18,7 +18,7 @@ use Rattle.laws.proofs.Widths.{wide-keep}
 use Rattle.laws.proofs.Parts.{keep-append}
 use Rattle.rows.proofs.Place.{held-wide, length-held, length-map-padded, place-words, words-map}
 use Rattle.rows.proofs.Padding.{ascending-padded, keep-padded}
-use Rattle.rows.proofs.Checked.{placed-rows}
+use Rattle.rows.proofs.Checked.{placed-rows, rest-zero}
 use Rattle.places.specs.Places.{relationIn, Place, Blank, Fills, Kept}
 
 -- ---- a place of good form
@@ -54,6 +54,15 @@ place-rows w s n p =
     ap (λ (t : List ℕ). firstRows t n) (place-is w s n p)
     ∙ ap (firstRows (placeOf layout rel)) (sym count)
     ∙ placed-rows w rel (p .narrow) (place-wide w s n p) (rw count (place-few w s n p))
+
+-- behind the rows the place is 0
+pub place-rest : (w : ℕ) (s : List ℕ) (n : ℕ) → Place w s n → drop (n * stride) s ≡ replicate (placeSize - n * stride) 0
+place-rest w s n p =
+    let count : length (relationIn w s n) ≡ n = place-count w s n p in
+    ap (drop (n * stride)) (place-is w s n p)
+    ∙ ap (λ (k : ℕ). drop (k * stride) (placeOf layout (relationIn w s n))) (sym count)
+    ∙ rest-zero w (relationIn w s n) (p .narrow) (place-wide w s n p) (rw count (place-few w s n p))
+    ∙ ap (λ (k : ℕ). replicate (placeSize - k * stride) 0) count
 
 pub rows-ascend : (w : ℕ) (s : List ℕ) (n : ℕ) → Place w s n → ascending (firstRows s n) ≡ true
 rows-ascend w s n p = ap ascending (place-rows w s n p) ∙ ascending-padded stride w (relationIn w s n) (place-wide w s n p) ∙ place-ascending w s n p

@@ -1,21 +1,24 @@
 -- The nodes' rows after a batch, as they are worked out: document 000's propagation, with a node's own kind in place
 -- of its differentials.
 use mathlib.Core.Path.{_≡_}
-use mathlib.Core.Bool.{Bool, true, not, _||_, cond}
+use mathlib.Core.Bool.{Bool, true, false, not, _||_, cond}
 use mathlib.Core.List.{List, [], _∷_}
-use Prim.Native.Nat.{ℕ}
-use lib.ListN.{length}
-use Rattle.model.specs.Row.{Relation, sameRows}
-use Rattle.model.specs.Record.{Bytes, Verdict, accepted, refused, isAccepted}
+use Prim.Native.Nat.{ℕ, _*_, _<_}
+use lib.ListN.{length, getD, replicate}
+use Rattle.model.specs.Row.{Relation, sameRows, maxNodes}
+use Rattle.model.specs.Record.{Bytes, Verdict, accepted, refused, isAccepted, offsets}
 use Rattle.model.specs.Network.{Node, build, isTable, leftOf, rightOf, evaluateOn}
 use Rattle.model.specs.Evaluation.{rowsAt, overfull}
 use Rattle.model.specs.Batch.{readBatch, actAll}
-use Rattle.model.specs.Areas.{tablesOf}
+use Rattle.model.specs.Areas.{tablesOf, areaSize}
 use Rattle.network.specs.declared.Network.{Network}
-use Rattle.network.specs.Reading.{nodesOf}
+use Rattle.network.specs.Reading.{nodesOf, noSlot}
 use Rattle.coherence.specs.Held.{Checkable, rowsHeld}
+use Rattle.differences.specs.Differences.{picksSize}
+use Rattle.named_tables.specs.Named.{namedMarks}
+use Rattle.worklist.specs.Listed.{inputChanged}
 use Rattle.new_rows.specs.Working.{Working}
-use Rattle.working.specs.Worked.{WorkedTo}
+use Rattle.working.specs.Worked.{Changes, WorkedTo}
 use Rattle.propagation.specs.declared.Propagated.{Propagated}
 use Rattle.propagation.specs.declared.Propagated.the-variants.{All, Over}
 
@@ -48,6 +51,15 @@ tablesAfter net rows head bs = actAll (readBatch (nodesOf net) bs .events)
 abbrev pub newRows : Network → List ℕ → List ℕ → Bytes → List Relation
 newRows net rows head bs = propagated (nodesOf net) (rowsHeld net rows head) (tablesAfter net rows head bs)
 
+-- working memory in which no node is worked yet: all 0, but for the marks of the tables that the batch names
+pub record Unworked (bs : Bytes) (work counts : List ℕ) (changed due : List Bool) (picks sizes : List ℕ) : Type 0 where
+  pub work-is : work ≡ replicate areaSize 0
+  pub counts-are : counts ≡ replicate maxNodes 0
+  pub changed-is : changed ≡ replicate maxNodes false
+  pub due-are : due ≡ namedMarks bs (offsets bs) (replicate maxNodes false)
+  pub picks-long : length picks ≡ maxNodes * picksSize
+  pub sizes-are : sizes ≡ replicate (2 * maxNodes) 0
+
 -- areas whose rows are of good form, and a batch that reading accepts
 pub record Propagatable (net : Network) (rows head : List ℕ) (bs : Bytes) : Type 0 where
   pub checkable : Checkable net rows head
@@ -65,7 +77,14 @@ abbrev pub limitVerdict : List ℕ → Verdict
 limitVerdict [] = accepted
 limitVerdict (i ∷ over) = refused 14 i
 
+-- of the first n nodes the derived ones that have an input that changed are marked, and no other derived one
+abbrev pub Marked : Network → List Bool → List Bool → ℕ → Type 0
+Marked net changed due n = (j : ℕ) → j < n → (getD (net .levels) j 0 ≡ 0 → ⊥) → getD due j false
+    ≡ inputChanged (getD (net .slots) j noSlot) changed
+
 -- every node is worked, unless rule 14 refuses
-pub record Propagates (head : List ℕ) (new : List Relation) (n : ℕ) (m : Working) (r : Propagated) : Type 0 where
+pub record Propagates (head : List ℕ) (new : List Relation) (net : Network) (m : Working) (d : Changes)
+    (due : List Bool) (r : Propagated) : Type 0 where
   pub verdict : verdictBy r ≡ limitVerdict (overfull 0 new)
-  pub worked : verdictBy r ≡ accepted → WorkedTo head new m n
+  pub worked : verdictBy r ≡ accepted → WorkedTo head new m d (net .count)
+  pub marked : verdictBy r ≡ accepted → Marked net (m .changed) due (net .count)

@@ -1,13 +1,9 @@
 // The nodes' rows after a batch: tables by their events, derived nodes in number order from the nodes before them.
 ghost use mathlib.Core.Path.{_≡_};
-ghost use mathlib.Core.Bool.{false};
-ghost use lib.ListN.{length, replicate};
 ghost use Rattle.verdicts.specs.Verdicts.{verdictOf};
 ghost use Rattle.new_rows.specs.Working.{working};
-ghost use Rattle.propagation.specs.Propagated.{newRows, Propagatable, verdictBy, Propagates};
-ghost use Prim.Native.Nat.{_+_, _<_};
-ghost use Rattle.model.specs.Areas.{areaSize};
-ghost use Rattle.model.specs.Row.{maxNodes};
+ghost use Rattle.working.specs.Worked.{told};
+ghost use Rattle.propagation.specs.Propagated.{newRows, Propagatable, Unworked, verdictBy, Propagates};
 use network::Network;
 use verdicts::Verdict;
 
@@ -27,7 +23,7 @@ pub fn verdict_of(done: Propagated) -> Verdict
     }
 }
 
-// Every node's new rows, worked in number order into working memory that is all 0.
+// Every node's new rows and its change, worked in number order into working memory in which no node is worked yet.
 pub fn propagate(
     net: Network,
     bytes: &[u8],
@@ -36,13 +32,16 @@ pub fn propagate(
     work: &mut [u32],
     counts: &mut [u32],
     changed: &mut [bool],
+    due: &mut [bool],
+    picks: &mut [u8],
+    sizes: &mut [u32],
 ) -> Propagated
-    requires { ⌜ Propagatable net (now rows) (now head) (now bytes) × (length (now work) ≡ areaSize)
-        × (now counts ≡ replicate maxNodes 0)
-        × (now changed ≡ replicate maxNodes false) ⌝ }
+    requires { ⌜ Propagatable net (now rows) (now head) (now bytes)
+        × Unworked (now bytes) (now work) (now counts) (now changed) (now due) (now picks) (now sizes) ⌝ }
     ensures propagates { λ r. ⌜ Propagates (now (head .entry))
-        (newRows net (now (rows .entry)) (now (head .entry)) (now (bytes .entry))) (net .count)
-        (working (net .widths) (now (rows .entry)) (now (work .exit)) (now (counts .exit)) (now (changed .exit))) r ⌝ }
+        (newRows net (now (rows .entry)) (now (head .entry)) (now (bytes .entry))) net
+        (working (net .widths) (now (rows .entry)) (now (work .exit)) (now (counts .exit)) (now (changed .exit)))
+        (told (now (picks .exit)) (now (sizes .exit))) (now (due .exit)) r ⌝ }
 {
     let count = net.count;
     let mut i = 0;
@@ -60,6 +59,9 @@ pub fn propagate(
             work,
             counts,
             changed,
+            due,
+            picks,
+            sizes,
         ) {
             return Propagated::Over(i);
         }

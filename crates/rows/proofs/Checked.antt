@@ -134,7 +134,8 @@ module _ (w count : ℕ) (area : List ℕ) (i : ℕ) (narrow : w ≤ maxWidth) (
   place-checked = bool-same checked (goodPlace layout w count area i) checked-good good-checked
 
 -- the words of a node's place, taken out of the area, hold the same rows in the same form
-module _ (w count : ℕ) (area : List ℕ) (i : ℕ) (narrow : w ≤ maxWidth) (few : count ≤ maxRows) (long : placeSize * i + placeSize ≤ length area) (good : goodPlace layout w count area i ≡ true) where
+module _ (w count : ℕ) (area : List ℕ) (i : ℕ) (narrow : w ≤ maxWidth) (few : count ≤ maxRows) (long : placeSize * i + placeSize ≤ length area) (good : goodPlace layout w count area i ≡
+    true) where
   abbrev alone : List ℕ
   alone = take placeSize (drop (placeSize * i) area)
 

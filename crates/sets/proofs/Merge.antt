@@ -25,7 +25,7 @@ pub record Passes (op : List Row → List Row → List Row) (below same above : 
   pub equal : (x y : Row) (l r : List Row) → order x y ≡ Ordering·eq → Gives op (x ∷ l) (y ∷ r) (same x) l r
   pub greater : (x y : Row) (l r : List Row) → order x y ≡ Ordering·gt → Gives op (x ∷ l) (y ∷ r) (above y) (x ∷ l) r
 
-first-above : (x : Row) (r : List Row) → orderFirst x r ≡ Ordering·lt → Ascending r → Above x r
+pub first-above : (x : Row) (r : List Row) → orderFirst x r ≡ Ordering·lt → Ascending r → Above x r
 first-above x [] e a = tt
 first-above x (y ∷ r) e a = (e, above-trans x y r e (a .0))
 
@@ -43,7 +43,7 @@ both-front true x l = refl
 both-front false x l = refl
 
 -- a row below every row of l says nothing of them
-kept-passed : (wanted : Bool) (y : Row) (l r : List Row) → Above y l → keptBy wanted l (y ∷ r) ≡ keptBy wanted l r
+pub kept-passed : (wanted : Bool) (y : Row) (l r : List Row) → Above y l → keptBy wanted l (y ∷ r) ≡ keptBy wanted l r
 kept-passed wanted y [] r a = refl
 kept-passed wanted y (x ∷ l) r a =
     let e : order x y ≡ Ordering·gt = order-flip y x ∙ ap flip (a .0) in

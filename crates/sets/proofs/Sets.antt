@@ -110,7 +110,8 @@ module _ (op : List Row → List Row → List Row) (left : List ℕ) (n : ℕ) (
       facing : (o : Ordering) → orderFirst first (rightFrom j) ≡ o → order first (rowAt stride right j) ≡ o
       facing o e = rw (rows-cons stride right m j g) at e
 
-      pub merged-equal : (after : List ℕ) (total : ℕ) → orderFirst first (rightFrom j) ≡ Ordering·eq → Appends (same first) out count after total → Merged op left n right m (i + 1) (j + 1) after total
+      pub merged-equal : (after : List ℕ) (total : ℕ) → orderFirst first (rightFrom j) ≡ Ordering·eq → Appends (same first) out count after total → Merged op left n right m (i + 1) (j + 1)
+          after total
       merged-equal after total e a =
           more (i + 1) (j + 1) (same first) after total
           (rw (rows-cons stride left n i h, rows-cons stride right m j g) (ps .equal first (rowAt stride right j) (leftFrom (i + 1)) (rightFrom (j + 1)) (facing Ordering·eq e))) a
@@ -188,14 +189,18 @@ module _ (w : ℕ) (left : List ℕ) (n : ℕ) (right : List ℕ) (m : ℕ) (pl 
   wr = place-wide w right m pr
 
   -- kind 7
+  pub difference-is : keptBy false (firstRows left n) (firstRows right m) ≡ map (padded stride) (differenceRows lefts rights)
+  unfolding differenceRows
+  difference-is =
+      (λ i. keep (λ x. beq-false (member x (firstRows right m)) i) (firstRows left n))
+      ∙ ap₂ {A = List Row} {B = List Row} {C = List Row} (λ a b. differenceRows a b) (place-rows w left n pl) (place-rows w right m pr)
+      ∙ difference-padded stride w lefts rights wl wr
+
   pub difference-fills : (out : List ℕ) (k : ℕ) → Stands (keptBy false (firstRows left n) (firstRows right m)) out k → Fills (differenceRows lefts rights) out k
   unfolding differenceRows
   difference-fills out k s =
       model-fills (keptBy false (firstRows left n) (firstRows right m)) (differenceRows lefts rights) w (pl .narrow) (wide-keep w (λ x. not (member x rights)) lefts wl)
-      ((λ i. keep (λ x. beq-false (member x (firstRows right m)) i) (firstRows left n))
-      ∙ ap₂ {A = List Row} {B = List Row} {C = List Row} (λ a b. differenceRows a b) (place-rows w left n pl) (place-rows w right m pr)
-      ∙ difference-padded stride w lefts rights wl wr)
-      out k s
+      difference-is out k s
 
   -- kind 8
   pub intersect-fills : (out : List ℕ) (k : ℕ) → Stands (keptBy true (firstRows left n) (firstRows right m)) out k → Fills (intersectRows lefts rights) out k

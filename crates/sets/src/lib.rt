@@ -16,7 +16,7 @@ use rows::Order;
 use rows::STRIDE;
 
 // How row i of left compares with row j of right's m rows; past the last of them it is less.
-fn compare_first(left: &[u32], i: usize, right: &[u32], m: usize, j: usize) -> Order
+pub fn compare_first(left: &[u32], i: usize, right: &[u32], m: usize, j: usize) -> Order
     requires { ⌜ (i * stride + stride ≤ length (now left)) × (m * stride ≤ length (now right)) ⌝ }
     ensures { λ r. ⌜ orderOf r ≡ orderFirst (rowAt stride (now (left .entry)) i)
         (rowsFrom stride (now (right .entry)) j (m - j)) ⌝ }

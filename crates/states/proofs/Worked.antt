@@ -96,7 +96,7 @@ below-keep m p (x ∷ l) b = go (p x) (below-keep m p l (b .1))
     go true ih = (b .0, ih)
     go false ih = ih
 
-below-append : (m : ℕ) (a b : List ℕ) → Below m a → Below m b → Below m (a ++ b)
+pub below-append : (m : ℕ) (a b : List ℕ) → Below m a → Below m b → Below m (a ++ b)
 below-append m [] b x y = y
 below-append m (z ∷ a) b x y = (x .0, below-append m a b (x .1) y)
 

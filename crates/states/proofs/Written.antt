@@ -35,7 +35,8 @@ flat-length [] h = refl
 flat-length (r ∷ rels) h =
     length-append (placeOf layout r) (flatMap (placeOf layout) rels) ∙ omega (arith, h 0 (suc-le-suc zero-le), flat-length rels (sized-tail r rels h))
 
-flat-place : (rels : List Relation) (t : List ℕ) (i : ℕ) → Sized rels → i < length rels → take placeSize (drop (placeSize * i) (flatMap (placeOf layout) rels ++ t)) ≡ placeOf layout (getD rels i [])
+flat-place : (rels : List Relation) (t : List ℕ) (i : ℕ) → Sized rels → i < length rels → take placeSize (drop (placeSize * i) (flatMap (placeOf layout) rels ++ t)) ≡ placeOf layout (getD
+    rels i [])
 unfolding flatMap Sized
 flat-place [] t i h k = absurd (not-suc-le-zero k)
 flat-place (r ∷ rels) t zero h k =

@@ -6,10 +6,10 @@ use mathlib.Core.Path.{_≡_, refl, ap, _∙_, sym}
 use lib.Dec.{eqb, leb, ltb}
 use native.Mathlib.Omega.{arith}
 use lib.ListN.{getD, length, length-append, set, length-set}
-use borrow.Author.Tests.{leb-false, leb-true, eqb-true, eqb-false}
+use borrow.Author.Tests.{leb-false, leb-true, ltb-true, eqb-true, eqb-false}
 use lib.Seq.{getD-set-same, getD-set-other}
 use Rattle.model.specs.Record.{Bytes, fieldAt, kindAt, firstBroken, rule, isBroken, lengthAt, isAccepted, refused, offsets}
-use Rattle.model.specs.Row.{Relation, insertRow, deleteRow, sameRow, maxWidth, Wide}
+use Rattle.model.specs.Row.{Relation, insertRow, deleteRow, sameRow, maxWidth, maxNodes, Wide}
 use Rattle.laws.proofs.Widths.{wide-insert, wide-keep}
 use Rattle.model.specs.Batch.{rowIn, eventFault, eventFits, readEvents, eventAt, act, eventOf, put, remove, actAll, readBatch, Event}
 use Rattle.laws.proofs.Events.{length-row-in}
@@ -18,6 +18,7 @@ use Rattle.tables.specs.Fold.{foldAt, foldRows, actOn, actIn, Events, Fo
 use Rattle.model.specs.Network.{Node, widths, isTable, nodeAt}
 use Rattle.laws.proofs.Sets.{and-first, and-second, Ascending, asc-insert, asc-delete}
 use Rattle.records.proofs.Header.{Whole, whole}
+use Rattle.named_tables.specs.Named.{isNamed, NamesNodes}
 use Rattle.model.specs.Evaluation.{rowsAt}
 use Rattle.rows.proofs.Padding.{insert-padded, delete-padded}
 use Rattle.model.specs.Batch.{maxEvents}
@@ -80,6 +81,7 @@ module _ (nodes : List Node) (bs : Bytes) where
     pub whole? : isBroken bs at ≡ false
     pub early : before < maxEvents
     pub least : 6 ≤ lengthAt bs at
+    pub node : fieldAt bs at 0 < length nodes
     pub size : lengthAt bs at ≡ 6 + 4 * getD (widths nodes) (fieldAt bs at 0) 0
 
   fault-fits : (before at : ℕ) → eventFault nodes before bs at ≡ 0 → Fits before at
@@ -96,6 +98,7 @@ module _ (nodes : List Node) (bs : Bytes) where
         whole? = f .0;
         early = leb-false maxEvents before (f .1);
         least = leb-true 6 (lengthAt bs at) (and-first (leb 6 (lengthAt bs at)) (ltb (fieldAt bs at 0) (length nodes)) two);
+        node = ltb-true (fieldAt bs at 0) (length nodes) (and-second (leb 6 (lengthAt bs at)) (ltb (fieldAt bs at 0) (length nodes)) two);
         size = eqb-true (lengthAt bs at) (6 + 4 * getD (widths nodes) (fieldAt bs at 0) 0)
             (and-second (leb 6 (lengthAt bs at) && ltb (fieldAt bs at 0) (length nodes) && isTable (nodeAt nodes (fieldAt bs at 0)))
             (eqb (lengthAt bs at) (6 + 4 * getD (widths nodes) (fieldAt bs at 0) 0)) (f .2));
@@ -109,6 +112,7 @@ module _ (nodes : List Node) (bs : Bytes) where
     pub record Reads (done : List Event) (ats : List ℕ) : Type 0 where
       pub events : readEvents nodes bs done ats .events ≡ done ++ map (eventAt (widths nodes) bs) ats
       pub foldable : Events bs t (getD (widths nodes) t 0) ats
+      pub names : length nodes ≤ maxNodes → NamesNodes bs ats
       pub few : length done ≤ maxEvents → length done + length ats ≤ maxEvents
 
     event-inside : (before at : ℕ) → Fits before at → (at + 6 ≤ length bs) × (fieldAt bs at 0 ≡ t → at + 6 + 4 * getD (widths nodes) t 0 ≤ length bs)
@@ -121,7 +125,7 @@ module _ (nodes : List Node) (bs : Bytes) where
 
     reads : (done : List Event) (ats : List ℕ) → isAccepted (readEvents nodes bs done ats .verdict) ≡ true → Reads done ats
     unfolding readEvents
-    reads done [] a = record { events = sym (append-nil done); foldable = tt; few = λ h. omega (arith, h) }
+    reads done [] a = record { events = sym (append-nil done); foldable = tt; names = λ h. tt; few = λ h. omega (arith, h) }
     reads done (at ∷ rest) a = go (eqb (eventFault nodes (length done) bs at) 0) refl a (reads (done ++ (eventAt (widths nodes) bs at ∷ [])) rest)
       where
         go : (b : Bool) → eqb (eventFault nodes (length done) bs at) 0 ≡ b →
@@ -137,6 +141,7 @@ module _ (nodes : List Node) (bs : Bytes) where
             record {
               events = rw e (later .events ∙ append-assoc done (eventAt (widths nodes) bs at ∷ []) (map (eventAt (widths nodes) bs) rest));
               foldable = (fits .whole?, inside .0, inside .1, later .foldable);
+              names = λ h. (fits .whole?, inside .0, omega (arith, fits .node), later .names h);
               few = λ h. let size : length (done ++ (eventAt (widths nodes) bs at ∷ [])) ≡ length done + 1 = length-append done (eventAt (widths nodes) bs at ∷ []) in omega
                   (arith, size, later .few (omega (arith, size, fits .early)));
             }
@@ -183,3 +188,19 @@ module _ (nodes : List Node) (bs : Bytes) where
       -- it can be folded
       pub accepted-folds : getD (widths nodes) t 0 ≤ maxWidth → Foldable bs t (getD (widths nodes) t 0)
       accepted-folds narrow = record { narrow = narrow; few = omega (arith, here .few zero-le); events = here .foldable }
+
+      -- its events name nodes
+      pub accepted-names : length nodes ≤ maxNodes → NamesNodes bs (offsets bs)
+      accepted-names few = here .names few
+
+-- ---- a table that no event names
+
+pub unnamed-folds : (bs : Bytes) (t w : ℕ) (ats : List ℕ) (rel : Relation) → isNamed bs ats t ≡ false → foldRows bs t w ats rel ≡ rel
+unnamed-folds bs t w [] rel e = refl
+unnamed-folds bs t w (at ∷ ats) rel e =
+    let none = none-of (eqb (fieldAt bs at 0) t) (isNamed bs ats t) e in
+    ap (λ (b : Bool). foldRows bs t w ats (cond b (actIn (λ r. r) bs at w rel) rel)) (none .0) ∙ unnamed-folds bs t w ats rel (none .1)
+  where
+    none-of : (a b : Bool) → (a || b) ≡ false → (a ≡ false) × (b ≡ false)
+    none-of true b f = absurd (true≢false f)
+    none-of false b f = (refl, f)

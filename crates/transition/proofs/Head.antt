@@ -1,5 +1,5 @@
 -- The head's words, stamp by stamp and list by list. Assumes nothing.
-use Prim.Native.Nat.{ℕ, suc, _+_, _≤_, _<_}
+use Prim.Native.Nat.{ℕ, suc, _+_, _*_, _≤_, _<_}
 use mathlib.Core.Path.{_≡_, ap, sym, _∙_, refl, ap₂}
 use mathlib.Core.List.{_++_, _∷_, List, map, []}
 use native.Mathlib.Omega.{arith}
@@ -10,6 +10,7 @@ use Rattle.model.specs.Row.{numbersBelow, maxNodes}
 use Rattle.model.specs.Areas.{padded, stampAt, over, headWords}
 use Rattle.laws.proofs.Parts.{length-counted, numbers-more, map-append}
 use Rattle.rows.proofs.Padding.{padded-more}
+use Rattle.states.proofs.Head.{padded-length}
 use Rattle.transition.specs.Head.{stampsFrom, headFrom}
 
 -- ---- stamps
@@ -23,6 +24,11 @@ stamps-more head changed number i stamps x h e f =
     (length-counted (λ j. cond (getD changed j false) number (stampAt head j)) 0 i) h
     ∙ ap (padded maxNodes) (sym
     (ap (map (λ j. cond (getD changed j false) number (stampAt head j))) (numbers-more i) ∙ map-append (λ j. cond (getD changed j false) number (stampAt head j)) (numbersBelow i) (i ∷ [])))
+
+-- 32 of them
+pub stamps-long : (head : List ℕ) (changed : List Bool) (number n : ℕ) (stamps : List ℕ) → stamps ≡ padded maxNodes (stampsFrom head changed number n) → n ≤ maxNodes → length stamps ≡ maxNodes
+stamps-long head changed number n stamps e few =
+    ap length e ∙ padded-length maxNodes (stampsFrom head changed number n) (rw (length-counted (λ j. cond (getD changed j false) number (stampAt head j)) 0 n) few)
 
 -- ---- words written one after the other
 
@@ -45,28 +51,22 @@ over-one done h at x d fits =
     ∙ ap (λ (k : ℕ). done ++ (x ∷ []) ++ drop k h) (let e : suc (length done) ≡ length (done ++ (x ∷ [])) = omega (arith, length-append done (x ∷ [])) in e)
 
 -- all of the head's words
-pub head-written : (h counts stamps gains losses entries h1 h2 h3 h4 h5 : List ℕ) (number k : ℕ) → headWords ≤ length h → length counts ≡ maxNodes → length stamps ≡ maxNodes → length gains
-    ≡ maxNodes →
-    length losses ≡ maxNodes → length entries ≡ maxNodes →
-    h1 ≡ paste (set h 0 number) 1 (drop 0 counts) maxNodes → h2 ≡ paste h1 33 (drop 0 stamps) maxNodes → h3 ≡ paste h2 65 (drop 0 gains) maxNodes → h4 ≡ paste h3 97 (drop 0 losses) maxNodes →
-    h5 ≡ paste (set h4 129 k) 130 (drop 0 entries) maxNodes →
-    h5 ≡ over (headFrom number counts stamps gains losses k entries) h
-head-written h counts stamps gains losses entries h1 h2 h3 h4 h5 number k long lc ls lg ll le e1 e2 e3 e4 e5 =
-    let d1 : List ℕ = (number ∷ []) ++ counts in
+pub head-written : (h counts stamps sizes entries h1 h2 h3 h4 : List ℕ) (number k : ℕ) → headWords ≤ length h → length counts ≡ maxNodes → length stamps ≡ maxNodes →
+    length sizes ≡ 2 * maxNodes → length entries ≡ maxNodes →
+    h1 ≡ paste (set h 0 number) 1 (drop 0 counts) maxNodes → h2 ≡ paste h1 33 (drop 0 stamps) maxNodes → h3 ≡ paste h2 65 (drop 0 sizes) (2 * maxNodes) →
+    h4 ≡ paste (set h3 129 k) 130 (drop 0 entries) maxNodes →
+    h4 ≡ over (headFrom number counts stamps sizes k entries) h
+head-written h counts stamps sizes entries h1 h2 h3 h4 number k long lc ls lz le e1 e2 e3 e4 =
     let n1 : length ((number ∷ []) ++ counts) ≡ 33 = omega (arith, length-append (number ∷ []) counts, lc) in
     let n2 : length ((number ∷ []) ++ counts ++ stamps) ≡ 65 = omega (arith, length-append ((number ∷ []) ++ counts) stamps, n1, ls) in
-    let n3 : length ((number ∷ []) ++ counts ++ stamps ++ gains) ≡ 97 = omega (arith, length-append ((number ∷ []) ++ counts ++ stamps) gains, n2, lg) in
-    let n4 : length ((number ∷ []) ++ counts ++ stamps ++ gains ++ losses) ≡ 129 = omega (arith, length-append ((number ∷ []) ++ counts ++ stamps ++ gains) losses, n3, ll) in
-    let n5 : length ((number ∷ []) ++ counts ++ stamps ++ gains ++ losses ++ (k ∷ []))
-    ≡ 130 = omega (arith, length-append ((number ∷ []) ++ counts ++ stamps ++ gains ++ losses) (k ∷ []), n4) in
+    let n3 : length ((number ∷ []) ++ counts ++ stamps ++ sizes) ≡ 129 = omega (arith, length-append ((number ∷ []) ++ counts ++ stamps) sizes, n2, lz) in
+    let n4 : length ((number ∷ []) ++ counts ++ stamps ++ sizes ++ (k ∷ [])) ≡ 130 = omega (arith, length-append ((number ∷ []) ++ counts ++ stamps ++ sizes) (k ∷ []), n3) in
     let s0 : set h 0 number ≡ over (number ∷ []) h = over-one [] h 0 number refl (omega arith) in
     let s1 : h1 ≡ over ((number ∷ []) ++ counts) h = e1 ∙ ap (λ (l : List ℕ). paste l 1 (drop 0 counts) maxNodes) s0 ∙ over-more (number ∷ []) counts h 1 maxNodes refl lc (omega arith) in
     let s2 : h2 ≡ over ((number ∷ []) ++ counts ++ stamps) h = e2 ∙ ap (λ (l : List ℕ). paste l 33 (drop 0 stamps) maxNodes) s1
     ∙ over-more ((number ∷ []) ++ counts) stamps h 33 maxNodes n1 ls (omega arith) in
-    let s3 : h3 ≡ over ((number ∷ []) ++ counts ++ stamps ++ gains) h = e3 ∙ ap (λ (l : List ℕ). paste l 65 (drop 0 gains) maxNodes) s2
-    ∙ over-more ((number ∷ []) ++ counts ++ stamps) gains h 65 maxNodes n2 lg (omega arith) in
-    let s4 : h4 ≡ over ((number ∷ []) ++ counts ++ stamps ++ gains ++ losses) h = e4 ∙ ap (λ (l : List ℕ). paste l 97 (drop 0 losses) maxNodes) s3
-    ∙ over-more ((number ∷ []) ++ counts ++ stamps ++ gains) losses h 97 maxNodes n3 ll (omega arith) in
-    let s5 : set h4 129 k ≡ over ((number ∷ []) ++ counts ++ stamps ++ gains ++ losses ++ (k ∷ [])) h = ap (λ (l : List ℕ). set l 129 k) s4
-    ∙ over-one ((number ∷ []) ++ counts ++ stamps ++ gains ++ losses) h 129 k n4 (omega arith) in
-    e5 ∙ ap (λ (l : List ℕ). paste l 130 (drop 0 entries) maxNodes) s5 ∙ over-more ((number ∷ []) ++ counts ++ stamps ++ gains ++ losses ++ (k ∷ [])) entries h 130 maxNodes n5 le (omega arith)
+    let s3 : h3 ≡ over ((number ∷ []) ++ counts ++ stamps ++ sizes) h = e3 ∙ ap (λ (l : List ℕ). paste l 65 (drop 0 sizes) (2 * maxNodes)) s2
+    ∙ over-more ((number ∷ []) ++ counts ++ stamps) sizes h 65 (2 * maxNodes) n2 lz (omega arith) in
+    let s4 : set h3 129 k ≡ over ((number ∷ []) ++ counts ++ stamps ++ sizes ++ (k ∷ [])) h = ap (λ (l : List ℕ). set l 129 k) s3
+    ∙ over-one ((number ∷ []) ++ counts ++ stamps ++ sizes) h 129 k n3 (omega arith) in
+    e4 ∙ ap (λ (l : List ℕ). paste l 130 (drop 0 entries) maxNodes) s4 ∙ over-more ((number ∷ []) ++ counts ++ stamps ++ sizes ++ (k ∷ [])) entries h 130 maxNodes n4 le (omega arith)

@@ -11,7 +11,7 @@ use native.Mathlib.Omega.{arith}
 use Rattle.network.specs.declared.Slot.{Slot}
 use Rattle.model.specs.Record.{Bytes, offsets}
 use Rattle.new_rows.specs.Working.{Working, Workable, oldRows, Present, presentRows, presentPlace, workedRows, working}
-use Rattle.working.specs.Worked.{mustWork, WorksNode, nextRows, Puts}
+use Rattle.working.specs.Worked.{Changes, Untold, mustWork, WorksNode, nextRows, Puts}
 use Rattle.places.specs.Places.{Place, Fills, relationIn}
 use Rattle.areas.specs.Lent.{placeAt}
 use Rattle.model.specs.Areas.{rowCount, layout, placeOf}
@@ -25,7 +25,7 @@ use Rattle.tables.proofs.Acts.{fold-wide, fold-asc}
 use Rattle.coherence.specs.Held.{Derived}
 use Rattle.laws.proofs.ByKind.{on-wide, on-asc}
 use Rattle.rows.proofs.Place.{length-held}
-use Rattle.working.proofs.Differ.{fills-place}
+use Rattle.working.proofs.Differ.{fills-place, tells-none, keeps-all}
 
 module _ (slot : Slot) (level : ℕ) (bs : Bytes) (head : List ℕ) (m : Working) (i : ℕ) (can : Workable slot level bs head m i) where
   w : ℕ
@@ -66,33 +66,41 @@ module _ (slot : Slot) (level : ℕ) (bs : Bytes) (head : List ℕ) (m : Working
                 (place-ascending (getD (m .widths) (leftOf (slotNode slot)) 0) (presentPlace m (leftOf (slotNode slot))) (getD (m .counts) (leftOf (slotNode slot)) 0) (can .left n))),
           )
 
-  -- a node that need not be worked keeps its rows
-  pub kept-works : mustWork slot level (m .changed) ≡ false →
-      WorksNode head (nextRows slot level bs head m i) m (working (m .widths) (m .rows) (m .work) (set (m .counts) i (rowCount head i)) (m .changed)) i true
-  kept-works e = rw e (
-    record {
-      count = getD-set-same (m .counts) i (rowCount head i) 0 (omega (arith, can .sized .counts, can .inside))
-          ∙ sym (length-held layout (getD (m .widths) i 0) (rowCount head i) (m .rows) i);
-      few = rw (length-held layout (getD (m .widths) i 0) (rowCount head i) (m .rows) i) (place-few (getD (m .widths) i 0) (placeAt (m .rows) i) (rowCount head i) old-place);
-      changed = can .unchanged ∙ ap not (sym (sameRows-refl (oldRows head m i)));
-      place = ap (λ (t : Bool). placeAt (cond t (m .work) (m .rows)) i) (can .unchanged) ∙ place-is (getD (m .widths) i 0) (placeAt (m .rows) i) (rowCount head i) old-place
-          ∙ ap (placeOf layout) (can .old-is);
-    },
-    record {
-      sized = record {
-        widths = can .sized .widths;
-        narrow = can .sized .narrow;
-        rows = can .sized .rows;
-        work = can .sized .work;
-        counts = length-set (m .counts) i (rowCount head i)
-            ∙ can .sized .counts;
-        changed = can .sized .changed;
-      };
-      counts = λ j h. getD-set-other (m .counts) i j (rowCount head i) 0 h;
-      changed = λ j h. refl;
-      work = λ j h k. refl;
-    },
-  )
+  module _ (due : List Bool) (d : Changes) (untold : Untold d i) where
+    abbrev must : Bool
+    must = mustWork slot level i (m .changed) due
+
+    -- a node that need not be worked keeps its rows
+    pub kept-works : (due′ : List Bool) → due′ ≡ set due i must → must ≡ false →
+        WorksNode head (nextRows slot level bs head m due i) m (working (m .widths) (m .rows) (m .work) (set (m .counts) i (rowCount head i)) (m .changed)) d d due due′ must i
+    kept-works due′ f e =
+        record {
+          worked = rw e (record {
+            count = getD-set-same (m .counts) i (rowCount head i) 0 (omega (arith, can .sized .counts, can .inside))
+                ∙ sym (length-held layout (getD (m .widths) i 0) (rowCount head i) (m .rows) i);
+            few = rw (length-held layout (getD (m .widths) i 0) (rowCount head i) (m .rows) i) (place-few (getD (m .widths) i 0) (placeAt (m .rows) i) (rowCount head i) old-place);
+            changed = can .unchanged ∙ ap not (sym (sameRows-refl (oldRows head m i)));
+            place = ap (λ (t : Bool). placeAt (cond t (m .work) (m .rows)) i) (can .unchanged) ∙ place-is (getD (m .widths) i 0) (placeAt (m .rows) i) (rowCount head i) old-place
+                ∙ ap (placeOf layout) (can .old-is);
+            tells = tells-none (oldRows head m i) (oldRows head m i) (placeAt (m .rows) i) (placeAt (m .work) i) d i refl untold;
+          });
+          others = record {
+            sized = record {
+              widths = can .sized .widths;
+              narrow = can .sized .narrow;
+              rows = can .sized .rows;
+              work = can .sized .work;
+              counts = length-set (m .counts) i (rowCount head i)
+                  ∙ can .sized .counts;
+              changed = can .sized .changed;
+            };
+            counts = λ j h. getD-set-other (m .counts) i j (rowCount head i) 0 h;
+            changed = λ j h. refl;
+            work = λ j h k. refl;
+          };
+          keeps = keeps-all d i (untold .sized);
+          marks = f;
+        }
 
   module _ (out : List ℕ) (n : ℕ) (f : Fills (workedRows slot level bs head m i) out n) where
     here : Place (getD (m .widths) i 0) out n × (relationIn (getD (m .widths) i 0) out n ≡ workedRows slot level bs head m i)
@@ -102,34 +110,39 @@ module _ (slot : Slot) (level : ℕ) (bs : Bytes) (head : List ℕ) (m : Working
     made-place = here .0
 
     -- rows worked and put
-    pub put-works : mustWork slot level (m .changed) ≡ true → (work counts : List ℕ) (changed : List Bool) →
+    pub put-works : (due due′ : List Bool) (d d′ : Changes) → due′ ≡ set due i (mustWork slot level i (m .changed) due) → mustWork slot level i (m .changed) due ≡ true →
+        (work counts : List ℕ) (changed : List Bool) →
         Puts (relationIn (getD (m .widths) i 0) (placeAt (m .rows) i) (rowCount head i)) (relationIn (getD (m .widths) i 0) out n) out n m (working (m .widths) (m .rows) work counts changed)
-        i →
-        WorksNode head (nextRows slot level bs head m i) m (working (m .widths) (m .rows) work counts changed) i true
-    put-works e work counts changed p = rw e (
-      record {
-        count = ap (λ (l : List ℕ). getD l i 0) (p .counts) ∙ getD-set-same (m .counts) i n 0 (omega (arith, can .sized .counts, can .inside)) ∙ f .count;
-        few = rw (← f .count) (f .few);
-        changed = ap (λ (l : List Bool). getD l i false) (p .changed)
-            ∙ getD-set-same (m .changed) i (not (sameRows (relationIn (getD (m .widths) i 0) out n) (relationIn (getD (m .widths) i 0) (placeAt (m .rows) i) (rowCount head i)))) false
-            (omega (arith, can .sized .changed, can .inside)) ∙ ap₂ {A = Relation} {B = Relation} {C = Bool} (λ a b. not (sameRows a b)) (here .1) (can .old-is);
-        place = p .place ∙ f .is;
-      },
-      record {
-        sized = record {
-          widths = can .sized .widths;
-          narrow = can .sized .narrow;
-          rows = can .sized .rows;
-          work = p .work-long;
-          counts = ap length (p .counts) ∙ length-set (m .counts) i n
-              ∙ can .sized .counts;
-          changed = ap length (p .changed)
-              ∙ length-set (m .changed) i (not (sameRows (relationIn (getD (m .widths) i 0) out n) (relationIn (getD (m .widths) i 0) (placeAt (m .rows) i) (rowCount head i))))
-              ∙ can .sized .changed;
-        };
-        counts = λ j h. ap (λ (l : List ℕ). getD l j 0) (p .counts) ∙ getD-set-other (m .counts) i j n 0 h;
-        changed = λ j h. ap (λ (l : List Bool). getD l j false) (p .changed)
-            ∙ getD-set-other (m .changed) i j (not (sameRows (relationIn (getD (m .widths) i 0) out n) (relationIn (getD (m .widths) i 0) (placeAt (m .rows) i) (rowCount head i)))) false h;
-        work = p .work;
-      },
-    )
+        d d′ i →
+        WorksNode head (nextRows slot level bs head m due i) m (working (m .widths) (m .rows) work counts changed) d d′ due due′ (mustWork slot level i (m .changed) due) i
+    put-works due due′ d d′ g e work counts changed p =
+        record {
+          worked = rw e (record {
+            count = ap (λ (l : List ℕ). getD l i 0) (p .counts) ∙ getD-set-same (m .counts) i n 0 (omega (arith, can .sized .counts, can .inside)) ∙ f .count;
+            few = rw (← f .count) (f .few);
+            changed = ap (λ (l : List Bool). getD l i false) (p .changed)
+                ∙ getD-set-same (m .changed) i (not (sameRows (relationIn (getD (m .widths) i 0) out n) (relationIn (getD (m .widths) i 0) (placeAt (m .rows) i) (rowCount head i)))) false
+                (omega (arith, can .sized .changed, can .inside)) ∙ ap₂ {A = Relation} {B = Relation} {C = Bool} (λ a b. not (sameRows a b)) (here .1) (can .old-is);
+            place = p .place ∙ f .is;
+            tells = rw (← here .1, ← can .old-is) (p .tells);
+          });
+          others = record {
+            sized = record {
+              widths = can .sized .widths;
+              narrow = can .sized .narrow;
+              rows = can .sized .rows;
+              work = p .work-long;
+              counts = ap length (p .counts) ∙ length-set (m .counts) i n
+                  ∙ can .sized .counts;
+              changed = ap length (p .changed)
+                  ∙ length-set (m .changed) i (not (sameRows (relationIn (getD (m .widths) i 0) out n) (relationIn (getD (m .widths) i 0) (placeAt (m .rows) i) (rowCount head i))))
+                  ∙ can .sized .changed;
+            };
+            counts = λ j h. ap (λ (l : List ℕ). getD l j 0) (p .counts) ∙ getD-set-other (m .counts) i j n 0 h;
+            changed = λ j h. ap (λ (l : List Bool). getD l j false) (p .changed)
+                ∙ getD-set-other (m .changed) i j (not (sameRows (relationIn (getD (m .widths) i 0) out n) (relationIn (getD (m .widths) i 0) (placeAt (m .rows) i) (rowCount head i)))) false h;
+            work = p .work;
+          };
+          keeps = p .keeps;
+          marks = g;
+        }

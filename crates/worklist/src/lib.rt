@@ -1,19 +1,13 @@
-// The derived nodes with an input that changed, and their list by level, then number.
+// The derived nodes with an input that changed, and the list of the due ones by level, then number.
 ghost use mathlib.Core.Path.{_≡_};
-ghost use mathlib.Core.Bool.{false, cond};
-ghost use mathlib.Core.List.{[]};
-ghost use Prim.Native.Nat.{_+_, _≤_, _<_};
-ghost use lib.Dec.{eqb};
-ghost use lib.ListN.{length, replicate};
-ghost use lib.Seq.{sets};
-ghost use Rattle.model.specs.Row.{keepIf, maxNodes};
-ghost use Rattle.model.specs.Network.{AllFit, leftOf, rightOf};
+ghost use Prim.Native.Nat.{ℕ, _+_, _≤_, _<_};
+ghost use lib.ListN.{length, replicate, getD};
+ghost use Rattle.model.specs.Row.{maxNodes};
+ghost use Rattle.model.specs.Network.{leftOf, rightOf};
 ghost use Rattle.model.specs.Areas.{padded};
-ghost use Rattle.network.specs.Reading.{nodesOf, Built, slotNode};
-ghost use Rattle.worklist.specs.Listed.{inputChanged, listedMarks, isOfLevel, levelList, listTo};
-use network::Network;
+ghost use Rattle.network.specs.Reading.{slotNode};
+ghost use Rattle.worklist.specs.Listed.{inputChanged, dueList, isAbove, placeFor, putAt};
 use network::Slot;
-use rows::MAX_NODES;
 
 // Whether a derived node has an input that changed.
 pub fn input_changed(slot: Slot, changed: &[bool]) -> bool
@@ -29,101 +23,69 @@ pub fn input_changed(slot: Slot, changed: &[bool]) -> bool
     changed[r]
 }
 
-// Whether node i is derived and has an input that changed.
-fn is_listed(slot: Slot, level: usize, changed: &[bool]) -> bool
-    requires { ⌜ ((level ≡ 0 → ⊥) → (leftOf (slotNode slot) < length (now changed))
-        × (rightOf (slotNode slot) < length (now changed))) ⌝ }
-    ensures { λ r. ⌜ r ≡ cond (eqb level 0) false (inputChanged slot (now (changed .entry))) ⌝ }
+// Whether there is an entry before index at, and its level is above another.
+fn is_above(levels: &[usize], level: usize, entries: &[u32], at: usize) -> bool
+    requires { ⌜ (at ≤ length (now entries))
+        × ((j : ℕ) → j < at → getD (now entries) j 0 < length (now levels)) ⌝ }
+    ensures { λ r. ⌜ r ≡ isAbove (now (levels .entry)) level (now (entries .entry)) at ⌝ }
 {
-    if level == 0 {
+    if at == 0 {
         return false;
     }
-    input_changed(slot, changed)
+    let node = entries[at - 1] as usize;
+    level < levels[node]
 }
 
-// For each node whether it is derived and has an input that changed; past the last node none is.
-pub fn listed_nodes(net: Network, changed: &[bool]) -> [bool; MAX_NODES]
-    requires { ⌜ Built net × AllFit (nodesOf net) × (length (now changed) ≡ maxNodes) ⌝ }
-    ensures { λ r. ⌜ r ≡ listedMarks net (now (changed .entry)) ⌝ }
+// Node i of a level put among k entries, behind the last of them that is not above the level.
+fn put_node(levels: &[usize], level: usize, i: usize, entries: &mut [u32], k: usize)
+    requires { ⌜ (i < maxNodes) × (k < length (now entries))
+        × ((j : ℕ) → j < k → getD (now entries) j 0 < length (now levels)) ⌝ }
+    ensures { λ _. ⌜ now (entries .exit)
+        ≡ putAt (placeFor (now (levels .entry)) level (now (entries .entry)) k) k i (now (entries .entry)) ⌝ }
 {
-    let mut listed = [false; MAX_NODES];
-    let mut i = 0;
-    while i < net.count {
-        let slot = net.slots[i];
-        let level = net.levels[i];
-        listed[i] = is_listed(slot, level, changed);
-        i += 1;
+    let mut at = k;
+    while is_above(levels, level, entries, at) {
+        entries[at] = entries[at - 1];
+        at -= 1;
     }
-    listed
+    entries[at] = i as u32;
 }
 
-// Node i put behind k entries, if it is listed and of a level: how many entries there are then.
-fn list_node(
-    levels: &[usize],
-    listed: &[bool],
-    i: usize,
-    level: usize,
-    entries: &mut [u32],
-    k: usize,
-) -> usize
-    requires { ⌜ (i < length (now levels)) × (i < length (now listed)) × (i < maxNodes)
-        × (length (now entries) ≡ maxNodes)
-        × (k + length (keepIf (isOfLevel (now levels) (now listed) level i) i []) ≤ maxNodes) ⌝ }
+// Node i put among the k entries of the nodes before it, if it is due and derived: how many entries there are then.
+fn list_node(levels: &[usize], due: &[bool], i: usize, entries: &mut [u32], k: usize) -> usize
+    requires { ⌜ (i < length (now levels)) × (i < length (now due)) × (i < maxNodes)
+        × ((j : ℕ) → getD (now levels) j 0 ≤ j)
+        × (now entries ≡ padded maxNodes (dueList (now levels) (now due) i))
+        × (k ≡ length (dueList (now levels) (now due) i)) ⌝ }
     ensures lists { λ _. ⌜ now (entries .exit)
-        ≡ sets (now (entries .entry)) k
-        (keepIf (isOfLevel (now (levels .entry)) (now (listed .entry)) level i) i []) ⌝ }
-    ensures counts { λ r. ⌜ r
-        ≡ k + length (keepIf (isOfLevel (now (levels .entry)) (now (listed .entry)) level i) i []) ⌝ }
+        ≡ padded maxNodes (dueList (now (levels .entry)) (now (due .entry)) (i + 1)) ⌝ }
+    ensures counts { λ r. ⌜ r ≡ length (dueList (now (levels .entry)) (now (due .entry)) (i + 1)) ⌝ }
 {
-    if levels[i] != level {
+    if !due[i] {
         return k;
     }
-    if !listed[i] {
+    let level = levels[i];
+    if level == 0 {
         return k;
     }
-    entries[k] = i as u32;
+    put_node(levels, level, i, entries, k);
     k + 1
 }
 
-// The listed nodes of a level, of the first n, put behind k entries: how many entries there are then.
-fn list_level(
-    levels: &[usize],
-    listed: &[bool],
-    n: usize,
-    level: usize,
-    entries: &mut [u32],
-    k: usize,
-) -> usize
-    requires { ⌜ (n ≤ length (now levels)) × (n ≤ length (now listed)) × (n ≤ maxNodes)
-        × (length (now entries) ≡ maxNodes)
-        × (k + length (levelList (now levels) (now listed) n level) ≤ maxNodes) ⌝ }
+// The derived nodes of the first n that are due, by level, then number, put in an array of zeros: how many.
+pub fn list_worked(levels: &[usize], due: &[bool], n: usize, entries: &mut [u32]) -> usize
+    requires { ⌜ (n ≤ length (now levels)) × (n ≤ length (now due)) × (n ≤ maxNodes)
+        × (now entries ≡ replicate maxNodes 0) × ((i : ℕ) → getD (now levels) i 0 ≤ i) ⌝ }
     ensures lists { λ _. ⌜ now (entries .exit)
-        ≡ sets (now (entries .entry)) k (levelList (now (levels .entry)) (now (listed .entry)) n level) ⌝ }
-    ensures counts { λ r. ⌜ r ≡ k + length (levelList (now (levels .entry)) (now (listed .entry)) n level) ⌝ }
-{
-    let mut end = k;
-    let mut i = 0;
-    while i < n {
-        end = list_node(levels, listed, i, level, entries, end);
-        i += 1;
-    }
-    end
-}
-
-// The listed nodes by level, then number, put in an array of zeros: how many.
-pub fn list_worked(levels: &[usize], listed: &[bool], n: usize, entries: &mut [u32]) -> usize
-    requires { ⌜ (n ≤ length (now levels)) × (n ≤ length (now listed)) × (n ≤ maxNodes)
-        × (now entries ≡ replicate maxNodes 0) ⌝ }
-    ensures lists { λ _. ⌜ now (entries .exit)
-        ≡ padded maxNodes (listTo (now (levels .entry)) (now (listed .entry)) n n) ⌝ }
-    ensures counts { λ r. ⌜ r ≡ length (listTo (now (levels .entry)) (now (listed .entry)) n n) ⌝ }
+        ≡ padded maxNodes (dueList (now (levels .entry)) (now (due .entry)) n) ⌝ }
+    ensures counts { λ r. ⌜ r ≡ length (dueList (now (levels .entry)) (now (due .entry)) n) ⌝ }
     ensures few { λ r. ⌜ r ≤ maxNodes ⌝ }
 {
     let mut k = 0;
-    let mut level = 0;
-    while level < n {
-        k = list_level(levels, listed, n, level, entries, k);
-        level += 1;
+    let mut i = 0;
+    while i < n {
+        k = list_node(levels, due, i, entries, k);
+        i += 1;
     }
     k
 }

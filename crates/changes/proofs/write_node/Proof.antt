@@ -1,25 +1,199 @@
-use borrow.Author.Needs.{needs}
 use native.Mathlib.Omega.{arith}
+use Prim.Native.Nat.{_+_}
+use Rattle.changes.proofs.Node.{came-few, gone-few, gained-few, lost-few, new-few, old-few, numbers-long, node-changed, node-kept}
+use borrow.Author.Needs.{needs}
 use Rattle.changes.proofs.write_node.Statement.{statement}
-use Rattle.changes.proofs.Kept.{keeps-node}
 use Rattle.changes.proofs.write_node.Tie as tie
 use Rattle.changes.proofs.write_node.Reads as reads
 use Rattle.changes.proofs.write_node.Lts as lts
-use Rattle.changes.proofs.clear_place.Reads as clear-place-reads
-use Rattle.changes.proofs.write_change.Reads as write-change-reads
+use Rattle.changes.proofs.write_picked.Reads as write-picked-reads
+use Rattle.changes.proofs.write_rows.Reads as write-rows-reads
 
-write-change-requires : tie.Need-write-change-requires
-write-change-requires c κs = (
-  c .before .before .before .before .before .before .before .before .pre .0,
-  c .before .before .before .before .before .before .before .before .pre .1,
-  c .before .before .before .before .before .before .before .before .pre .2,
-  c .before .before .before .before .before .before .before .before .pre .3,
-  c .before .before .before .before .before .before .before .before .pre .4,
-  c .before .before .before .before .before .before .before .before .pre .5,
-  c .before .before .before .before .before .before .before .before .pre .6,
-  rw (c .before .before .before .if1 .taken) at (c .before .before .before .before .before .before .before .before .pre .9),
-  c .before .before .before .before .before .before .before .before .pre .10,
+mul-at : tie.Need-mul-at
+mul-at c = search needs
+
+mul-numbers : tie.Need-mul-numbers
+mul-numbers c = search needs
+
+mul-numbers-2 : tie.Need-mul-numbers-2
+mul-numbers-2 c = search needs
+
+add-numbers : tie.Need-add-numbers
+add-numbers c = search needs
+
+sub-numbers : tie.Need-sub-numbers
+sub-numbers c = search needs
+
+part-numbers-start : tie.Need-part-numbers-start
+part-numbers-start c = search needs
+
+part-numbers-end : tie.Need-part-numbers-end
+part-numbers-end c = search needs
+
+mul-g : tie.Need-mul-g
+mul-g c = search needs
+
+shared-slice-read-g : tie.Need-shared-slice-read-g
+shared-slice-read-g c = search needs
+
+cast-g : tie.Need-cast-g
+cast-g c = omega (arith, c .shared-slice-known7 .given (c .before .before .before .before .before .before .before .before .before .before .before .args .i))
+
+add-l : tie.Need-add-l
+add-l c = search needs
+
+mul-l : tie.Need-mul-l
+mul-l c = search needs
+
+shared-slice-read-l : tie.Need-shared-slice-read-l
+shared-slice-read-l c = search needs
+
+cast-l : tie.Need-cast-l
+cast-l c = omega (arith, c .shared-slice-known8 .given (32 + c .before .before .before .before .before .before .before .before .before .before .before .before .args .i))
+
+add-was : tie.Need-add-was
+add-was c = search needs
+
+mul-was : tie.Need-mul-was
+mul-was c = search needs
+
+shared-slice-read-was : tie.Need-shared-slice-read-was
+shared-slice-read-was c = search needs
+
+cast-was : tie.Need-cast-was
+cast-was c = omega (arith, c .shared-slice-known9 .given (65 + c .before .before .before .before .before .before .before .before .before .before .before .before .before .args .i))
+
+add-write-picked : tie.Need-add-write-picked
+add-write-picked c = search needs
+
+mul-write-picked : tie.Need-mul-write-picked
+mul-write-picked c = search needs
+
+sub-write-picked : tie.Need-sub-write-picked
+sub-write-picked c = search needs
+
+part-write-picked-start : tie.Need-part-write-picked-start
+part-write-picked-start c = search needs
+
+part-write-picked-end : tie.Need-part-write-picked-end
+part-write-picked-end c = search needs
+
+write-picked-requires : tie.Need-write-picked-requires
+write-picked-requires c κs =
+    let s = c .before .before .before .before .before .before .before .before .before .before .before .before .before .before .before in
+    let a = s .args in
+    let o = s .pre in
+    let g = came-few (a .rows .now) (a .gained .now) (a .lost .now) (a .head .now) (a .work .now) (a .counts .now) (a .changed .now) (a .picks .now) (a .sizes .now) (a .i) o in (
+      o .inside,
+      o .gained-long,
+      g,
+      gained-few (a .rows .now) (a .gained .now) (a .lost .now) (a .head .now) (a .work .now) (a .counts .now) (a .changed .now) (a .picks .now) (a .sizes .now)
+          (a .i) o,
+      omega (
+        arith,
+        g,
+        numbers-long (a .rows .now) (a .gained .now) (a .lost .now) (a .head .now) (a .work .now) (a .counts .now) (a .changed .now) (a .picks .now) (a .sizes
+            .now) (a .i) o,
+      ),
+      o .tells .came .within,
+    )
+
+add-went : tie.Need-add-went
+add-went c = search needs
+
+mul-went : tie.Need-mul-went
+mul-went c = search needs
+
+shared-slice-read-went : tie.Need-shared-slice-read-went
+shared-slice-read-went c = search needs
+
+cast-went : tie.Need-cast-went
+cast-went c = omega (
+  arith,
+  c .shared-slice-known10 .given (97 + c .before .before .before .before .before .before .before .before .before .before .before .before .before .before .before
+      .before .before .before .before .args .i),
 )
+
+add-write-picked-2 : tie.Need-add-write-picked-2
+add-write-picked-2 c = search needs
+
+mul-write-picked-2 : tie.Need-mul-write-picked-2
+mul-write-picked-2 c = search needs
+
+sub-write-picked-2 : tie.Need-sub-write-picked-2
+sub-write-picked-2 c = search needs
+
+part-write-picked-start-2 : tie.Need-part-write-picked-start-2
+part-write-picked-start-2 c = search needs
+
+part-write-picked-end-2 : tie.Need-part-write-picked-end-2
+part-write-picked-end-2 c = search needs
+
+write-picked-requires-2 : tie.Need-write-picked-requires-2
+write-picked-requires-2 c κs =
+    let s = c .before .before .before .before .before .before .before .before .before .before .before .before .before .before .before .before .before .before .before .before .before .before in
+    let a = s .args in
+    let o = s .pre in
+    let l = gone-few (a .rows .now) (a .gained .now) (a .lost .now) (a .head .now) (a .work .now) (a .counts .now) (a .changed .now) (a .picks .now) (a .sizes .now) (a .i) o in (
+      o .inside,
+      o .lost-long,
+      l,
+      lost-few (a .rows .now) (a .gained .now) (a .lost .now) (a .head .now) (a .work .now) (a .counts .now) (a .changed .now) (a .picks .now) (a .sizes .now) (a
+          .i) o,
+      omega (
+        arith,
+        l,
+        numbers-long (a .rows .now) (a .gained .now) (a .lost .now) (a .head .now) (a .work .now) (a .counts .now) (a .changed .now) (a .picks .now) (a .sizes .now)
+            (a .i) o,
+      ),
+      o .tells .gone .within,
+    )
+
+shared-slice-read-if1 : tie.Need-shared-slice-read-if1
+shared-slice-read-if1 c = search needs
+
+mul-write-rows : tie.Need-mul-write-rows
+mul-write-rows c = search needs
+
+shared-slice-read-write-rows : tie.Need-shared-slice-read-write-rows
+shared-slice-read-write-rows c = search needs
+
+cast-write-rows : tie.Need-cast-write-rows
+cast-write-rows c = omega (
+  arith,
+  c .shared-slice-known12 .given (c .before .before .before .before .before .before .before .before .before .before .before .before .before .before .before
+      .before .before .before .before .before .before .before .before .before .before .before .before .before .args .i),
+)
+
+add-write-rows : tie.Need-add-write-rows
+add-write-rows c = search needs
+
+mul-write-rows-2 : tie.Need-mul-write-rows-2
+mul-write-rows-2 c = search needs
+
+shared-slice-read-write-rows-2 : tie.Need-shared-slice-read-write-rows-2
+shared-slice-read-write-rows-2 c = search needs
+
+cast-write-rows-2 : tie.Need-cast-write-rows-2
+cast-write-rows-2 c = omega (
+  arith,
+  c .shared-slice-known13 .given (1 + c .before .before .before .before .before .before .before .before .before .before .before .before .before .before
+      .before .before .before .before .before .before .before .before .before .before .before .before .before .before .before .before .args .i),
+)
+
+write-rows-requires : tie.Need-write-rows-requires
+write-rows-requires c κs =
+    let s = c .before .before .before .before .before .before .before .before .before .before .before .before .before .before .before .before .before .before .before .before .before .before
+    .before .before .before .before .before .before .before .before in
+    let a = s .args in
+    let o = s .pre in (
+      o .inside,
+      o .work-long,
+      o .rows-long,
+      new-few (a .rows .now) (a .gained .now) (a .lost .now) (a .head .now) (a .work .now) (a .counts .now) (a .changed .now) (a .picks .now) (a .sizes
+          .now) (a .i) o,
+      old-few (a .rows .now) (a .gained .now) (a .lost .now) (a .head .now) (a .work .now) (a .counts .now) (a .changed .now) (a .picks .now) (a .sizes .now) (a .i) o,
+    )
 
 same-length : tie.Need-same-length
 same-length c = search needs
@@ -31,22 +205,15 @@ same-length-3 : tie.Need-same-length-3
 same-length-3 c = search needs
 
 returns : tie.Need-returns
-returns c = λ w p q g l. rw (c .before .before .before .before .before .before .before .before .before .before .if1 .taken)
-    (c .before .before .before .before .before .before .write-change .ensures w (rw (c .before .before .before .before .before .before .before .before .before .before .if1 .taken) at p) q)
-
-clear-place-requires : tie.Need-clear-place-requires
-clear-place-requires c κs = (
-  c .before .before .before .before .before .before .pre .0,
-  c .before .before .before .before .before .before .pre .3,
-  omega (arith, c .before .before .before .before .before .before .pre .7),
-)
-
-clear-place-requires-2 : tie.Need-clear-place-requires-2
-clear-place-requires-2 c κs = (
-  c .before .before .before .before .before .before .before .before .before .before .pre .0,
-  c .before .before .before .before .before .before .before .before .before .before .pre .4,
-  omega (arith, c .before .before .before .before .before .before .before .before .before .before .pre .8),
-)
+returns c =
+    let a = c .before .before .before .before .before .before .before .before .before .before .before .before .before .before .before .before .before .before .before .before .before .before
+    .before .before .before .before .before .before .before .before .before .before .before .args in
+    let g = c .before .before .before .before .before .before .before .before .before .before .before .before .before .before .before .before .before .write-picked in
+    let l = c .before .before .before .before .before .before .before .before .before .before .write-picked2 in
+    let r = c .before .before .write-rows in
+    λ o. node-changed (a .rows .now) (a .gained .now) (a .lost .now) (a .head .now) (a .work .now) (a .counts .now) (a .changed .now) (a .picks .now) (a .sizes .now) (a .i) o (g .last .1 .1
+    .1 .1 .0)
+    (l .last .1 .1 .1 .1 .0) (g .ensures) (l .ensures) (c .before .before .before .before .before .before .if1 .taken) (r .last .1 .1 .1 .0) (r .ensures)
 
 same-length-4 : tie.Need-same-length-4
 same-length-4 c = search needs
@@ -54,27 +221,70 @@ same-length-4 c = search needs
 same-length-5 : tie.Need-same-length-5
 same-length-5 c = search needs
 
+same-length-6 : tie.Need-same-length-6
+same-length-6 c = search needs
+
 returns-2 : tie.Need-returns-2
-returns-2 c = let a = (c .before .before .before .before .before .before .before .before .before .before .before .before .before .args) in λ w p q g l. keeps-node w (a .work .now)
-    (a .rows .now) (a .gained .now) (a .lost .now) (c .before .before .before .before .before .before .clear-place .last .0) (c .before .before .clear-place2 .last .0) (a .i) (a .n) (a .m)
-    (a .changed) (c .before .before .before .before .before .before .before .before .if1 .left)
-    (c .before .before .before .before .before .before .before .before .before .before .before .before .before .pre .11
-    (c .before .before .before .before .before .before .before .before .if1 .left))
-    (c .before .before .before .before .before .before .before .before .before .before .before .before .before .pre .0)
-    (c .before .before .before .before .before .before .before .before .before .before .before .before .before .pre .2) q
-    (c .before .before .before .before .before .before .clear-place .ensures w g) (c .before .before .clear-place2 .ensures w l)
+returns-2 c =
+    let a = c .before .before .before .before .before .before .before .before .before .before .before .before .before .before .before .before .before .before .before .before .before .before
+    .before .before .before .before .before .args in
+    let g = c .before .before .before .before .before .before .before .before .before .before .before .write-picked in
+    let l = c .before .before .before .before .write-picked2 in
+    λ o. node-kept (a .rows .now) (a .gained .now) (a .lost .now) (a .head .now) (a .work .now) (a .counts .now) (a .changed .now) (a .picks .now) (a .sizes .now) (a .i) o (g .last .1 .1 .1 .1 .0)
+    (l .last .1 .1 .1 .1 .0) (g .ensures) (l .ensures) (c .if1 .left)
 
 pub write-node-spec : {M : Type 1} → statement M
 write-node-spec =
     tie.close
     (tie.spec
-    write-change-requires
+    mul-at
+    mul-numbers
+    mul-numbers-2
+    add-numbers
+    sub-numbers
+    part-numbers-start
+    part-numbers-end
+    mul-g
+    shared-slice-read-g
+    cast-g
+    add-l
+    mul-l
+    shared-slice-read-l
+    cast-l
+    add-was
+    mul-was
+    shared-slice-read-was
+    cast-was
+    add-write-picked
+    mul-write-picked
+    sub-write-picked
+    part-write-picked-start
+    part-write-picked-end
+    write-picked-requires
+    add-went
+    mul-went
+    shared-slice-read-went
+    cast-went
+    add-write-picked-2
+    mul-write-picked-2
+    sub-write-picked-2
+    part-write-picked-start-2
+    part-write-picked-end-2
+    write-picked-requires-2
+    shared-slice-read-if1
+    mul-write-rows
+    shared-slice-read-write-rows
+    cast-write-rows
+    add-write-rows
+    mul-write-rows-2
+    shared-slice-read-write-rows-2
+    cast-write-rows-2
+    write-rows-requires
     same-length
     same-length-2
     same-length-3
     returns
-    clear-place-requires
-    clear-place-requires-2
     same-length-4
     same-length-5
+    same-length-6
     returns-2)

@@ -67,12 +67,18 @@ part-same-words-end c = search needs
 slice-aggregate-same-words : tie.Need-slice-aggregate-same-words
 slice-aggregate-same-words c = search needs
 
+mul-same-words-4 : tie.Need-mul-same-words-4
+mul-same-words-4 c =
+    let f = rw (c .before .before .before .before .before .count .given .1) at (c .before .before .before .before .before .before .before .before .evaluate-held .ensures) in
+    omega (arith, f .few)
+
 same-words-requires : tie.Need-same-words-requires
 same-words-requires c κs =
     let a = c .before .before .before .before .before .before .before .before .before .before .before .before .before .args in
     let f = rw (c .before .before .before .before .before .count .given .1) at (c .before .before .before .before .before .before .before .before .evaluate-held .ensures) in
     omega (
       arith,
+      f .few,
       c .before .before .before .before .before .before .before .before .before .before .before .before .before .pre .0 .rows-long,
       c .before .before .before .before .before .before .before .before .before .before .before .before .before .pre .0 .few,
     )
@@ -115,6 +121,7 @@ rows-agree-spec =
     part-same-words-start
     part-same-words-end
     slice-aggregate-same-words
+    mul-same-words-4
     same-words-requires
     returns-2
     returns-3)

@@ -41,7 +41,8 @@ joined-none : (how : Joining) (l r : Row) → agree (pairsOf (how .p) (how .pair
 joined-none how l r e = rw e
 
 abbrev Inv-loop : tie.InvT-loop
-Inv-loop left i right m keys out₀ count how key rows₀ j₀ out rows j = (j ≤ m) × (length out ≡ placeSize) × Stands (putUpTo (joinedIf how (rowAt stride left i)) (firstRows out₀ count) right j) out rows
+Inv-loop left i right m keys out₀ count how key rows₀ j₀ out rows j = (j ≤ m) × (length out ≡ placeSize) × Stands (putUpTo (joinedIf how (rowAt stride left i)) (firstRows out₀ count) right
+    j) out rows
 
 abbrev μ-loop : tie.MeasureT-loop
 μ-loop left i right m keys out₀ count how key rows₀ j₀ out rows j = m - j

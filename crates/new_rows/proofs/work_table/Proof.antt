@@ -50,6 +50,9 @@ returns c = let a = c .before .before .before .before .before .before .before .b
 slice-aggregate-copy-run-2 : tie.Need-slice-aggregate-copy-run-2
 slice-aggregate-copy-run-2 c = search needs
 
+mul-copy-run-3 : tie.Need-mul-copy-run-3
+mul-copy-run-3 c = omega (arith, c .before .before .if1 .left)
+
 copy-run-requires-2 : tie.Need-copy-run-requires-2
 copy-run-requires-2 c κs = let a = c .before .before .before .before .before .before .before .before .before .before .before .before .args
     in (omega arith, rw (c .before .before .before .before .before .before .before .before .before .before .before .before .pre .4) (omega arith))
@@ -80,6 +83,7 @@ work-table-spec =
     fold-requires
     returns
     slice-aggregate-copy-run-2
+    mul-copy-run-3
     copy-run-requires-2
     same-length
     returns-2)

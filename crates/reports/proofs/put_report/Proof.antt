@@ -109,7 +109,8 @@ returns c =
     )) ∙ ap (writtenTo (a .out .now))
     (ap₂ {A = Bool} {B = Bool} {C = Bytes}
     (λ t u. allowedOf t maxRows (a .node) (heldIn layout (a .w) (a .g) (a .gained .now) (a .node)) ++ allowedOf u 65 (a .node) (heldIn layout (a .w) (a .l) (a .lost .now) (a .node)))
-    (c .before .before .before .before .before .before .before .before .before .before .allows .ensures) (c .before .before .before .before .before .before .before .before .before .allows2 .ensures)
+    (c .before .before .before .before .before .before .before .before .before .before .allows .ensures) (c .before .before .before .before .before .before .before .before .before .allows2
+    .ensures)
     ∙ sym (report-parts (a .sign) (a .node)
     (record { gained = heldIn layout (a .w) (a .g) (a .gained .now) (a .node); lost = heldIn layout (a .w) (a .l) (a .lost .now) (a .node) })))
 

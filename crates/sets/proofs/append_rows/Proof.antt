@@ -26,7 +26,8 @@ returns : tie.Need-returns
 returns c =
     let start = c .before .before .before .before .before .before in
     let a = start .args in
-    appended (a .src .now) (a .i) (a .k) (a .out .now) (c .before .before .copy-run .last .1 .1 .0) (a .count) (start .pre .0) (start .pre .1) (start .pre .2) (c .before .before .copy-run .ensures)
+    appended (a .src .now) (a .i) (a .k) (a .out .now) (c .before .before .copy-run .last .1 .1 .0) (a .count) (start .pre .0) (start .pre .1) (start .pre .2) (c .before .before .copy-run
+    .ensures)
 
 pub append-rows-spec : {M : Type 1} → statement M
 append-rows-spec =

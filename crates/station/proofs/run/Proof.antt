@@ -194,7 +194,8 @@ loop-again c = let a =
           .told) (c .before .before .before .before .before .before .before .before .before .before .before .before .before .before .before .before .before .before .before .before .before .loop
           .inv .0) (record {
             before =
-                c .before .before .before .before .before .before .before .before .before .before .before .before .before .before .before .before .before .before .before .before .before .loop .out;
+                c .before .before .before .before .before .before .before .before .before .before .before .before .before .before .before .before .before .before .before .before .before
+                .loop .out;
             out = (c .before .before .before .before .before .before .before .before .before .before .before .before .before .step .last .1 .1 .1 .1 .1 .1 .1 .1 .1 .0);
             areas = (lent (c .before .before .before .before .before .before .before .before .before .before .before .before .before .step .last .1 .1 .1 .1 .1 .0)
                 (c .before .before .before .before .before .before .before .before .before .before .before .before .before .step .last .1 .1 .1 .1 .1 .1 .0)
@@ -210,7 +211,8 @@ loop-again c = let a =
             arith,
             c .before .before .before .before .before .before .before .before .before .before .before .before .before .step .ensures .wrote .fits,
             c .before .before .before .before .before .before .before .before .before .before .before .before .before .before .before .before .before .before .before .before .before .loop .inv .5,
-            c .before .before .before .before .before .before .before .before .before .before .before .before .before .before .before .before .before .before .before .before .before .before .before
+            c .before .before .before .before .before .before .before .before .before .before .before .before .before .before .before .before .before .before .before .before .before .before
+                .before
                 .before .before .before .before .before .before .pre .2,
           )) (c .before .write-out .result)
           (omega (

@@ -1,11 +1,11 @@
-use borrow.Author.Needs.{needs}
 use native.Mathlib.Omega.{arith}
 use mathlib.Core.Path.{ap, _∙_}
 use mathlib.Core.Bool.{not}
-use Rattle.working.proofs.differs.Statement.{statement}
 use Rattle.working.proofs.Differ.{place-counts, place-words-same}
 use Rattle.areas.specs.Lent.{placeAt}
 use Rattle.areas.proofs.Pasted.{place-long}
+use borrow.Author.Needs.{needs}
+use Rattle.working.proofs.differs.Statement.{statement}
 use Rattle.working.proofs.differs.Tie as tie
 use Rattle.working.proofs.differs.Reads as reads
 use Rattle.working.proofs.differs.Lts as lts
@@ -35,13 +35,19 @@ part-same-words-start c = search needs
 part-same-words-end : tie.Need-part-same-words-end
 part-same-words-end c = search needs
 
+mul-same-words-4 : tie.Need-mul-same-words-4
+mul-same-words-4 c = search needs
+
 same-words-requires : tie.Need-same-words-requires
-same-words-requires c κs = let a = c .before .before .before .before .args in let long = place-long (a .rows .now) (a .i) (c .before .before .before .before .pre .0)
-    (c .before .before .before .before .pre .1) in (omega (arith, c .before .before .before .before .pre .2), omega (arith, long))
+same-words-requires c κs =
+    let s = c .before .before .before .before in
+    let long = place-long (s .args .rows .now) (s .args .i) (s .pre .0) (s .pre .2) in
+    (omega (arith, s .pre .1, s .pre .3), omega (arith, s .pre .1, long))
 
 returns-2 : tie.Need-returns-2
-returns-2 c = let a = c .before .before .before .before .before .args in λ w p q. ap not
-    (c .same-words .ensures ∙ place-words-same w (a .new .now) (a .n) (placeAt (a .rows .now) (a .i)) (a .m) p q (c .before .before .if1 .left))
+returns-2 c =
+    let a = c .before .before .before .before .before .args in
+    λ w p q. ap not (c .same-words .ensures ∙ place-words-same w (a .new .now) (a .n) (placeAt (a .rows .now) (a .i)) (a .m) p q (c .before .before .if1 .left))
 
 pub differs-spec : {M : Type 1} → statement M
 differs-spec =
@@ -55,5 +61,6 @@ differs-spec =
     sub-same-words
     part-same-words-start
     part-same-words-end
+    mul-same-words-4
     same-words-requires
     returns-2)

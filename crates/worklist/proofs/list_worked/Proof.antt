@@ -1,64 +1,59 @@
-use Prim.Native.Nat.{_≤_, _-_, zero-le, ℕ}
-use mathlib.Core.Path.{_≡_, refl, ap, _∙_}
-use lib.Seq.{sets, length-sets}
-use lib.ListN.{length}
-use mathlib.Core.List.{flatMap, List}
+use Prim.Native.Nat.{_≤_, _-_, zero-le}
+use mathlib.Core.Path.{_≡_, refl, sym, ap, _∙_}
+use mathlib.Core.List.{flatMap}
 use native.Mathlib.Omega.{arith}
+use lib.ListN.{length}
+use Rattle.model.specs.Row.{maxNodes}
+use Rattle.model.specs.Areas.{padded}
+use Rattle.states.proofs.Head.{padded-length}
+use Rattle.worklist.specs.Listed.{dueList}
+use Rattle.worklist.proofs.Listing.{due-few}
 use Rattle.worklist.proofs.list_worked.Statement.{statement}
-use Rattle.worklist.specs.Listed.{listTo}
-use Rattle.worklist.proofs.Listing.{list-room, list-step, list-short, sets-zeros}
 use Rattle.worklist.proofs.list_worked.Tie as tie
-use Rattle.worklist.proofs.list_worked.Reads as reads
-use Rattle.worklist.proofs.list_worked.Lts as lts
-use Rattle.worklist.proofs.list_level.Reads as list-level-reads
 
 abbrev Inv-loop : tie.InvT-loop
-Inv-loop levels listed n entries₀ k₀ level₀ entries k level = (level ≤ n) × (entries ≡ sets entries₀ 0 (listTo levels listed n level)) × (k ≡ length (listTo levels listed n level))
+Inv-loop levels due n entries₀ k₀ i₀ entries k i = (i ≤ n) × (entries ≡ padded maxNodes (dueList levels due i)) × (k ≡ length (dueList levels due i))
 
 abbrev μ-loop : tie.MeasureT-loop
-μ-loop levels listed n entries₀ k₀ level₀ entries k level = n - level
+μ-loop levels due n entries₀ k₀ i₀ entries k i = n - i
 
 loop-holds : tie.Need-loop-holds Inv-loop μ-loop
 unfolding flatMap
-loop-holds c = (zero-le, refl, refl)
+loop-holds c = (zero-le, c .before .before .before .pre .3, refl)
 
-list-level-requires : tie.Need-list-level-requires Inv-loop μ-loop
-list-level-requires c κs = let a = (c .before .before .before .before .before .before .args)
+list-node-requires : tie.Need-list-node-requires Inv-loop μ-loop
+list-node-requires c κs = let s = c .before .before .before .before .before .before
     in (
-      c .before .before .before .before .before .before .pre .0,
-      c .before .before .before .before .before .before .pre .1,
-      c .before .before .before .before .before .before .pre .2,
-      ap length (c .before .before .loop .inv .1) ∙ length-sets (a .entries .now) 0 (listTo (a .levels .now) (a .listed .now) (a .n) (c .before .before .loop .level))
-          ∙ ap length (c .before .before .before .before .before .before .pre .3),
-      rw (c .before .before .loop .inv .2) (list-room (a .levels .now) (a .listed .now) (a .n) (c .before .before .loop .level) (c .before .before .before .before .before .before .pre .2)),
+      omega (arith, c .before .loop-test .taken, s .pre .0),
+      omega (arith, c .before .loop-test .taken, s .pre .1),
+      omega (arith, c .before .loop-test .taken, s .pre .2),
+      s .pre .4,
+      c .before .before .loop .inv .1,
+      c .before .before .loop .inv .2,
     )
 
-add-level : tie.Need-add-level Inv-loop μ-loop
-add-level c = omega arith
+add-i : tie.Need-add-i Inv-loop μ-loop
+add-i c = omega arith
 
 loop-less : tie.Need-loop-less Inv-loop μ-loop
 loop-less c = omega arith
 
 loop-again : tie.Need-loop-again Inv-loop μ-loop
-loop-again c = let a = (c .before .before .before .before .before .before .before .before .before .args) in let s = list-step (a .levels .now) (a .listed .now) (a .n)
-    (c .before .before .before .before .before .loop .level) (a .entries .now) (c .before .before .before .before .before .loop .entries) (c .before .before .list-level .last .1 .1 .1 .1 .0)
-    (c .before .before .before .before .before .loop .k) (c .before .before .list-level .result) (c .before .before .before .before .before .loop .inv .1)
-    (c .before .before .before .before .before .loop .inv .2) (c .before .before .list-level .ensures .0) (c .before .before .list-level .ensures .1)
-    in (omega (arith, c .before .before .before .before .loop-test .taken), s .0, s .1)
+loop-again c = (omega (arith, c .before .before .before .before .loop-test .taken), c .before .before .list-node .ensures .0, c .before .before .list-node .ensures .1)
 
 same-length : tie.Need-same-length Inv-loop μ-loop
-same-length c = let a = (c .before .before .before .before .before .args) in ap length (c .before .loop .inv .1)
-    ∙ length-sets (a .entries .now) 0 (listTo (a .levels .now) (a .listed .now) (a .n) (c .before .loop .level))
+same-length c = let s = c .before .before .before .before .before
+    in ap length (c .before .loop .inv .1)
+    ∙ padded-length maxNodes (dueList (s .args .levels .now) (s .args .due .now) (c .before .loop .i))
+    (omega (arith, due-few (s .args .levels .now) (s .args .due .now) (c .before .loop .i), c .before .loop .inv .0, s .pre .2))
+    ∙ sym (ap length (s .pre .3))
 
 returns : tie.Need-returns Inv-loop μ-loop
-returns c = let a = (c .before .before .before .before .before .args) in let e : c .before .loop .level
-    ≡ a .n = omega (arith, c .before .loop .inv .0, c .loop-test .left) in let short : length (listTo (a .levels .now) (a .listed .now) (a .n) (a .n)) ≤ a .n = list-short (a .levels .now)
-    (a .listed .now) (a .n) 0
-    (a .n) in (
-      rw e at (c .before .loop .inv .1) ∙ ap (λ (l : List ℕ). sets l 0 (listTo (a .levels .now) (a .listed .now) (a .n) (a .n))) (c .before .before .before .before .before .pre .3)
-          ∙ sets-zeros (listTo (a .levels .now) (a .listed .now) (a .n) (a .n)) (omega (arith, short, c .before .before .before .before .before .pre .2)),
-      (rw e at (c .before .loop .inv .2), omega (arith, rw e at (c .before .loop .inv .2), short, c .before .before .before .before .before .pre .2)),
-    )
+returns c = let s = c .before .before .before .before .before
+    in let a = s .args
+    in let e : c .before .loop .i ≡ a .n = omega (arith, c .before .loop .inv .0, c .loop-test .left)
+    in let many : c .before .loop .k ≡ length (dueList (a .levels .now) (a .due .now) (a .n)) = rw e at (c .before .loop .inv .2)
+    in (rw e at (c .before .loop .inv .1), (many, omega (arith, due-few (a .levels .now) (a .due .now) (a .n), s .pre .2)))
 
 pub list-worked-spec : {M : Type 1} → statement M
 list-worked-spec =
@@ -67,8 +62,8 @@ list-worked-spec =
     Inv-loop
     μ-loop
     loop-holds
-    list-level-requires
-    add-level
+    list-node-requires
+    add-i
     loop-less
     loop-again
     same-length
