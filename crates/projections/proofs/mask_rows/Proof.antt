@@ -7,7 +7,8 @@ use borrow.Author.Needs.{needs}
 use Rattle.projections.proofs.mask_rows.Statement.{statement}
 use Rattle.places.specs.Places.{Stands}
 use Rattle.projections.specs.Projections.{joinedRow, maskedRow}
-use Rattle.projections.proofs.Rows.{few-columns, joined-length, row-made}
+use Rattle.projections.proofs.Rows.{few-columns, joined-length}
+use Rattle.projections.proofs.Unordered.{masked-made}
 use Rattle.places.proofs.Puts.{put-exceeds, put-ready, put-stands, put-start, putUpTo, stands-none}
 use Rattle.projections.proofs.Projects.{project-all, projected, wide-projected}
 use Rattle.model.specs.Row.{Row, maxWidth}
@@ -18,11 +19,6 @@ use Rattle.projections.proofs.mask_rows.Reads as reads
 use Rattle.projections.proofs.mask_rows.Lts as lts
 use Rattle.projections.proofs.columns_row.Reads as columns-row-reads
 use Rattle.places.proofs.put_row.Reads as put-row-reads
-
--- the row that columns_row gives, as the first of its own
-masked-made : (columns : List ℕ) (r row : Row) → length columns ≤ maxWidth → row ≡ joinedRow stride columns r (rowAt stride (replicate stride 0) 0) → rowAt stride row 0 ≡ maskedRow columns r
-masked-made columns r row h e =
-    row-made row (maskedRow columns r) (e ∙ ap (joinedRow stride columns r) (row-made (replicate stride 0) (replicate stride 0) refl refl)) (joined-length stride columns r (replicate stride 0) h)
 
 abbrev Inv-loop : tie.InvT-loop
 Inv-loop input n columns c out₀ zeros count₀ i₀ out count i =
