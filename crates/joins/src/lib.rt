@@ -36,7 +36,7 @@ fn join_row(
         × Stands (firstRows (now out) count) (now out) count × (ascending (firstRows (now out) count) ≡ true)
         × (length (now out) ≡ placeSize) × (m ≤ maxRows)
         × KeyedRows (sideColumns 1 (pairsOf (how .p) (how .pairs))) (now right) m (now keys)
-        × Chained (now keys) m (now heads) (now next) ⌝ }
+        × Chained (now keys) m 0 (now heads) (now next) ⌝ }
     ensures { λ r. ⌜ Stored
         (insertAll (joinedWith how (firstRows (now (right .entry)) m) (rowAt stride (now (left .entry)) i))
         (firstRows (now (out .entry)) count))
@@ -46,8 +46,8 @@ fn join_row(
     let mut rows = count;
     let slot = keys::slot_of(key);
     let mut at = heads[slot] as usize;
-    while 0 < at {
-        let j = at - 1;
+    while at < m {
+        let j = at;
         at = next[j] as usize;
         if keys[j] == key {
             let row = projections::columns_row(left, i, right, j, how.split, &how.columns, how.n);
@@ -68,7 +68,7 @@ fn join_all(left: &[u32], n: usize, right: &[u32], m: usize, how: Joining, out: 
         (now (out .exit)) r ⌝ }
 {
     let keys = keys::keys_of(right, m, &how.pairs, how.p, 1);
-    let mut heads = [0u8; MAX_ROWS];
+    let mut heads = [m as u8; MAX_ROWS];
     let mut next = [0u8; MAX_ROWS];
     keys::chain_keys(&keys, m, &mut heads, &mut next);
     let mut count = 0;

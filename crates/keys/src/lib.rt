@@ -69,17 +69,16 @@ pub fn slot_of(key: u64) -> usize
     ((key % WORD + SPREAD * (key / WORD)) % (MAX_ROWS as u64)) as usize
 }
 
-// The first n keys chained by their slots: the last key of each slot, and of each key the one before it there, each by 1
-// more than its number, or 0.
+// The first n keys chained by their slots: the first key of each slot, and of each key the next one there, or n.
 pub fn chain_keys(keys: &[u64; MAX_ROWS], n: usize, heads: &mut [u8; MAX_ROWS], next: &mut [u8; MAX_ROWS])
-    requires { ⌜ (n ≤ maxRows) × (now heads ≡ replicate maxRows 0) × (now next ≡ replicate maxRows 0) ⌝ }
-    ensures { λ _. ⌜ Chained (now (keys .entry)) n (now (heads .exit)) (now (next .exit)) ⌝ }
+    requires { ⌜ (n ≤ maxRows) × (now heads ≡ replicate maxRows n) × (now next ≡ replicate maxRows 0) ⌝ }
+    ensures { λ _. ⌜ Chained (now (keys .entry)) n 0 (now (heads .exit)) (now (next .exit)) ⌝ }
 {
-    let mut j = 0;
-    while j < n {
+    let mut j = n;
+    while 0 < j {
+        j -= 1;
         let slot = slot_of(keys[j]);
         next[j] = heads[slot];
-        j += 1;
         heads[slot] = j as u8;
     }
 }

@@ -10,7 +10,7 @@ use Rattle.model.specs.Row.{Row, Relation, sameRow, ascending, member, insertRo
 use Rattle.model.specs.Areas.{padded, placeSize, stride}
 use Rattle.laws.proofs.Sets.{Ascending, ascending-true, asc-insert, ext, member-insert, setOf-ascending, insert-more}
 use Rattle.rows.specs.Rows.{rowAt, rowsFrom, firstRows, words, stored}
-use Rattle.rows.proofs.Words.{wide-rows, length-words, rows-cons, rows-none, rows-snoc, rows-stored}
+use Rattle.rows.proofs.Words.{wide-rows, length-words, rows-snoc, rows-stored}
 use Rattle.laws.proofs.Widths.{wide-insert, wide-each, wide-setOf}
 use Rattle.rows.proofs.Padding.{map-append, setOf-padded}
 use Rattle.rows.proofs.Place.{length-map-padded}
@@ -60,10 +60,6 @@ stands-none out e = record { count = refl; few = zero-le; is = e }
 abbrev pub putUpTo : (Row → List Row) → List Row → List ℕ → ℕ → List Row
 putUpTo f b s i = insertAll (flatMap f (firstRows s i)) b
 
--- the rows that f makes of the rows from i on, of the first n, put into b
-abbrev pub putFrom : (Row → List Row) → List Row → List ℕ → ℕ → ℕ → List Row
-putFrom f b s n i = insertAll (flatMap f (rowsFrom stride s i (n - i))) b
-
 insert-append : (a b c : List Row) → insertAll (a ++ b) c ≡ insertAll a (insertAll b c)
 insert-append [] b c = refl
 insert-append (r ∷ a) b c = ap (insertRow r) (insert-append a b c)
@@ -111,7 +107,7 @@ module _ (f : Row → List Row) (b : List Row) (s : List ℕ) (n : ℕ) (wf : (r
   unfolding flatMap rowsFrom
   put-start out count t = t
 
-  put-turn : (i : ℕ) → putUpTo f b s (i + 1) ≡ insertAll (f (rowAt stride s i)) (putUpTo f b s i)
+  pub put-turn : (i : ℕ) → putUpTo f b s (i + 1) ≡ insertAll (f (rowAt stride s i)) (putUpTo f b s i)
   put-turn i =
       let z : 0 + i ≡ i = omega arith in
       let last : firstRows s (i + 1) ≡ firstRows s i ++ (rowAt stride s i ∷ []) = rw z at (rows-snoc stride s 0 i) in
@@ -154,46 +150,6 @@ module _ (f : Row → List Row) (b : List Row) (s : List ℕ) (n : ℕ) (wf : (r
       let over : (maxRows < length (putUpTo f b s (i + 1))) × (length out′ ≡ placeSize) = rw e at (put-more i out out′ count made t x) in
       let k : n - (i + 1) + (i + 1) ≡ n = omega arith in
       (le-trans (over .0) (rw k at (put-grows (i + 1) (n - (i + 1)))), over .1)
-
-  -- ---- from the last row to the first
-
-  pub from-last : putFrom f b s n n ≡ b
-  unfolding flatMap
-  from-last = ap (λ (l : List Row). insertAll (flatMap f l) b) (rows-none stride s n n (le-refl n))
-
-  pub from-first : putFrom f b s n 0 ≡ putUpTo f b s n
-  from-first = let e : n - 0 ≡ n = omega arith in ap (λ (k : ℕ). insertAll (flatMap f (rowsFrom stride s 0 k)) b) e
-
-  pub from-turn : (i : ℕ) → i < n → putFrom f b s n i ≡ insertAll (f (rowAt stride s i)) (putFrom f b s n (i + 1))
-  unfolding flatMap
-  from-turn i h =
-      ap (λ (l : List Row). insertAll (flatMap f l) b) (rows-cons stride s n i h) ∙ insert-append (f (rowAt stride s i)) (flatMap f (rowsFrom stride s (i + 1) (n - (i + 1)))) b
-
-  from-wide : (i : ℕ) → Wide stride (putFrom f b s n i)
-  from-wide i = wide-all stride (flatMap f (rowsFrom stride s i (n - i))) b (wide-each stride f (rowsFrom stride s i (n - i)) stride (wide-rows stride s i (n - i)) wf) wb
-
-  pub from-size : (i : ℕ) (out : List ℕ) (count : ℕ) → Stands (putFrom f b s n i) out count → length out ≡ placeSize
-  from-size i out count t = stands-size (putFrom f b s n i) (from-wide i) out count t
-
-  pub from-ready : (i : ℕ) (out : List ℕ) (count : ℕ) → Stands (putFrom f b s n i) out count → Stands (firstRows out count) out count × (ascending (firstRows out count) ≡ true)
-  from-ready i out count t = (
-    stands-again (putFrom f b s n i) (from-wide i) out count t,
-    stands-ascend (putFrom f b s n i) (from-wide i) out count t (asc-all (flatMap f (rowsFrom stride s i (n - i))) b asc),
-  )
-
-  -- what the row before brings
-  pub from-more : (i : ℕ) (out out′ : List ℕ) (count : ℕ) (made : Made) → i < n → Stands (putFrom f b s n (i + 1)) out count →
-      Stored (insertAll (f (rowAt stride s i)) (firstRows out count)) out′ made → Stored (putFrom f b s n i) out′ made
-  from-more i out out′ count made h t x =
-      rw (from-turn i h ∙ ap (insertAll (f (rowAt stride s i))) (sym (stands-rows (putFrom f b s n (i + 1)) (from-wide (i + 1)) out count t))) x
-
-  -- all rows are no fewer than those from one on
-  pub from-grows : (i : ℕ) → i ≤ n → length (putFrom f b s n i) ≤ length (putUpTo f b s n)
-  from-grows zero h = rw from-first (le-refl (length (putUpTo f b s n)))
-  from-grows (suc i) h =
-      let e : i + 1 ≡ suc i = omega arith in
-      let step : length (putFrom f b s n (i + 1)) ≤ length (putFrom f b s n i) = rw (from-turn i h) (all-more (f (rowAt stride s i)) (putFrom f b s n (i + 1))) in
-      le-trans (rw e at step) (from-grows i (omega arith))
 
 -- all rows that f makes of some rows, put into an empty place
 pub put-all : (f : Row → List Row) (s : List ℕ) (n : ℕ) → putUpTo f [] s n ≡ setOf (flatMap f (firstRows s n))

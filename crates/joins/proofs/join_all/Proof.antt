@@ -31,6 +31,9 @@ keys-of-requires c κs =
     let fits = start .pre .2 in
     (start .pre .4, start .pre .1, fits .pairs-long, omega (arith, fits .pairs-long), omega arith, fits .pairs)
 
+cast-heads : tie.Need-cast-heads Inv-loop μ-loop
+cast-heads c = omega (arith, c .before .before .before .before .before .before .before .pre .4)
+
 chain-keys-requires : tie.Need-chain-keys-requires Inv-loop μ-loop
 chain-keys-requires c κs = (c .before .before .before .before .before .before .before .before .before .before .pre .4, refl, refl)
 
@@ -114,6 +117,7 @@ join-all-spec =
     Inv-loop
     μ-loop
     keys-of-requires
+    cast-heads
     chain-keys-requires
     loop-holds
     join-row-requires

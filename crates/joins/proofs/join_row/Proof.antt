@@ -1,14 +1,14 @@
-use mathlib.Core.Path.{ap, sym, _∙_, _≡_}
-use Prim.Native.Nat.{ℕ, _+_, _-_}
+use mathlib.Core.Path.{ap}
+use Prim.Native.Nat.{ℕ, _-_}
 use native.Mathlib.Omega.{arith}
 use lib.ListN.{length, getD, take}
 use borrow.Author.Needs.{needs}
-use Rattle.model.specs.Areas.{placeSize, stride}
+use Rattle.model.specs.Areas.{stride}
 use Rattle.laws.proofs.Sets.{ascending-holds}
 use Rattle.rows.specs.Rows.{firstRows, rowAt}
 use Rattle.rows.proofs.Words.{wide-rows}
 use Rattle.projections.proofs.Rows.{joined-length}
-use Rattle.keys.proofs.Chains.{slot-below, head-most, link-most}
+use Rattle.keys.proofs.Chains.{slot-below, head-most}
 use Rattle.joins.proofs.Joins.{few-given}
 use Rattle.joins.proofs.Walk.{Walked, walk-ends, walk-exceeds, walk-less, walk-passes, walk-puts, walk-ready, walk-starts}
 use Rattle.joins.proofs.join_row.Statement.{statement}
@@ -24,7 +24,7 @@ abbrev Inv-loop : tie.InvT-loop
 Inv-loop left i right m keys heads next out₀ count how key rows₀ slot at₀ out rows at = Walked how (rowAt stride left i) key right m keys (firstRows out₀ count) at out rows
 
 abbrev μ-loop : tie.MeasureT-loop
-μ-loop left i right m keys heads next out₀ count how key rows₀ slot at₀ out rows at = at
+μ-loop left i right m keys heads next out₀ count how key rows₀ slot at₀ out rows at = m - at
 
 key-of-requires : tie.Need-key-of-requires Inv-loop μ-loop
 key-of-requires c κs =
@@ -42,7 +42,7 @@ cast-at : tie.Need-cast-at Inv-loop μ-loop
 cast-at c =
     let start = c .before .before .before .before .before .before .before .before .before in
     let a = start .args in
-    let b = head-most (a .keys .now) (a .m) (a .heads .now) (a .next .now) (start .pre .8) (c .before .slot-of .result) (rw (c .before .slot-of .ensures) (slot-below (c .before .before .key-of .result))) in
+    let b = head-most (a .keys .now) (a .m) 0 (a .heads .now) (a .next .now) (start .pre .8) (c .before .slot-of .result) (rw (c .before .slot-of .ensures) (slot-below (c .before .before .key-of .result))) (omega arith) in
     omega (arith, b, start .pre .6)
 
 loop-holds : tie.Need-loop-holds Inv-loop μ-loop
@@ -51,36 +51,36 @@ loop-holds c =
     let a = start .args in
     let base = firstRows (a .out .now) (a .count) in
     walk-starts (a .t5) (start .pre .2) (rowAt stride (a .left .now) (a .i)) (c .before .before .key-of .result) (c .before .before .key-of .ensures)
-    (a .right .now) (a .m) (a .keys .now) (start .pre .7) (a .heads .now) (a .next .now) (start .pre .8) base (wide-rows stride (a .out .now) 0 (a .count)) (ascending-holds base (start .pre .4))
+    (a .right .now) (a .m) (start .pre .6) (a .keys .now) (start .pre .7) (a .heads .now) (a .next .now) (start .pre .8) base (wide-rows stride (a .out .now) 0 (a .count))
+    (ascending-holds base (start .pre .4))
     (getD (a .heads .now) (c .before .slot-of .result) 0) (a .out .now) (a .count) (ap (λ (s : ℕ). getD (a .heads .now) s 0) (c .before .slot-of .ensures)) (start .pre .3)
 
-sub-j : tie.Need-sub-j Inv-loop μ-loop
-sub-j c = omega arith
-
 element-copy-out-at-2 : tie.Need-element-copy-out-at-2 Inv-loop μ-loop
-element-copy-out-at-2 c = omega (arith, c .before .loop .inv .most, c .before .before .before .before .before .before .before .before .before .before .before .pre .6)
+element-copy-out-at-2 c = omega (arith, c .loop-test .taken, c .before .before .before .before .before .before .before .before .before .before .before .pre .6)
 
 cast-at-2 : tie.Need-cast-at-2 Inv-loop μ-loop
 cast-at-2 c =
     let start = c .before .before .before .before .before .before .before .before .before .before .before .before in
     let a = start .args in
+    let base = firstRows (a .out .now) (a .count) in
     let l = c .before .before .loop in
-    let b = link-most (a .keys .now) (a .m) (a .heads .now) (a .next .now) (start .pre .8) (l .at - 1) (omega (arith, l .inv .most, c .before .loop-test .taken)) in
-    omega (arith, b, l .inv .most, start .pre .6)
+    let b = walk-less (a .t5) (start .pre .2) (rowAt stride (a .left .now) (a .i)) (c .before .before .before .before .before .key-of .result) (c .before .before .before .before .before .key-of .ensures)
+    (a .right .now) (a .m) (start .pre .6) (a .keys .now) (start .pre .7) (a .heads .now) (a .next .now) (start .pre .8) base (wide-rows stride (a .out .now) 0 (a .count))
+    (ascending-holds base (start .pre .4))
+    (l .at) (l .out) (l .rows) (c .before .loop-test .taken) (l .inv) in
+    omega (arith, b .1, start .pre .6)
 
 mul-if1 : tie.Need-mul-if1 Inv-loop μ-loop
-mul-if1 c = omega arith
+mul-if1 c = omega (arith, c .before .loop-test .taken, c .before .before .before .before .before .before .before .before .before .before .before .before .pre .6)
 
 element-copy-out-if1 : tie.Need-element-copy-out-if1 Inv-loop μ-loop
-element-copy-out-if1 c = omega (arith, c .before .before .loop .inv .most, c .before .before .before .before .before .before .before .before .before .before .before .before .pre .6)
+element-copy-out-if1 c = omega (arith, c .before .loop-test .taken, c .before .before .before .before .before .before .before .before .before .before .before .before .pre .6)
 
 columns-row-requires : tie.Need-columns-row-requires Inv-loop μ-loop
 columns-row-requires c κs =
     let start = c .before .before .before .before .before .before .before .before .before .before .before .before .before .before .before .before .before in
     let fits = start .pre .2 in
-    let l = c .before .before .before .before .before .before .before .loop in
-    let j = l .at - 1 in
-    (start .pre .0, omega (arith, start .pre .1, l .inv .most, c .before .before .before .before .before .before .loop-test .taken), fits .split, fits .few, fits .columns-long, fits .columns)
+    (start .pre .0, omega (arith, start .pre .1, c .before .before .before .before .before .before .loop-test .taken), fits .split, fits .few, fits .columns-long, fits .columns)
 
 slice-aggregate-put-row : tie.Need-slice-aggregate-put-row Inv-loop μ-loop
 slice-aggregate-put-row c = omega arith
@@ -88,19 +88,18 @@ slice-aggregate-put-row c = omega arith
 put-row-requires : tie.Need-put-row-requires Inv-loop μ-loop
 put-row-requires c κs =
     let start = c .before .before .before .before .before .before .before .before .before .before .before .before .before .before .before .before .before .before .before .before in
-    let l = c .before .before .before .before .before .before .before .before .before .before .loop in
     let a = start .args in
-    let row = rowAt stride (a .left .now) (a .i) in
     let base = firstRows (a .out .now) (a .count) in
-    let e : l .at ≡ l .at - 1 + 1 = omega (arith, c .before .before .before .before .before .before .before .before .before .loop-test .taken) in
-    let r = walk-ready (a .t5) (start .pre .2) row (c .before .before .before .before .before .before .before .before .before .before .before .before .before .key-of .result) (c .before .before .before .before .before .before .before .before .before .before .before .before .before .key-of .ensures)
-    (a .right .now) (a .m) (a .keys .now) (start .pre .7) (a .heads .now) (a .next .now) (start .pre .8) base (wide-rows stride (a .out .now) 0 (a .count)) (ascending-holds base (start .pre .4))
-    (l .at) (l .at - 1) (l .out) (l .rows) e (l .inv) in (
+    let l = c .before .before .before .before .before .before .before .before .before .before .loop in
+    let r = walk-ready (a .t5) (start .pre .2) (rowAt stride (a .left .now) (a .i)) (c .before .before .before .before .before .before .before .before .before .before .before .before .before .key-of .result) (c .before .before .before .before .before .before .before .before .before .before .before .before .before .key-of .ensures)
+    (a .right .now) (a .m) (start .pre .6) (a .keys .now) (start .pre .7) (a .heads .now) (a .next .now) (start .pre .8) base (wide-rows stride (a .out .now) 0 (a .count))
+    (ascending-holds base (start .pre .4))
+    (l .at) (l .out) (l .rows) (c .before .before .before .before .before .before .before .before .before .loop-test .taken) (l .inv) in (
       r .0,
       omega (
         arith,
         ap length (c .before .before .columns-row .ensures),
-        joined-length (a .t5 .split) (take (a .t5 .n) (a .t5 .columns)) row (rowAt stride (a .right .now) (l .at - 1)) (few-given (a .t5) (start .pre .2)),
+        joined-length (a .t5 .split) (take (a .t5 .n) (a .t5 .columns)) (rowAt stride (a .left .now) (a .i)) (rowAt stride (a .right .now) (l .at)) (few-given (a .t5) (start .pre .2)),
       ),
       r .1,
       l .inv .size,
@@ -120,59 +119,61 @@ same-length c =
 returns : tie.Need-returns Inv-loop μ-loop
 returns c =
     let start = c .before .before .before .before .before .before .before .before .before .before .before .before .before .before .before .before .before .before .before .before .before .before .before .before .before in
-    let l = c .before .before .before .before .before .before .before .before .before .before .before .before .before .before .before .loop in
     let a = start .args in
     let base = firstRows (a .out .now) (a .count) in
-    let e : l .at ≡ l .at - 1 + 1 = omega (arith, c .before .before .before .before .before .before .before .before .before .before .before .before .before .before .loop-test .taken) in
+    let l = c .before .before .before .before .before .before .before .before .before .before .before .before .before .before .before .loop in
     walk-exceeds (a .t5) (start .pre .2) (rowAt stride (a .left .now) (a .i)) (c .before .before .before .before .before .before .before .before .before .before .before .before .before .before .before .before .before .before .key-of .result) (c .before .before .before .before .before .before .before .before .before .before .before .before .before .before .before .before .before .before .key-of .ensures)
-    (a .right .now) (a .m) (a .keys .now) (start .pre .7) (a .heads .now) (a .next .now) (start .pre .8) base (wide-rows stride (a .out .now) 0 (a .count)) (ascending-holds base (start .pre .4))
-    (l .at) (l .at - 1) (l .out) (l .rows) e (l .inv) (c .before .before .before .before .before .before .before .before .before .before .before .if1 .taken) (c .before .before .before .before .before .before .before .columns-row .result) (c .before .before .before .before .before .before .before .columns-row .ensures)
+    (a .right .now) (a .m) (start .pre .6) (a .keys .now) (start .pre .7) (a .heads .now) (a .next .now) (start .pre .8) base (wide-rows stride (a .out .now) 0 (a .count))
+    (ascending-holds base (start .pre .4))
+    (l .at) (l .out) (l .rows) (c .before .before .before .before .before .before .before .before .before .before .before .before .before .before .loop-test .taken) (l .inv) (c .before .before .before .before .before .before .before .before .before .before .before .if1 .taken) (c .before .before .before .before .before .before .before .columns-row .result) (c .before .before .before .before .before .before .before .columns-row .ensures)
     (c .before .before .before .before .put-row .last .0) (c .before .before .before .before .put-row .result) (c .before .before .before .before .put-row .ensures) (c .enum-told .given .1)
 
 loop-less : tie.Need-loop-less Inv-loop μ-loop
 loop-less c =
     let start = c .before .before .before .before .before .before .before .before .before .before .before .before .before .before .before .before .before .before .before .before .before .before .before .before .before .before in
-    let l = c .before .before .before .before .before .before .before .before .before .before .before .before .before .before .before .before .loop in
     let a = start .args in
     let base = firstRows (a .out .now) (a .count) in
-    let e : l .at ≡ l .at - 1 + 1 = omega (arith, c .before .before .before .before .before .before .before .before .before .before .before .before .before .before .before .loop-test .taken) in
-    walk-less (a .t5) (start .pre .2) (rowAt stride (a .left .now) (a .i)) (c .before .before .before .before .before .before .before .before .before .before .before .before .before .before .before .before .before .before .before .key-of .result) (c .before .before .before .before .before .before .before .before .before .before .before .before .before .before .before .before .before .before .before .key-of .ensures)
-    (a .right .now) (a .m) (a .keys .now) (start .pre .7) (a .heads .now) (a .next .now) (start .pre .8) base (wide-rows stride (a .out .now) 0 (a .count)) (ascending-holds base (start .pre .4))
-    (l .at) (l .at - 1) (l .out) (l .rows) e (l .inv)
+    let l = c .before .before .before .before .before .before .before .before .before .before .before .before .before .before .before .before .loop in
+    let b = walk-less (a .t5) (start .pre .2) (rowAt stride (a .left .now) (a .i)) (c .before .before .before .before .before .before .before .before .before .before .before .before .before .before .before .before .before .before .before .key-of .result) (c .before .before .before .before .before .before .before .before .before .before .before .before .before .before .before .before .before .before .before .key-of .ensures)
+    (a .right .now) (a .m) (start .pre .6) (a .keys .now) (start .pre .7) (a .heads .now) (a .next .now) (start .pre .8) base (wide-rows stride (a .out .now) 0 (a .count))
+    (ascending-holds base (start .pre .4))
+    (l .at) (l .out) (l .rows) (c .before .before .before .before .before .before .before .before .before .before .before .before .before .before .before .loop-test .taken) (l .inv) in
+    omega (arith, b .0, b .1)
 
 loop-again : tie.Need-loop-again Inv-loop μ-loop
 loop-again c =
     let start = c .before .before .before .before .before .before .before .before .before .before .before .before .before .before .before .before .before .before .before .before .before .before .before .before .before .before in
-    let l = c .before .before .before .before .before .before .before .before .before .before .before .before .before .before .before .before .loop in
     let a = start .args in
     let base = firstRows (a .out .now) (a .count) in
-    let e : l .at ≡ l .at - 1 + 1 = omega (arith, c .before .before .before .before .before .before .before .before .before .before .before .before .before .before .before .loop-test .taken) in
+    let l = c .before .before .before .before .before .before .before .before .before .before .before .before .before .before .before .before .loop in
     walk-puts (a .t5) (start .pre .2) (rowAt stride (a .left .now) (a .i)) (c .before .before .before .before .before .before .before .before .before .before .before .before .before .before .before .before .before .before .before .key-of .result) (c .before .before .before .before .before .before .before .before .before .before .before .before .before .before .before .before .before .before .before .key-of .ensures)
-    (a .right .now) (a .m) (a .keys .now) (start .pre .7) (a .heads .now) (a .next .now) (start .pre .8) base (wide-rows stride (a .out .now) 0 (a .count)) (ascending-holds base (start .pre .4))
-    (l .at) (l .at - 1) (l .out) (l .rows) e (l .inv) (c .before .before .before .before .before .before .before .before .before .before .before .before .if1 .taken) (c .before .before .before .before .before .before .before .before .columns-row .result) (c .before .before .before .before .before .before .before .before .columns-row .ensures)
+    (a .right .now) (a .m) (start .pre .6) (a .keys .now) (start .pre .7) (a .heads .now) (a .next .now) (start .pre .8) base (wide-rows stride (a .out .now) 0 (a .count))
+    (ascending-holds base (start .pre .4))
+    (l .at) (l .out) (l .rows) (c .before .before .before .before .before .before .before .before .before .before .before .before .before .before .before .loop-test .taken) (l .inv) (c .before .before .before .before .before .before .before .before .before .before .before .before .if1 .taken) (c .before .before .before .before .before .before .before .before .columns-row .result) (c .before .before .before .before .before .before .before .before .columns-row .ensures)
     (c .before .before .before .before .before .put-row .last .0) (c .before .before .before .before .before .put-row .result) (c .before .before .before .before .before .put-row .ensures) (c .before .more .given .0 .0) (c .before .more .given .1)
 
 loop-less-2 : tie.Need-loop-less-2 Inv-loop μ-loop
 loop-less-2 c =
     let start = c .before .before .before .before .before .before .before .before .before .before .before .before .before .before in
-    let l = c .before .before .before .before .loop in
     let a = start .args in
     let base = firstRows (a .out .now) (a .count) in
-    let e : l .at ≡ l .at - 1 + 1 = omega (arith, c .before .before .before .loop-test .taken) in
-    walk-less (a .t5) (start .pre .2) (rowAt stride (a .left .now) (a .i)) (c .before .before .before .before .before .before .before .key-of .result) (c .before .before .before .before .before .before .before .key-of .ensures)
-    (a .right .now) (a .m) (a .keys .now) (start .pre .7) (a .heads .now) (a .next .now) (start .pre .8) base (wide-rows stride (a .out .now) 0 (a .count)) (ascending-holds base (start .pre .4))
-    (l .at) (l .at - 1) (l .out) (l .rows) e (l .inv)
+    let l = c .before .before .before .before .loop in
+    let b = walk-less (a .t5) (start .pre .2) (rowAt stride (a .left .now) (a .i)) (c .before .before .before .before .before .before .before .key-of .result) (c .before .before .before .before .before .before .before .key-of .ensures)
+    (a .right .now) (a .m) (start .pre .6) (a .keys .now) (start .pre .7) (a .heads .now) (a .next .now) (start .pre .8) base (wide-rows stride (a .out .now) 0 (a .count))
+    (ascending-holds base (start .pre .4))
+    (l .at) (l .out) (l .rows) (c .before .before .before .loop-test .taken) (l .inv) in
+    omega (arith, b .0, b .1)
 
 loop-again-2 : tie.Need-loop-again-2 Inv-loop μ-loop
 loop-again-2 c =
     let start = c .before .before .before .before .before .before .before .before .before .before .before .before .before .before in
-    let l = c .before .before .before .before .loop in
     let a = start .args in
     let base = firstRows (a .out .now) (a .count) in
-    let e : l .at ≡ l .at - 1 + 1 = omega (arith, c .before .before .before .loop-test .taken) in
+    let l = c .before .before .before .before .loop in
     walk-passes (a .t5) (start .pre .2) (rowAt stride (a .left .now) (a .i)) (c .before .before .before .before .before .before .before .key-of .result) (c .before .before .before .before .before .before .before .key-of .ensures)
-    (a .right .now) (a .m) (a .keys .now) (start .pre .7) (a .heads .now) (a .next .now) (start .pre .8) base (wide-rows stride (a .out .now) 0 (a .count)) (ascending-holds base (start .pre .4))
-    (l .at) (l .at - 1) (l .out) (l .rows) e (l .inv) (c .if1 .left)
+    (a .right .now) (a .m) (start .pre .6) (a .keys .now) (start .pre .7) (a .heads .now) (a .next .now) (start .pre .8) base (wide-rows stride (a .out .now) 0 (a .count))
+    (ascending-holds base (start .pre .4))
+    (l .at) (l .out) (l .rows) (c .before .before .before .loop-test .taken) (l .inv) (c .if1 .left)
 
 same-length-2 : tie.Need-same-length-2 Inv-loop μ-loop
 same-length-2 c = omega (arith, c .before .loop .inv .size, c .before .before .before .before .before .before .before .before .before .before .before .pre .5)
@@ -180,12 +181,13 @@ same-length-2 c = omega (arith, c .before .loop .inv .size, c .before .before .b
 returns-2 : tie.Need-returns-2 Inv-loop μ-loop
 returns-2 c =
     let start = c .before .before .before .before .before .before .before .before .before .before .before in
-    let l = c .before .loop in
     let a = start .args in
     let base = firstRows (a .out .now) (a .count) in
+    let l = c .before .loop in
     walk-ends (a .t5) (start .pre .2) (rowAt stride (a .left .now) (a .i)) (c .before .before .before .before .key-of .result) (c .before .before .before .before .key-of .ensures)
-    (a .right .now) (a .m) (a .keys .now) (start .pre .7) (a .heads .now) (a .next .now) (start .pre .8) base (wide-rows stride (a .out .now) 0 (a .count)) (ascending-holds base (start .pre .4))
-    (l .at) (l .out) (l .rows) (omega arith) (l .inv)
+    (a .right .now) (a .m) (start .pre .6) (a .keys .now) (start .pre .7) (a .heads .now) (a .next .now) (start .pre .8) base (wide-rows stride (a .out .now) 0 (a .count))
+    (ascending-holds base (start .pre .4))
+    (l .at) (l .out) (l .rows) (omega (arith, l .inv .most, c .loop-test .left)) (l .inv)
 
 pub join-row-spec : {M : Type 1} → statement M
 join-row-spec =
@@ -198,7 +200,6 @@ join-row-spec =
     element-copy-out-at
     cast-at
     loop-holds
-    sub-j
     element-copy-out-at-2
     cast-at-2
     mul-if1
