@@ -74,7 +74,8 @@ fn join_all(left: &[u32], n: usize, right: &[u32], m: usize, how: Joining, out: 
     let mut count = 0;
     let mut i = 0;
     while i < n {
-        let Made::Rows(more) = join_row(left, i, right, m, how, &keys, &heads, &next, out, count) else {
+        let Made::Rows(more) = join_row(left, i, right, m, how, &keys, &heads, &next, out, count)
+        else {
             return Made::Over;
         };
         count = more;

@@ -1,7 +1,7 @@
 -- Chains of keys by slots: made key by key, and what they hold. For any test and any function counted. Assumes nothing.
 use mathlib.Core.Path.{_≡_, refl, sym, ap, _∙_}
 use mathlib.Core.Bool.{Bool, true, false, cond, _&&_}
-use mathlib.Core.List.{List, _∷_, map}
+use mathlib.Core.List.{List, map}
 use mathlib.Core.Logic.{⊎-elim}
 use Prim.Native.Nat.{ℕ, zero, suc, _+_, _-_, _≤_, _<_}
 use native.Mathlib.Nat.{eq-or-lt-of-le, le-refl, zero-add}
@@ -115,7 +115,8 @@ module _ (keys : List ℕ) (n : ℕ) where
       Chained keys n i (set heads (slotOf (getD keys i 0)) i) (set next i (getD heads (slotOf (getD keys i 0)) 0))
   chained-more i heads next few h c = record {
     first = ap (λ (l : List ℕ). set l own i) (c .first) ∙ counted-set maxRows (keyIn keys n (i + 1)) (keyIn keys n i) own i (slot-below (getD keys i 0)) here (λ s d. other s d);
-    links = rw (c .links) (counted-set maxRows (keyAfter keys n (i + 1)) (keyAfter keys n i) i (getD heads own 0) (omega arith) after (λ k d. ap (λ (t : Bool). cond (t && ltb k n) (keyIn keys n (k + 1) (slotOf (getD keys k 0))) 0) (apart k d)));
+    links = rw (c .links) (counted-set maxRows (keyAfter keys n (i + 1)) (keyAfter keys n i) i (getD heads own 0) (omega arith) after
+        (λ k d. ap (λ (t : Bool). cond (t && ltb k n) (keyIn keys n (k + 1) (slotOf (getD keys k 0))) 0) (apart k d)));
   }
     where
       own : ℕ

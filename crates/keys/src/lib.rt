@@ -70,7 +70,12 @@ pub fn slot_of(key: u64) -> usize
 }
 
 // The first n keys chained by their slots: the first key of each slot, and of each key the next one there, or n.
-pub fn chain_keys(keys: &[u64; MAX_ROWS], n: usize, heads: &mut [u8; MAX_ROWS], next: &mut [u8; MAX_ROWS])
+pub fn chain_keys(
+    keys: &[u64; MAX_ROWS],
+    n: usize,
+    heads: &mut [u8; MAX_ROWS],
+    next: &mut [u8; MAX_ROWS],
+)
     requires { ⌜ (n ≤ maxRows) × (now heads ≡ replicate maxRows n) × (now next ≡ replicate maxRows 0) ⌝ }
     ensures { λ _. ⌜ Chained (now (keys .entry)) n 0 (now (heads .exit)) (now (next .exit)) ⌝ }
 {

@@ -1,6 +1,6 @@
 -- Masked rows in no order: a row's slot, and rows added or left out one by one. Assumes nothing.
 use mathlib.Core.Path.{_≡_, refl, sym, ap, _∙_}
-use mathlib.Core.Bool.{Bool, true, false, _&&_, _||_, or-true}
+use mathlib.Core.Bool.{Bool, true, _&&_, _||_, or-true}
 use mathlib.Core.List.{List, [], _∷_, _++_, map}
 use Prim.Native.Nat.{ℕ, zero, suc, _+_, _*_, _%_, _≤_, _<_}
 use native.Mathlib.Nat.{le-of-suc-le-suc}
@@ -63,7 +63,8 @@ unfolding rowsFrom
 row-member s j zero (suc n) h = let e : j + 0 ≡ j = omega arith in rw e (ap (λ (t : Bool). t || member (rowAt stride s j) (rowsFrom stride s (suc j) n)) (sameRow-refl (rowAt stride s j)))
 row-member s j (suc i) (suc n) h =
     let e : j + suc i ≡ suc j + i = omega arith in
-    rw e (ap (λ (t : Bool). sameRow (rowAt stride s (suc j + i)) (rowAt stride s j) || t) (row-member s (suc j) i n (le-of-suc-le-suc h)) ∙ or-true (sameRow (rowAt stride s (suc j + i)) (rowAt stride s j)))
+    rw e (ap (λ (t : Bool). sameRow (rowAt stride s (suc j + i)) (rowAt stride s j) || t) (row-member s (suc j) i n (le-of-suc-le-suc h))
+    ∙ or-true (sameRow (rowAt stride s (suc j + i)) (rowAt stride s j)))
 row-member s j i zero h = absurd (omega arith)
 
 -- ---- masked rows

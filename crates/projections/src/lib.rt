@@ -9,8 +9,8 @@ ghost use Rattle.model.specs.Algebra.{projectRows};
 ghost use Rattle.model.specs.Network.{columnsBelow};
 ghost use Rattle.model.specs.Areas.{placeSize, stride};
 ghost use Rattle.rows.specs.Rows.{rowAt, firstRows};
-ghost use Rattle.places.specs.Places.{Place, Blank, relationIn, Stored, Makes};
-ghost use Rattle.projections.specs.Projections.{joinedRow, maskedRows, rowSlot, MaskedSet};
+ghost use Rattle.places.specs.Places.{Place, Blank, relationIn, Makes};
+ghost use Rattle.projections.specs.Projections.{joinedRow, rowSlot, MaskedSet};
 use places::Made;
 use rows::MAX_ROWS;
 use rows::Order;
@@ -47,27 +47,6 @@ pub fn columns_row(
     row
 }
 
-// Some columns of each row followed by zeros, in an empty place: how many rows, or that they are more than 64.
-pub fn mask_rows(input: &[u32], n: usize, columns: &[u16], c: usize, out: &mut [u32]) -> Made
-    requires { ⌜ (n * stride ≤ length (now input)) × (c ≤ maxWidth) × (c ≤ length (now columns))
-        × (columnsBelow (stride + stride) (take c (now columns)) ≡ true) × Blank (now out) ⌝ }
-    ensures { λ r. ⌜ Stored (maskedRows (take c (now (columns .entry))) (firstRows (now (input .entry)) n))
-        (now (out .exit)) r ⌝ }
-{
-    let zeros = [0u32; STRIDE];
-    let mut count = 0;
-    let mut i = 0;
-    while i < n {
-        let row = columns_row(input, i, &zeros, 0, STRIDE, columns, c);
-        let Made::Rows(more) = places::put_row(out, count, &row, 0) else {
-            return Made::Over;
-        };
-        count = more;
-        i += 1;
-    }
-    Made::Rows(count)
-}
-
 // The slot of a row: equal rows are in one slot.
 fn slot_of_row(row: &[u32]) -> usize
     requires { ⌜ length (now row) ≡ stride ⌝ }
@@ -85,7 +64,8 @@ fn slot_of_row(row: &[u32]) -> usize
 // Whether a row is row at of the first n.
 fn stands_at(words: &[u32], n: usize, at: usize, row: &[u32; STRIDE]) -> bool
     requires { ⌜ (n * stride ≤ length (now words)) × (length (now row) ≡ stride) ⌝ }
-    ensures { λ r. ⌜ r ≡ (ltb at n && sameRow (rowAt stride (now (row .entry)) 0) (rowAt stride (now (words .entry)) at)) ⌝ }
+    ensures { λ r. ⌜ r ≡ (ltb at n
+        && sameRow (rowAt stride (now (row .entry)) 0) (rowAt stride (now (words .entry)) at)) ⌝ }
 {
     if n <= at {
         return false;
@@ -129,5 +109,16 @@ pub fn project_rows(input: &[u32], n: usize, columns: &[u16], c: usize, out: &mu
         Makes (projectRows (take c (now (columns .entry))) (relationIn w (now (input .entry)) n))
         (now (out .exit)) r) ⌝ }
 {
-    mask_rows(input, n, columns, c, out)
+    let zeros = [0u32; STRIDE];
+    let mut count = 0;
+    let mut i = 0;
+    while i < n {
+        let row = columns_row(input, i, &zeros, 0, STRIDE, columns, c);
+        let Made::Rows(more) = places::put_row(out, count, &row, 0) else {
+            return Made::Over;
+        };
+        count = more;
+        i += 1;
+    }
+    Made::Rows(count)
 }

@@ -50,13 +50,17 @@ loop-holds c =
 
 join-row-requires : tie.Need-join-row-requires Inv-loop μ-loop
 join-row-requires c κs =
-    let start = c .before .before .before .before .before .before .before .before .before .before .before .before .before .before .before .before .before in
+    let test = c .before .before .before .before in
+    let turn = test .before in
+    let chaining = turn .before in
+    let keying = chaining .before .before .before .before in
+    let start = keying .before .before .before .before .before .before .before in
     let a = start .args in
-    let l = c .before .before .before .before .before .loop in
+    let l = turn .loop in
     let right = firstRows (a .right .now) (a .m) in
     let r = put-ready (joinedWith (a .t5) right) [] (a .left .now) (a .n)
     (λ l e. wide-with (a .t5) (start .pre .2) right l e (wide-rows stride (a .right .now) 0 (a .m))) tt tt (l .i) (l .out) (l .count) (l .inv .2) in
-    (omega arith, start .pre .1, start .pre .2, r .0, r .1, l .inv .1, start .pre .4, c .before .before .before .before .before .before .before .before .before .before .keys-of .ensures, c .before .before .before .before .before .before .chain-keys .ensures)
+    (omega (arith, start .pre .0, test .loop-test .taken), start .pre .1, start .pre .2, r .0, r .1, l .inv .1, start .pre .4, keying .keys-of .ensures, chaining .chain-keys .ensures)
 
 enum-known-more : tie.Need-enum-known-more Inv-loop μ-loop
 enum-known-more c = search needs
@@ -66,20 +70,25 @@ enum-told c = search needs
 
 same-length : tie.Need-same-length Inv-loop μ-loop
 same-length c =
-    let full = rw (c .enum-told .given .1) at (c .before .before .before .before .join-row .ensures) in
-    omega (arith, full .1, ap length (c .before .before .before .before .before .before .before .before .before .before .before .before .before .before .before .before .before .before .before .before .before .before .pre .3))
+    let joining = c .before .before .before .before in
+    let start = joining .before .before .before .before .before .before .before .before .before .before .before .before .before .before .before .before .before .before in
+    let full = rw (c .enum-told .given .1) at (joining .join-row .ensures) in
+    omega (arith, full .1, ap length (start .pre .3))
 
 returns : tie.Need-returns Inv-loop μ-loop
 returns c =
-    let start = c .before .before .before .before .before .before .before .before .before .before .before .before .before .before .before .before .before .before .before .before .before .before in
+    let joining = c .before .before .before .before in
+    let test = joining .before .before .before .before .before in
+    let turn = test .before in
+    let start = turn .before .before .before .before .before .before .before .before .before .before .before .before in
     let a = start .args in
-    let l = c .before .before .before .before .before .before .before .before .before .before .loop in
-    let p = c .before .before .before .before .join-row in
+    let l = turn .loop in
+    let p = joining .join-row in
     let right = firstRows (a .right .now) (a .m) in
     let over = put-exceeds (joinedWith (a .t5) right) [] (a .left .now) (a .n)
     (λ l e. wide-with (a .t5) (start .pre .2) right l e (wide-rows stride (a .right .now) 0 (a .m))) tt tt (l .i) (l .out)
     (p .last .1 .1 .1 .1 .1 .1 .1 .1 .0) (l .count) (p .result) (c .enum-told .given .1)
-    (omega (arith, c .before .before .before .before .before .before .before .before .before .loop-test .taken)) (l .inv .2) (p .ensures) in
+    (omega (arith, test .loop-test .taken)) (l .inv .2) (p .ensures) in
     (rw (← put-all (joinedWith (a .t5) right) (a .left .now) (a .n)) (over .0), over .1)
 
 add-i : tie.Need-add-i Inv-loop μ-loop
@@ -90,22 +99,26 @@ loop-less c = omega arith
 
 loop-again : tie.Need-loop-again Inv-loop μ-loop
 loop-again c =
-    let start = c .before .before .before .before .before .before .before .before .before .before .before .before .before .before .before .before .before .before .before .before .before .before .before in
+    let joining = c .before .before .before .before .before in
+    let test = joining .before .before .before .before .before in
+    let turn = test .before in
+    let start = turn .before .before .before .before .before .before .before .before .before .before .before .before in
     let a = start .args in
-    let l = c .before .before .before .before .before .before .before .before .before .before .before .loop in
-    let p = c .before .before .before .before .before .join-row in
+    let l = turn .loop in
+    let p = joining .join-row in
     let right = firstRows (a .right .now) (a .m) in
     let s = put-stands (joinedWith (a .t5) right) [] (a .left .now) (a .n)
     (λ l e. wide-with (a .t5) (start .pre .2) right l e (wide-rows stride (a .right .now) 0 (a .m))) tt tt (l .i) (l .out)
     (p .last .1 .1 .1 .1 .1 .1 .1 .1 .0) (l .count) (c .before .more .given .0 .0) (p .result) (c .before .more .given .1) (l .inv .2) (p .ensures) in
-    (omega (arith, c .before .before .before .before .before .before .before .before .before .before .loop-test .taken), s .0, s .1)
+    (omega (arith, test .loop-test .taken), s .0, s .1)
 
 same-length-2 : tie.Need-same-length-2 Inv-loop μ-loop
 same-length-2 c = omega (arith, ap length (c .before .before .before .before .before .before .before .before .before .before .before .before .before .pre .3))
 
 returns-2 : tie.Need-returns-2 Inv-loop μ-loop
 returns-2 c =
-    let a = c .before .before .before .before .before .before .before .before .before .before .before .before .before .args in
+    let start = c .before .before .before .before .before .before .before .before .before .before .before .before .before in
+    let a = start .args in
     let e : c .before .loop .i ≡ a .n = omega arith in
     let s = rw e at (c .before .loop .inv .2) in
     rw (← put-all (joinedWith (a .t5) (firstRows (a .right .now) (a .m))) (a .left .now) (a .n)) s

@@ -51,8 +51,9 @@ slice-aggregate-mask-unordered-2 c = search needs
 
 mask-unordered-requires : tie.Need-mask-unordered-requires
 mask-unordered-requires c κs =
-    let start = c .before .before .before .before .before .before .before .before .before .before .before in
-    let q = c .before .before .before .before .before .used-columns in
+    let kept = c .before .before .before .before .before in
+    let start = kept .before .before .before .before .before .before in
+    let q = kept .used-columns in
     let u = uses (start .args .how) (start .pre .2) 1 (start .args .how .split) (start .args .how .split + stride) (omega arith) (omega arith) (q .result) (q .ensures) in
     (start .pre .4, start .pre .1, omega (arith, u .mask .size), rw (take-all stride (q .result) (omega (arith, u .mask .size))) (u .mask .below), refl)
 
@@ -61,10 +62,12 @@ slice-aggregate-join-all c = search needs
 
 join-all-requires-3 : tie.Need-join-all-requires-3
 join-all-requires-3 c κs =
-    let start = c .before .before .before .before .before .before .before .before .before .before .before .before .before .before .before in
+    let masking = c .before .before .before in
+    let kept = masking .before .before .before .before .before .before in
+    let start = kept .before .before .before .before .before .before in
     let a = start .args in
-    let q = c .before .before .before .mask-unordered in
-    let u = c .before .before .before .before .before .before .before .before .before .used-columns in
+    let q = masking .mask-unordered in
+    let u = kept .used-columns in
     let us = uses (a .how) (start .pre .2) 1 (a .how .split) (a .how .split + stride) (omega arith) (omega arith) (u .result) (u .ensures) in (
       start .pre .0,
       masked-long (u .result) (us .mask) (a .right .now) (a .m) (start .pre .4) (q .last .1 .1 .1 .0) (q .result) (q .ensures),
@@ -78,10 +81,12 @@ same-length-3 c = search needs
 
 returns-3 : tie.Need-returns-3
 returns-3 c =
-    let start = c .before .before .before .before .before .before .before .before .before .before .before .before .before .before .before .before .before .before in
+    let masking = c .before .before .before .before .before .before in
+    let kept = masking .before .before .before .before .before .before in
+    let start = kept .before .before .before .before .before .before in
     let a = start .args in
-    let q = c .before .before .before .before .before .before .mask-unordered in
-    let u = c .before .before .before .before .before .before .before .before .before .before .before .before .used-columns in
+    let q = masking .mask-unordered in
+    let u = kept .used-columns in
     let p = c .before .before .join-all3 in
     let us = uses (a .how) (start .pre .2) 1 (a .how .split) (a .how .split + stride) (omega arith) (omega arith) (u .result) (u .ensures) in
     let same = right-masked (a .how) (start .pre .2) (u .result) us (firstRows (a .left .now) (a .n)) (firstRows (a .right .now) (a .m)) (firstRows (q .last .1 .1 .1 .0) (q .result))

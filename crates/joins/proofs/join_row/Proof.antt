@@ -42,7 +42,8 @@ cast-at : tie.Need-cast-at Inv-loop μ-loop
 cast-at c =
     let start = c .before .before .before .before .before .before .before .before .before in
     let a = start .args in
-    let b = head-most (a .keys .now) (a .m) 0 (a .heads .now) (a .next .now) (start .pre .8) (c .before .slot-of .result) (rw (c .before .slot-of .ensures) (slot-below (c .before .before .key-of .result))) (omega arith) in
+    let small = rw (c .before .slot-of .ensures) (slot-below (c .before .before .key-of .result)) in
+    let b = head-most (a .keys .now) (a .m) 0 (a .heads .now) (a .next .now) (start .pre .8) (c .before .slot-of .result) small (omega arith) in
     omega (arith, b, start .pre .6)
 
 loop-holds : tie.Need-loop-holds Inv-loop μ-loop
@@ -60,41 +61,50 @@ element-copy-out-at-2 c = omega (arith, c .loop-test .taken, c .before .before .
 
 cast-at-2 : tie.Need-cast-at-2 Inv-loop μ-loop
 cast-at-2 c =
-    let start = c .before .before .before .before .before .before .before .before .before .before .before .before in
+    let keyed = c .before .before .before .before .before in
+    let start = keyed .before .before .before .before .before .before .before in
     let a = start .args in
     let base = firstRows (a .out .now) (a .count) in
     let l = c .before .before .loop in
-    let b = walk-less (a .t5) (start .pre .2) (rowAt stride (a .left .now) (a .i)) (c .before .before .before .before .before .key-of .result) (c .before .before .before .before .before .key-of .ensures)
+    let b = walk-less (a .t5) (start .pre .2) (rowAt stride (a .left .now) (a .i)) (keyed .key-of .result) (keyed .key-of .ensures)
     (a .right .now) (a .m) (start .pre .6) (a .keys .now) (start .pre .7) (a .heads .now) (a .next .now) (start .pre .8) base (wide-rows stride (a .out .now) 0 (a .count))
     (ascending-holds base (start .pre .4))
     (l .at) (l .out) (l .rows) (c .before .loop-test .taken) (l .inv) in
     omega (arith, b .1, start .pre .6)
 
 mul-if1 : tie.Need-mul-if1 Inv-loop μ-loop
-mul-if1 c = omega (arith, c .before .loop-test .taken, c .before .before .before .before .before .before .before .before .before .before .before .before .pre .6)
+mul-if1 c =
+    let start = c .before .before .before .before .before .before .before .before .before .before .before .before in
+    omega (arith, c .before .loop-test .taken, start .pre .6)
 
 element-copy-out-if1 : tie.Need-element-copy-out-if1 Inv-loop μ-loop
-element-copy-out-if1 c = omega (arith, c .before .loop-test .taken, c .before .before .before .before .before .before .before .before .before .before .before .before .pre .6)
+element-copy-out-if1 c =
+    let start = c .before .before .before .before .before .before .before .before .before .before .before .before in
+    omega (arith, c .before .loop-test .taken, start .pre .6)
 
 columns-row-requires : tie.Need-columns-row-requires Inv-loop μ-loop
 columns-row-requires c κs =
-    let start = c .before .before .before .before .before .before .before .before .before .before .before .before .before .before .before .before .before in
+    let test = c .before .before .before .before .before .before in
+    let start = test .before .before .before .before .before .before .before .before .before .before .before in
     let fits = start .pre .2 in
-    (start .pre .0, omega (arith, start .pre .1, c .before .before .before .before .before .before .loop-test .taken), fits .split, fits .few, fits .columns-long, fits .columns)
+    (omega (arith, start .pre .0, start .pre .1, test .loop-test .taken), omega (arith, start .pre .1, test .loop-test .taken), fits .split, fits .few, fits .columns-long, fits .columns)
 
 slice-aggregate-put-row : tie.Need-slice-aggregate-put-row Inv-loop μ-loop
 slice-aggregate-put-row c = omega arith
 
 put-row-requires : tie.Need-put-row-requires Inv-loop μ-loop
 put-row-requires c κs =
-    let start = c .before .before .before .before .before .before .before .before .before .before .before .before .before .before .before .before .before .before .before .before in
+    let test = c .before .before .before .before .before .before .before .before .before in
+    let turn = test .before in
+    let keyed = turn .before .before .before in
+    let start = keyed .before .before .before .before .before .before .before in
     let a = start .args in
     let base = firstRows (a .out .now) (a .count) in
-    let l = c .before .before .before .before .before .before .before .before .before .before .loop in
-    let r = walk-ready (a .t5) (start .pre .2) (rowAt stride (a .left .now) (a .i)) (c .before .before .before .before .before .before .before .before .before .before .before .before .before .key-of .result) (c .before .before .before .before .before .before .before .before .before .before .before .before .before .key-of .ensures)
+    let l = turn .loop in
+    let r = walk-ready (a .t5) (start .pre .2) (rowAt stride (a .left .now) (a .i)) (keyed .key-of .result) (keyed .key-of .ensures)
     (a .right .now) (a .m) (start .pre .6) (a .keys .now) (start .pre .7) (a .heads .now) (a .next .now) (start .pre .8) base (wide-rows stride (a .out .now) 0 (a .count))
     (ascending-holds base (start .pre .4))
-    (l .at) (l .out) (l .rows) (c .before .before .before .before .before .before .before .before .before .loop-test .taken) (l .inv) in (
+    (l .at) (l .out) (l .rows) (test .loop-test .taken) (l .inv) in (
       r .0,
       omega (
         arith,
@@ -113,78 +123,102 @@ enum-told c = search needs
 
 same-length : tie.Need-same-length Inv-loop μ-loop
 same-length c =
-    let full = rw (c .enum-told .given .1) at (c .before .before .before .before .put-row .ensures) in
-    omega (arith, full .1, c .before .before .before .before .before .before .before .before .before .before .before .before .before .before .before .before .before .before .before .before .before .before .before .before .before .pre .5)
+    let putting = c .before .before .before .before in
+    let start = putting .before .before .before .before .before .before .before .before .before .before .before .before .before .before .before .before .before .before .before .before .before in
+    let full = rw (c .enum-told .given .1) at (putting .put-row .ensures) in
+    omega (arith, full .1, start .pre .5)
 
 returns : tie.Need-returns Inv-loop μ-loop
 returns c =
-    let start = c .before .before .before .before .before .before .before .before .before .before .before .before .before .before .before .before .before .before .before .before .before .before .before .before .before in
+    let putting = c .before .before .before .before in
+    let making = putting .before .before .before in
+    let then = making .before .before .before .before in
+    let test = then .before .before .before in
+    let turn = test .before in
+    let keyed = turn .before .before .before in
+    let start = keyed .before .before .before .before .before .before .before in
     let a = start .args in
     let base = firstRows (a .out .now) (a .count) in
-    let l = c .before .before .before .before .before .before .before .before .before .before .before .before .before .before .before .loop in
-    walk-exceeds (a .t5) (start .pre .2) (rowAt stride (a .left .now) (a .i)) (c .before .before .before .before .before .before .before .before .before .before .before .before .before .before .before .before .before .before .key-of .result) (c .before .before .before .before .before .before .before .before .before .before .before .before .before .before .before .before .before .before .key-of .ensures)
+    let l = turn .loop in
+    walk-exceeds (a .t5) (start .pre .2) (rowAt stride (a .left .now) (a .i)) (keyed .key-of .result) (keyed .key-of .ensures)
     (a .right .now) (a .m) (start .pre .6) (a .keys .now) (start .pre .7) (a .heads .now) (a .next .now) (start .pre .8) base (wide-rows stride (a .out .now) 0 (a .count))
     (ascending-holds base (start .pre .4))
-    (l .at) (l .out) (l .rows) (c .before .before .before .before .before .before .before .before .before .before .before .before .before .before .loop-test .taken) (l .inv) (c .before .before .before .before .before .before .before .before .before .before .before .if1 .taken) (c .before .before .before .before .before .before .before .columns-row .result) (c .before .before .before .before .before .before .before .columns-row .ensures)
-    (c .before .before .before .before .put-row .last .0) (c .before .before .before .before .put-row .result) (c .before .before .before .before .put-row .ensures) (c .enum-told .given .1)
+    (l .at) (l .out) (l .rows) (test .loop-test .taken) (l .inv) (then .if1 .taken) (making .columns-row .result) (making .columns-row .ensures)
+    (putting .put-row .last .0) (putting .put-row .result) (putting .put-row .ensures) (c .enum-told .given .1)
 
 loop-less : tie.Need-loop-less Inv-loop μ-loop
 loop-less c =
-    let start = c .before .before .before .before .before .before .before .before .before .before .before .before .before .before .before .before .before .before .before .before .before .before .before .before .before .before in
+    let test = c .before .before .before .before .before .before .before .before .before .before .before .before .before .before .before in
+    let turn = test .before in
+    let keyed = turn .before .before .before in
+    let start = keyed .before .before .before .before .before .before .before in
     let a = start .args in
     let base = firstRows (a .out .now) (a .count) in
-    let l = c .before .before .before .before .before .before .before .before .before .before .before .before .before .before .before .before .loop in
-    let b = walk-less (a .t5) (start .pre .2) (rowAt stride (a .left .now) (a .i)) (c .before .before .before .before .before .before .before .before .before .before .before .before .before .before .before .before .before .before .before .key-of .result) (c .before .before .before .before .before .before .before .before .before .before .before .before .before .before .before .before .before .before .before .key-of .ensures)
+    let l = turn .loop in
+    let b = walk-less (a .t5) (start .pre .2) (rowAt stride (a .left .now) (a .i)) (keyed .key-of .result) (keyed .key-of .ensures)
     (a .right .now) (a .m) (start .pre .6) (a .keys .now) (start .pre .7) (a .heads .now) (a .next .now) (start .pre .8) base (wide-rows stride (a .out .now) 0 (a .count))
     (ascending-holds base (start .pre .4))
-    (l .at) (l .out) (l .rows) (c .before .before .before .before .before .before .before .before .before .before .before .before .before .before .before .loop-test .taken) (l .inv) in
+    (l .at) (l .out) (l .rows) (test .loop-test .taken) (l .inv) in
     omega (arith, b .0, b .1)
 
 loop-again : tie.Need-loop-again Inv-loop μ-loop
 loop-again c =
-    let start = c .before .before .before .before .before .before .before .before .before .before .before .before .before .before .before .before .before .before .before .before .before .before .before .before .before .before in
+    let putting = c .before .before .before .before .before in
+    let making = putting .before .before .before in
+    let then = making .before .before .before .before in
+    let test = then .before .before .before in
+    let turn = test .before in
+    let keyed = turn .before .before .before in
+    let start = keyed .before .before .before .before .before .before .before in
     let a = start .args in
     let base = firstRows (a .out .now) (a .count) in
-    let l = c .before .before .before .before .before .before .before .before .before .before .before .before .before .before .before .before .loop in
-    walk-puts (a .t5) (start .pre .2) (rowAt stride (a .left .now) (a .i)) (c .before .before .before .before .before .before .before .before .before .before .before .before .before .before .before .before .before .before .before .key-of .result) (c .before .before .before .before .before .before .before .before .before .before .before .before .before .before .before .before .before .before .before .key-of .ensures)
+    let l = turn .loop in
+    walk-puts (a .t5) (start .pre .2) (rowAt stride (a .left .now) (a .i)) (keyed .key-of .result) (keyed .key-of .ensures)
     (a .right .now) (a .m) (start .pre .6) (a .keys .now) (start .pre .7) (a .heads .now) (a .next .now) (start .pre .8) base (wide-rows stride (a .out .now) 0 (a .count))
     (ascending-holds base (start .pre .4))
-    (l .at) (l .out) (l .rows) (c .before .before .before .before .before .before .before .before .before .before .before .before .before .before .before .loop-test .taken) (l .inv) (c .before .before .before .before .before .before .before .before .before .before .before .before .if1 .taken) (c .before .before .before .before .before .before .before .before .columns-row .result) (c .before .before .before .before .before .before .before .before .columns-row .ensures)
-    (c .before .before .before .before .before .put-row .last .0) (c .before .before .before .before .before .put-row .result) (c .before .before .before .before .before .put-row .ensures) (c .before .more .given .0 .0) (c .before .more .given .1)
+    (l .at) (l .out) (l .rows) (test .loop-test .taken) (l .inv) (then .if1 .taken) (making .columns-row .result) (making .columns-row .ensures)
+    (putting .put-row .last .0) (putting .put-row .result) (putting .put-row .ensures) (c .before .more .given .0 .0) (c .before .more .given .1)
 
 loop-less-2 : tie.Need-loop-less-2 Inv-loop μ-loop
 loop-less-2 c =
-    let start = c .before .before .before .before .before .before .before .before .before .before .before .before .before .before in
+    let test = c .before .before .before in
+    let turn = test .before in
+    let keyed = turn .before .before .before in
+    let start = keyed .before .before .before .before .before .before .before in
     let a = start .args in
     let base = firstRows (a .out .now) (a .count) in
-    let l = c .before .before .before .before .loop in
-    let b = walk-less (a .t5) (start .pre .2) (rowAt stride (a .left .now) (a .i)) (c .before .before .before .before .before .before .before .key-of .result) (c .before .before .before .before .before .before .before .key-of .ensures)
+    let l = turn .loop in
+    let b = walk-less (a .t5) (start .pre .2) (rowAt stride (a .left .now) (a .i)) (keyed .key-of .result) (keyed .key-of .ensures)
     (a .right .now) (a .m) (start .pre .6) (a .keys .now) (start .pre .7) (a .heads .now) (a .next .now) (start .pre .8) base (wide-rows stride (a .out .now) 0 (a .count))
     (ascending-holds base (start .pre .4))
-    (l .at) (l .out) (l .rows) (c .before .before .before .loop-test .taken) (l .inv) in
+    (l .at) (l .out) (l .rows) (test .loop-test .taken) (l .inv) in
     omega (arith, b .0, b .1)
 
 loop-again-2 : tie.Need-loop-again-2 Inv-loop μ-loop
 loop-again-2 c =
-    let start = c .before .before .before .before .before .before .before .before .before .before .before .before .before .before in
+    let test = c .before .before .before in
+    let turn = test .before in
+    let keyed = turn .before .before .before in
+    let start = keyed .before .before .before .before .before .before .before in
     let a = start .args in
     let base = firstRows (a .out .now) (a .count) in
-    let l = c .before .before .before .before .loop in
-    walk-passes (a .t5) (start .pre .2) (rowAt stride (a .left .now) (a .i)) (c .before .before .before .before .before .before .before .key-of .result) (c .before .before .before .before .before .before .before .key-of .ensures)
+    let l = turn .loop in
+    walk-passes (a .t5) (start .pre .2) (rowAt stride (a .left .now) (a .i)) (keyed .key-of .result) (keyed .key-of .ensures)
     (a .right .now) (a .m) (start .pre .6) (a .keys .now) (start .pre .7) (a .heads .now) (a .next .now) (start .pre .8) base (wide-rows stride (a .out .now) 0 (a .count))
     (ascending-holds base (start .pre .4))
-    (l .at) (l .out) (l .rows) (c .before .before .before .loop-test .taken) (l .inv) (c .if1 .left)
+    (l .at) (l .out) (l .rows) (test .loop-test .taken) (l .inv) (c .if1 .left)
 
 same-length-2 : tie.Need-same-length-2 Inv-loop μ-loop
 same-length-2 c = omega (arith, c .before .loop .inv .size, c .before .before .before .before .before .before .before .before .before .before .before .pre .5)
 
 returns-2 : tie.Need-returns-2 Inv-loop μ-loop
 returns-2 c =
-    let start = c .before .before .before .before .before .before .before .before .before .before .before in
+    let keyed = c .before .before .before .before in
+    let start = keyed .before .before .before .before .before .before .before in
     let a = start .args in
     let base = firstRows (a .out .now) (a .count) in
     let l = c .before .loop in
-    walk-ends (a .t5) (start .pre .2) (rowAt stride (a .left .now) (a .i)) (c .before .before .before .before .key-of .result) (c .before .before .before .before .key-of .ensures)
+    walk-ends (a .t5) (start .pre .2) (rowAt stride (a .left .now) (a .i)) (keyed .key-of .result) (keyed .key-of .ensures)
     (a .right .now) (a .m) (start .pre .6) (a .keys .now) (start .pre .7) (a .heads .now) (a .next .now) (start .pre .8) base (wide-rows stride (a .out .now) 0 (a .count))
     (ascending-holds base (start .pre .4))
     (l .at) (l .out) (l .rows) (omega (arith, l .inv .most, c .loop-test .left)) (l .inv)

@@ -69,22 +69,27 @@ slice-aggregate-mask-unordered-2 c = search needs
 
 mask-unordered-requires : tie.Need-mask-unordered-requires
 mask-unordered-requires c κs =
-    let start = c .before .before .before .before .before .before .before .before .before .before in
-    let q = c .before .before .before .before .before .used-columns in
+    let kept = c .before .before .before .before .before in
+    let then = kept .before in
+    let start = then .before .before .before .before in
+    let q = kept .used-columns in
     let u = uses (start .args .how) (start .pre .2) 0 0 (start .args .how .split) (omega arith) (omega (arith, start .pre .2 .split)) (q .result) (q .ensures) in
-    (few-left (start .args .m) (start .args .n) (c .before .before .before .before .before .before .if1 .left), start .pre .0, omega (arith, u .mask .size), rw (take-all stride (q .result) (omega (arith, u .mask .size))) (u .mask .below), refl)
+    (few-left (start .args .m) (start .args .n) (then .if1 .left), start .pre .0, omega (arith, u .mask .size), rw (take-all stride (q .result) (omega (arith, u .mask .size))) (u .mask .below), refl)
 
 slice-aggregate-join-masked : tie.Need-slice-aggregate-join-masked
 slice-aggregate-join-masked c = search needs
 
 join-masked-requires-3 : tie.Need-join-masked-requires-3
 join-masked-requires-3 c κs =
-    let start = c .before .before .before .before .before .before .before .before .before .before .before .before .before .before in
+    let masking = c .before .before .before in
+    let kept = masking .before .before .before .before .before .before in
+    let then = kept .before in
+    let start = then .before .before .before .before in
     let a = start .args in
-    let q = c .before .before .before .mask-unordered in
-    let u = c .before .before .before .before .before .before .before .before .before .used-columns in
+    let q = masking .mask-unordered in
+    let u = kept .used-columns in
     let us = uses (a .how) (start .pre .2) 0 0 (a .how .split) (omega arith) (omega (arith, start .pre .2 .split)) (u .result) (u .ensures) in (
-      masked-long (u .result) (us .mask) (a .left .now) (a .n) (few-left (a .m) (a .n) (c .before .before .before .before .before .before .before .before .before .before .if1 .left)) (q .last .1 .1 .1 .0) (q .result) (q .ensures),
+      masked-long (u .result) (us .mask) (a .left .now) (a .n) (few-left (a .m) (a .n) (then .if1 .left)) (q .last .1 .1 .1 .0) (q .result) (q .ensures),
       start .pre .1,
       start .pre .2,
       start .pre .3,
@@ -96,14 +101,17 @@ same-length-3 c = search needs
 
 returns-3 : tie.Need-returns-3
 returns-3 c =
-    let start = c .before .before .before .before .before .before .before .before .before .before .before .before .before .before .before .before .before in
+    let masking = c .before .before .before .before .before .before in
+    let kept = masking .before .before .before .before .before .before in
+    let then = kept .before in
+    let start = then .before .before .before .before in
     let a = start .args in
-    let q = c .before .before .before .before .before .before .mask-unordered in
-    let u = c .before .before .before .before .before .before .before .before .before .before .before .before .used-columns in
+    let q = masking .mask-unordered in
+    let u = kept .used-columns in
     let p = c .before .before .join-masked3 in
     let us = uses (a .how) (start .pre .2) 0 0 (a .how .split) (omega arith) (omega (arith, start .pre .2 .split)) (u .result) (u .ensures) in
     let same = left-masked (a .how) (start .pre .2) (u .result) us (firstRows (a .left .now) (a .n)) (firstRows (a .right .now) (a .m)) (firstRows (q .last .1 .1 .1 .0) (q .result))
-    (masked-rows (u .result) (us .mask) (a .left .now) (a .n) (few-left (a .m) (a .n) (c .before .before .before .before .before .before .before .before .before .before .before .before .before .if1 .left)) (q .last .1 .1 .1 .0) (q .result) (q .ensures)) in
+    (masked-rows (u .result) (us .mask) (a .left .now) (a .n) (few-left (a .m) (a .n) (then .if1 .left)) (q .last .1 .1 .1 .0) (q .result) (q .ensures)) in
     λ w pl pr inside. join-makes (a .how) w (a .left .now) (a .n) (a .right .now) (a .m) pl pr inside (start .pre .2) (p .last .1 .1 .1 .1 .1 .0) (p .result) (rw (← same) (p .ensures))
 
 pub join-rows-spec : {M : Type 1} → statement M

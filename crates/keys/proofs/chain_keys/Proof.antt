@@ -1,7 +1,6 @@
 use mathlib.Core.Path.{_≡_}
 use Prim.Native.Nat.{_+_, _-_, _≤_}
 use native.Mathlib.Omega.{arith}
-use lib.ListN.{getD}
 use Rattle.keys.specs.Chains.{Chained}
 use Rattle.keys.proofs.Chains.{slot-below, chained-none, chained-more}
 use Rattle.keys.proofs.chain_keys.Statement.{statement}
@@ -32,7 +31,7 @@ slot-of-requires : tie.Need-slot-of-requires Inv-loop μ-loop
 slot-of-requires c κs = tt
 
 element-copy-out-next : tie.Need-element-copy-out-next Inv-loop μ-loop
-element-copy-out-next c = rw (c .slot-of .ensures) (slot-below (getD (c .before .before .before .before .args .keys .now) (c .before .before .before .loop .j - 1) 0))
+element-copy-out-next c = rw (c .slot-of .ensures) (slot-below _)
 
 element-write-next : tie.Need-element-write-next Inv-loop μ-loop
 element-write-next c = omega arith
@@ -41,17 +40,19 @@ cast-heads : tie.Need-cast-heads Inv-loop μ-loop
 cast-heads c = omega arith
 
 element-write-heads : tie.Need-element-write-heads Inv-loop μ-loop
-element-write-heads c = rw (c .before .slot-of .ensures) (slot-below (getD (c .before .before .before .before .before .args .keys .now) (c .before .before .before .before .loop .j - 1) 0))
+element-write-heads c = rw (c .before .slot-of .ensures) (slot-below _)
 
 loop-less : tie.Need-loop-less Inv-loop μ-loop
 loop-less c = omega arith
 
 loop-again : tie.Need-loop-again Inv-loop μ-loop
 loop-again c =
-    let a = c .before .before .before .before .before .args in
-    let l = c .before .before .before .before .loop in
+    let turn = c .before .before .before .before in
+    let start = turn .before in
+    let a = start .args in
+    let l = turn .loop in
     let e : l .j ≡ l .j - 1 + 1 = omega arith in
-    (omega arith, rw (c .before .slot-of .ensures) (chained-more (a .keys .now) (a .n) (l .j - 1) (l .heads) (l .next) (c .before .before .before .before .before .pre .0) (omega arith) (rw e at (l .inv .1))))
+    (omega arith, rw (c .before .slot-of .ensures) (chained-more (a .keys .now) (a .n) (l .j - 1) (l .heads) (l .next) (start .pre .0) (omega arith) (rw e at (l .inv .1))))
 
 returns : tie.Need-returns Inv-loop μ-loop
 returns c =

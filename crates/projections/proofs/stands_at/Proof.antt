@@ -1,5 +1,5 @@
 use mathlib.Core.Path.{_≡_, sym, ap, _∙_}
-use mathlib.Core.Bool.{Bool, true, _&&_}
+use mathlib.Core.Bool.{Bool, _&&_}
 use Prim.Native.Nat.{ℕ, _<_}
 use native.Mathlib.Omega.{arith}
 use lib.Dec.{isEq, ltb}
@@ -37,13 +37,19 @@ enum-told-3 : tie.Need-enum-told-3
 enum-told-3 c = search needs
 
 returns-2 : tie.Need-returns-2
-returns-2 c = same-at (c .before .before .before .before .before .before .args .n) (c .before .before .before .before .before .before .args .at) (omega arith) (ap isEq (ap orderOf (sym (c .enum-told .given .1)) ∙ c .before .before .compare-rows .ensures))
+returns-2 c =
+    let start = c .before .before .before .before .before .before in
+    same-at (start .args .n) (start .args .at) (omega arith) (ap isEq (ap orderOf (sym (c .enum-told .given .1)) ∙ c .before .before .compare-rows .ensures))
 
 returns-3 : tie.Need-returns-3
-returns-3 c = same-at (c .before .before .before .before .before .before .args .n) (c .before .before .before .before .before .before .args .at) (omega arith) (ap isEq (ap orderOf (sym (c .enum-told2 .given .1)) ∙ c .before .before .compare-rows .ensures))
+returns-3 c =
+    let start = c .before .before .before .before .before .before in
+    same-at (start .args .n) (start .args .at) (omega arith) (ap isEq (ap orderOf (sym (c .enum-told2 .given .1)) ∙ c .before .before .compare-rows .ensures))
 
 returns-4 : tie.Need-returns-4
-returns-4 c = same-at (c .before .before .before .before .before .before .args .n) (c .before .before .before .before .before .before .args .at) (omega arith) (ap isEq (ap orderOf (sym (c .enum-told3 .given .1)) ∙ c .before .before .compare-rows .ensures))
+returns-4 c =
+    let start = c .before .before .before .before .before .before in
+    same-at (start .args .n) (start .args .at) (omega arith) (ap isEq (ap orderOf (sym (c .enum-told3 .given .1)) ∙ c .before .before .compare-rows .ensures))
 
 pub stands-at-spec : {M : Type 1} → statement M
 stands-at-spec =
