@@ -1,8 +1,9 @@
 use mathlib.Core.Path.{ap}
-use Prim.Native.Nat.{ℕ, _-_}
+use Prim.Native.Nat.{ℕ, _-_, _<_}
 use native.Mathlib.Omega.{arith}
 use lib.ListN.{length, getD, take}
 use borrow.Author.Needs.{needs}
+use Rattle.model.specs.Row.{maxRows}
 use Rattle.model.specs.Areas.{stride}
 use Rattle.laws.proofs.Sets.{ascending-holds}
 use Rattle.rows.specs.Rows.{firstRows, rowAt}
@@ -42,7 +43,7 @@ cast-at : tie.Need-cast-at Inv-loop μ-loop
 cast-at c =
     let start = c .before .before .before .before .before .before .before .before .before in
     let a = start .args in
-    let small = rw (c .before .slot-of .ensures) (slot-below (c .before .before .key-of .result)) in
+    let small : c .before .slot-of .result < maxRows = rw (c .before .slot-of .ensures) (slot-below (c .before .before .key-of .result)) in
     let b = head-most (a .keys .now) (a .m) 0 (a .heads .now) (a .next .now) (start .pre .8) (c .before .slot-of .result) small (omega arith) in
     omega (arith, b, start .pre .6)
 
