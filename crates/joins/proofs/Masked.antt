@@ -9,20 +9,18 @@ use lib.Dec.{eqb, ltb}
 use lib.ListN.{length, getD, take, drop, replicate, length-map}
 use lib.Seq.{take-all, getD-drop}
 use borrow.Author.Tests.{lt-ltb, ltb-true, ltb-false}
-use Rattle.model.specs.Row.{Row, order, member, place, insertRow, setOf, someOf, keepIf, Wide}
+use Rattle.model.specs.Row.{Row, order, member, place, insertRow, setOf, someOf, keepIf, maxRows}
 use Rattle.model.specs.Algebra.{agree}
 use Rattle.model.specs.Areas.{padded, stride}
 use Rattle.laws.proofs.Order.{order-eq}
 use Rattle.laws.proofs.Sets.{asc-setOf, ext, member-setOf}
 use Rattle.laws.proofs.Algebra.{member-append, member-flatMap}
-use Rattle.laws.proofs.Widths.{wide-map, wide-setOf}
 use Rattle.rows.specs.Rows.{firstRows}
 use Rattle.rows.proofs.Padding.{field-padded}
-use Rattle.places.specs.Places.{Stands}
-use Rattle.places.proofs.Puts.{stands-rows, stands-size}
+use Rattle.rows.proofs.Words.{length-rows}
 use Rattle.nodes.specs.Nodes.{pairsOf}
-use Rattle.projections.specs.Projections.{joinedField, maskedRow, maskedRows}
-use Rattle.projections.proofs.Rows.{column-below, joined-length}
+use Rattle.projections.specs.Projections.{joinedField, maskedRow, maskedRows, MaskedSet}
+use Rattle.projections.proofs.Rows.{column-below}
 use Rattle.masks.specs.Masks.{JoinFits}
 use Rattle.masks.specs.declared.Joining.{Joining}
 use Rattle.masks.proofs.Masks.{Mask, Keeps, Uses}
@@ -41,20 +39,25 @@ some-insert p r (x ∷ l) = go (order r x) refl (some-insert p r l)
     go Ordering·gt e ih = rw ih
         (sym (or-assoc (p x) (p r) (someOf p l)) ∙ ap (λ (b : Bool). b || someOf p l) (or-comm (p x) (p r)) ∙ or-assoc (p r) (p x) (someOf p l))
 
-some-set : (p : Row → Bool) (g : Row → Row) → ((r : Row) → p (g r) ≡ p r) → (l : List Row) → someOf p (setOf (map g l)) ≡ someOf p l
-some-set p g e [] = refl
-some-set p g e (r ∷ l) = some-insert p (g r) (setOf (map g l)) ∙ rw (e r, some-set p g e l)
+some-set : (p : Row → Bool) (l : List Row) → someOf p (setOf l) ≡ someOf p l
+some-set p [] = refl
+some-set p (r ∷ l) = some-insert p r (setOf l) ∙ rw (some-set p l)
+
+some-map : (p : Row → Bool) (g : Row → Row) → ((r : Row) → p (g r) ≡ p r) → (l : List Row) → someOf p (map g l) ≡ someOf p l
+some-map p g e [] = refl
+some-map p g e (r ∷ l) = rw (e r, some-map p g e l)
 
 member-each : (x : Row) (f g : Row → List Row) → ((r : Row) → member x (f r) ≡ member x (g r)) → (l : List Row) → member x (flatMap f l) ≡ member x (flatMap g l)
 unfolding flatMap
 member-each x f g e [] = refl
 member-each x f g e (r ∷ l) = member-append x (f r) (flatMap f l) ∙ rw (e r, member-each x f g e l) (sym (member-append x (g r) (flatMap g l)))
 
--- what f makes of rows that g changes, where f makes the same of a row that g changed
+-- what f makes of rows whose set is that of rows that g changes, where f makes the same of a row that g changed
 module _ (f : Row → List Row) (g : Row → Row) (same : (r : Row) → f (g r) ≡ f r) where
-  member-set : (x : Row) (l : List Row) → member x (flatMap f (setOf (map g l))) ≡ member x (flatMap f l)
-  member-set x l =
-      member-flatMap f x (setOf (map g l)) ∙ some-set (λ r. member x (f r)) g (λ r. ap (member x) (same r)) l ∙ sym (member-flatMap f x l)
+  member-set : (x : Row) (k l : List Row) → setOf k ≡ setOf (map g l) → member x (flatMap f k) ≡ member x (flatMap f l)
+  member-set x k l e =
+      let p : Row → Bool = λ r. member x (f r) in
+      member-flatMap f x k ∙ sym (some-set p k) ∙ ap (someOf p) e ∙ some-set p (map g l) ∙ some-map p g (λ r. ap (member x) (same r)) l ∙ sym (member-flatMap f x l)
 
 -- ---- fields that a mask keeps
 
@@ -107,13 +110,12 @@ module _ (how : Joining) (fits : JoinFits how) where
         go c k true e = let z : c - 0 ≡ c = omega arith in field-kept used (u .mask) l c (rw z at (k zero-le (ltb-true c (how .split) e)))
         go c k false e = refl
 
-    pub left-masked : (left right : List Row) → joinedRows how (maskedRows used left) right ≡ joinedRows how left right
-    left-masked left right =
-        ext (joinedRows how (maskedRows used left) right) (joinedRows how left right)
-        (asc-setOf (flatMap (joinedWith how right) (maskedRows used left))) (asc-setOf (flatMap (joinedWith how right) left))
-        (λ x. member-setOf x (flatMap (joinedWith how right) (maskedRows used left))
+    pub left-masked : (left right masked : List Row) → setOf masked ≡ maskedRows used left → joinedRows how masked right ≡ joinedRows how left right
+    left-masked left right masked e =
+        ext (joinedRows how masked right) (joinedRows how left right) (asc-setOf (flatMap (joinedWith how right) masked)) (asc-setOf (flatMap (joinedWith how right) left))
+        (λ x. member-setOf x (flatMap (joinedWith how right) masked)
         ∙ member-set (joinedWith how right) (maskedRow used)
-        (λ l. sym (each-joined how fits (maskedRow used l) right) ∙ ap (λ (f : Row → List Row). flatMap f right) (fun-ext (left-same l)) ∙ each-joined how fits l right) x left
+        (λ l. sym (each-joined how fits (maskedRow used l) right) ∙ ap (λ (f : Row → List Row). flatMap f right) (fun-ext (left-same l)) ∙ each-joined how fits l right) x masked left e
         ∙ sym (member-setOf x (flatMap (joinedWith how right) left)))
 
   -- right rows masked
@@ -129,28 +131,22 @@ module _ (how : Joining) (fits : JoinFits how) where
         go c k true e = refl
         go c k false e = field-kept used (u .mask) r (c - how .split) (k (ltb-false c (how .split) e))
 
-    pub right-masked : (left right : List Row) → joinedRows how left (maskedRows used right) ≡ joinedRows how left right
-    right-masked left right =
-        ext (joinedRows how left (maskedRows used right)) (joinedRows how left right)
-        (asc-setOf (flatMap (joinedWith how (maskedRows used right)) left)) (asc-setOf (flatMap (joinedWith how right) left))
-        (λ x. member-setOf x (flatMap (joinedWith how (maskedRows used right)) left)
-        ∙ member-each x (joinedWith how (maskedRows used right)) (joinedWith how right)
-        (λ l. ap (member x) (sym (each-joined how fits l (maskedRows used right)))
-        ∙ member-set (joinedIf how l) (maskedRow used) (right-same l) x right ∙ ap (member x) (each-joined how fits l right)) left
+    pub right-masked : (left right masked : List Row) → setOf masked ≡ maskedRows used right → joinedRows how left masked ≡ joinedRows how left right
+    right-masked left right masked e =
+        ext (joinedRows how left masked) (joinedRows how left right) (asc-setOf (flatMap (joinedWith how masked) left)) (asc-setOf (flatMap (joinedWith how right) left))
+        (λ x. member-setOf x (flatMap (joinedWith how masked) left)
+        ∙ member-each x (joinedWith how masked) (joinedWith how right)
+        (λ l. ap (member x) (sym (each-joined how fits l masked))
+        ∙ member-set (joinedIf how l) (maskedRow used) (right-same l) x masked right e ∙ ap (member x) (each-joined how fits l right)) left
         ∙ sym (member-setOf x (flatMap (joinedWith how right) left)))
 
--- masked rows that stand in a place, read back
-module _ (used : List ℕ) (m : Mask used) (s : List ℕ) (n : ℕ) (out : List ℕ) (k : ℕ) (st : Stands (maskedRows (take stride used) (firstRows s n)) out k) where
-  whole : take stride used ≡ used
-  whole = take-all stride used (omega (arith, m .size))
-
-  masked-wide : Wide stride (maskedRows (take stride used) (firstRows s n))
-  masked-wide =
-      wide-setOf stride (map (maskedRow (take stride used)) (firstRows s n))
-      (wide-map (maskedRow (take stride used)) stride (firstRows s n) (λ r. joined-length stride (take stride used) r (replicate stride 0) (rw whole (omega (arith, m .size)))))
+-- masked rows in a place, read back
+module _ (used : List ℕ) (m : Mask used) (s : List ℕ) (n : ℕ) (few : n ≤ maxRows) (out : List ℕ) (k : ℕ) (st : MaskedSet (take stride used) (firstRows s n) out k) where
+  pub masked-few : k ≤ maxRows
+  masked-few = omega (arith, st .few, length-rows stride s 0 n)
 
   pub masked-long : k * stride ≤ length out
-  masked-long = omega (arith, stands-size (maskedRows (take stride used) (firstRows s n)) masked-wide out k st, st .few)
+  masked-long = omega (arith, st .size, masked-few)
 
-  pub masked-rows : firstRows out k ≡ maskedRows used (firstRows s n)
-  masked-rows = stands-rows (maskedRows (take stride used) (firstRows s n)) masked-wide out k st ∙ ap (λ (l : List ℕ). maskedRows l (firstRows s n)) whole
+  pub masked-rows : setOf (firstRows out k) ≡ maskedRows used (firstRows s n)
+  masked-rows = st .same ∙ ap (λ (l : List ℕ). maskedRows l (firstRows s n)) (take-all stride used (omega (arith, m .size)))

@@ -76,6 +76,10 @@ insert-swap a b c h =
     ∙ sym (or-assoc (member x a) (member x b) (member x c)) ∙ ap (λ (t : Bool). t || member x c) (or-comm (member x a) (member x b))
     ∙ or-assoc (member x b) (member x a) (member x c) ∙ sym (member-all x b (insertAll a c) ∙ ap (λ (t : Bool). member x b || t) (member-all x a c)))
 
+-- a row behind others, as a set
+pub set-snoc : (l : List Row) (x : Row) → setOf (l ++ (x ∷ [])) ≡ insertRow x (setOf l)
+set-snoc l x = sym (all-union l (x ∷ []) (tt, tt)) ∙ insert-swap l (x ∷ []) [] tt ∙ ap (insertRow x) (all-union l [] tt ∙ ap setOf (append-nil l))
+
 each-snoc : (f : Row → List Row) (l : List Row) (r : Row) → flatMap f (l ++ (r ∷ [])) ≡ flatMap f l ++ f r
 unfolding flatMap
 each-snoc f [] r = append-nil (f r)
@@ -103,7 +107,7 @@ module _ (f : Row → List Row) (b : List Row) (s : List ℕ) (n : ℕ) (wf : (r
   unfolding flatMap rowsFrom
   put-start out count t = t
 
-  put-turn : (i : ℕ) → putUpTo f b s (i + 1) ≡ insertAll (f (rowAt stride s i)) (putUpTo f b s i)
+  pub put-turn : (i : ℕ) → putUpTo f b s (i + 1) ≡ insertAll (f (rowAt stride s i)) (putUpTo f b s i)
   put-turn i =
       let z : 0 + i ≡ i = omega arith in
       let last : firstRows s (i + 1) ≡ firstRows s i ++ (rowAt stride s i ∷ []) = rw z at (rows-snoc stride s 0 i) in

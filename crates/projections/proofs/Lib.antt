@@ -1,2 +1,3 @@
-pub mod Projects
 pub mod Rows
+pub mod Projects
+pub mod Unordered

@@ -1,21 +1,20 @@
-use mathlib.Core.Path.{refl, ap, _∙_}
+use mathlib.Core.Path.{refl}
 use Prim.Native.Nat.{_+_}
 use native.Mathlib.Omega.{arith}
 use lib.Seq.{take-all}
 use Rattle.model.specs.Areas.{stride}
 use Rattle.rows.specs.Rows.{firstRows}
 use Rattle.masks.proofs.Masks.{uses}
-use Rattle.joins.specs.Joins.{joinedRows}
-use Rattle.joins.proofs.Masked.{masked-long, masked-rows, right-masked}
+use Rattle.joins.proofs.Masked.{masked-few, masked-long, masked-rows, right-masked}
 use borrow.Author.Needs.{needs}
 use Rattle.joins.proofs.join_masked.Statement.{statement}
 use Rattle.joins.proofs.join_masked.Tie as tie
 use Rattle.joins.proofs.join_masked.Reads as reads
 use Rattle.joins.proofs.join_masked.Lts as lts
-use Rattle.masks.proofs.leaves_rows.Reads as leaves-rows-reads
 use Rattle.joins.proofs.join_all.Reads as join-all-reads
-use Rattle.projections.proofs.mask_rows.Reads as mask-rows-reads
+use Rattle.masks.proofs.leaves_rows.Reads as leaves-rows-reads
 use Rattle.masks.proofs.used_columns.Reads as used-columns-reads
+use Rattle.projections.proofs.mask_unordered.Reads as mask-unordered-reads
 
 join-all-requires : tie.Need-join-all-requires
 join-all-requires c κs = search needs
@@ -44,65 +43,54 @@ same-length-2 c = search needs
 returns-2 : tie.Need-returns-2
 returns-2 c = search needs
 
-slice-aggregate-mask-rows : tie.Need-slice-aggregate-mask-rows
-slice-aggregate-mask-rows c = search needs
+slice-aggregate-mask-unordered : tie.Need-slice-aggregate-mask-unordered
+slice-aggregate-mask-unordered c = search needs
 
-slice-aggregate-mask-rows-2 : tie.Need-slice-aggregate-mask-rows-2
-slice-aggregate-mask-rows-2 c = search needs
+slice-aggregate-mask-unordered-2 : tie.Need-slice-aggregate-mask-unordered-2
+slice-aggregate-mask-unordered-2 c = search needs
 
-mask-rows-requires : tie.Need-mask-rows-requires
-mask-rows-requires c κs =
-    let start = c .before .before .before .before .before .before .before .before .before .before .before in
-    let a = start .args in
-    let q = c .before .before .before .before .before .used-columns in
-    let u = uses (a .how) (start .pre .2) 1 (a .how .split) (a .how .split + stride) (omega arith) (omega arith) (q .result) (q .ensures) in
-    (start .pre .1, omega arith, omega (arith, u .mask .size), rw (take-all stride (q .result) (omega (arith, u .mask .size))) (u .mask .below), refl)
+mask-unordered-requires : tie.Need-mask-unordered-requires
+mask-unordered-requires c κs =
+    let kept = c .before .before .before .before .before in
+    let start = kept .before .before .before .before .before .before in
+    let q = kept .used-columns in
+    let u = uses (start .args .how) (start .pre .2) 1 (start .args .how .split) (start .args .how .split + stride) (omega arith) (omega arith) (q .result) (q .ensures) in
+    (start .pre .4, start .pre .1, omega (arith, u .mask .size), rw (take-all stride (q .result) (omega (arith, u .mask .size))) (u .mask .below), refl)
 
-enum-known-k : tie.Need-enum-known-k
-enum-known-k c = search needs
-
-enum-told : tie.Need-enum-told
-enum-told c = search needs
+slice-aggregate-join-all : tie.Need-slice-aggregate-join-all
+slice-aggregate-join-all c = search needs
 
 join-all-requires-3 : tie.Need-join-all-requires-3
-join-all-requires-3 c κs = search needs
+join-all-requires-3 c κs =
+    let masking = c .before .before .before in
+    let kept = masking .before .before .before .before .before .before in
+    let start = kept .before .before .before .before .before .before in
+    let a = start .args in
+    let q = masking .mask-unordered in
+    let u = kept .used-columns in
+    let us = uses (a .how) (start .pre .2) 1 (a .how .split) (a .how .split + stride) (omega arith) (omega arith) (u .result) (u .ensures) in (
+      start .pre .0,
+      masked-long (u .result) (us .mask) (a .right .now) (a .m) (start .pre .4) (q .last .1 .1 .1 .0) (q .result) (q .ensures),
+      start .pre .2,
+      start .pre .3,
+      masked-few (u .result) (us .mask) (a .right .now) (a .m) (start .pre .4) (q .last .1 .1 .1 .0) (q .result) (q .ensures),
+    )
 
 same-length-3 : tie.Need-same-length-3
 same-length-3 c = search needs
 
 returns-3 : tie.Need-returns-3
-returns-3 c = search needs
-
-slice-aggregate-join-all : tie.Need-slice-aggregate-join-all
-slice-aggregate-join-all c = search needs
-
-join-all-requires-4 : tie.Need-join-all-requires-4
-join-all-requires-4 c κs =
-    let start = c .before .before .before .before .before .before .before .before .before .before .before .before .before .before .before .before .before .before in
+returns-3 c =
+    let masking = c .before .before .before .before .before .before in
+    let kept = masking .before .before .before .before .before .before in
+    let start = kept .before .before .before .before .before .before in
     let a = start .args in
-    let q = c .before .before .before .before .before .before .mask-rows in
-    let u = c .before .before .before .before .before .before .before .before .before .before .before .before .used-columns in
-    let st = rw (c .before .before .before .k .given .1) at (q .ensures) in
+    let q = masking .mask-unordered in
+    let u = kept .used-columns in
+    let p = c .before .before .join-all3 in
     let us = uses (a .how) (start .pre .2) 1 (a .how .split) (a .how .split + stride) (omega arith) (omega arith) (u .result) (u .ensures) in
-    (start .pre .0, masked-long (u .result) (us .mask) (a .right .now) (a .m) (q .last .1 .1 .1 .1 .0) (c .before .before .before .k .given .0 .0) st, start .pre .2, start .pre .3, st .few)
-
-same-length-4 : tie.Need-same-length-4
-same-length-4 c = search needs
-
-returns-4 : tie.Need-returns-4
-returns-4 c =
-    let start = c .before .before .before .before .before .before .before .before .before .before .before .before .before .before .before .before .before .before .before .before .before in
-    let a = start .args in
-    let q = c .before .before .before .before .before .before .before .before .before .mask-rows in
-    let u = c .before .before .before .before .before .before .before .before .before .before .before .before .before .before .before .used-columns in
-    let k = c .before .before .before .before .before .before .k .given in
-    let p = c .before .before .join-all4 in
-    let left = firstRows (a .left .now) (a .n) in
-    let right = firstRows (a .right .now) (a .m) in
-    let st = rw (k .1) at (q .ensures) in
-    let us = uses (a .how) (start .pre .2) 1 (a .how .split) (a .how .split + stride) (omega arith) (omega arith) (u .result) (u .ensures) in
-    let same = ap (joinedRows (a .how) left) (masked-rows (u .result) (us .mask) (a .right .now) (a .m) (q .last .1 .1 .1 .1 .0) (k .0 .0) st)
-    ∙ right-masked (a .how) (start .pre .2) (u .result) us left right in
+    let same = right-masked (a .how) (start .pre .2) (u .result) us (firstRows (a .left .now) (a .n)) (firstRows (a .right .now) (a .m)) (firstRows (q .last .1 .1 .1 .0) (q .result))
+    (masked-rows (u .result) (us .mask) (a .right .now) (a .m) (start .pre .4) (q .last .1 .1 .1 .0) (q .result) (q .ensures)) in
     rw (← same) (p .ensures)
 
 pub join-masked-spec : {M : Type 1} → statement M
@@ -118,15 +106,10 @@ join-masked-spec =
     join-all-requires-2
     same-length-2
     returns-2
-    slice-aggregate-mask-rows
-    slice-aggregate-mask-rows-2
-    mask-rows-requires
-    enum-known-k
-    enum-told
+    slice-aggregate-mask-unordered
+    slice-aggregate-mask-unordered-2
+    mask-unordered-requires
+    slice-aggregate-join-all
     join-all-requires-3
     same-length-3
-    returns-3
-    slice-aggregate-join-all
-    join-all-requires-4
-    same-length-4
-    returns-4)
+    returns-3)
