@@ -16,9 +16,9 @@ pub fn read_areas(net: &[u8], rows: &[u32], gained: &[u32], lost: &[u32], head: 
     if verdict.number != 0 {
         return reading;
     }
-    let network = reading.network;
-    let count = network.count;
-    if !areas::good_form(&network.widths, count, rows, gained, lost, head) {
+    let count = reading.network.count;
+    let widths = reading.network.widths;
+    if !areas::good_form(&widths, count, rows, gained, lost, head) {
         return network::refused_reading(8, 0);
     }
     reading

@@ -22,6 +22,5 @@ pub fn apply(
     if verdict.number != 0 {
         return verdict;
     }
-    let network = reading.network;
-    batch::apply_batch(network, batch, rows, gained, lost, head)
+    batch::apply_batch(reading.network, batch, rows, gained, lost, head)
 }

@@ -49,9 +49,10 @@ fn advance(
     let Propagated::All = done else {
         return propagation::verdict_of(done);
     };
+    let levels = net.levels;
     transition::write_state(
         net.count,
-        &net.levels,
+        &levels,
         &work,
         &counts,
         &changed,
@@ -83,7 +84,9 @@ pub fn apply_batch(
     if head[0] == LAST {
         return verdicts::refused(9, 0);
     }
-    let read = events::read_batch(net.count, &net.widths, &net.levels, bytes);
+    let widths = net.widths;
+    let levels = net.levels;
+    let read = events::read_batch(net.count, &widths, &levels, bytes);
     if read.number != 0 {
         return read;
     }

@@ -28,7 +28,6 @@ pub fn check(net: &[u8], rows: &[u32], gained: &[u32], lost: &[u32], head: &[u32
             yes: false,
         };
     }
-    let network = reading.network;
-    let yes = coherence::is_coherent(network, rows, head);
+    let yes = coherence::is_coherent(reading.network, rows, head);
     CheckAnswer { number, place, yes }
 }

@@ -99,6 +99,5 @@ pub fn report(
             size: 0,
         };
     }
-    let network = reading.network;
-    report_node(network, node, gained, lost, head, out)
+    report_node(reading.network, node, gained, lost, head, out)
 }

@@ -38,9 +38,12 @@ returns-2 c =
     admits-unread (a .net .now) (lent (a .rows .now) (a .gained .now) (a .lost .now) (a .head .now)) (read .read-network .result)
     (read .read-network .ensures) (long .long-enough .result) (long .long-enough .ensures) (read .before .if1 .left) (c .if2 .taken)
 
+slice-aggregate-good-form : tie.Need-slice-aggregate-good-form
+slice-aggregate-good-form c = omega (arith, c .before .before .before .before .before .read-network .ensures .built .widths-length)
+
 good-form-requires : tie.Need-good-form-requires
 good-form-requires c κs =
-    let read = c .before .before .before .before .before .before .before in
+    let read = c .before .before .before .before .before in
     let long = read .before .before in
     let b = read .read-network .ensures .built in (
       omega (arith, b .sound .few, b .widths-length),
@@ -54,26 +57,26 @@ refused-reading-requires-2 c κs = search needs
 returns-3 : tie.Need-returns-3
 returns-3 c =
     let good = c .before .before in
-    let read = good .before .before .before .before .before .before .before .before in
+    let read = good .before .before .before .before .before .before in
     let long = read .before .before in
     let a = long .before .before .before .before .before .before .args in
     let n = read .read-network .result .network in
     admits-bad (a .net .now) (lent (a .rows .now) (a .gained .now) (a .lost .now) (a .head .now)) (read .read-network .result)
     (read .read-network .ensures) (long .long-enough .result) (long .long-enough .ensures) (read .before .if1 .left)
-    (good .before .before .before .before .before .if2 .left) (good .good-form .result)
+    (good .before .before .before .if2 .left) (good .good-form .result)
     (good .good-form .ensures (nodesOf n) (read .read-network .ensures .built .sound .widths))
     (c .refused-reading2 .result) (c .before .if3 .taken) (c .refused-reading2 .ensures .0) (c .refused-reading2 .ensures .1)
 
 returns-4 : tie.Need-returns-4
 returns-4 c =
     let good = c .before in
-    let read = good .before .before .before .before .before .before .before .before in
+    let read = good .before .before .before .before .before .before in
     let long = read .before .before in
     let a = long .before .before .before .before .before .before .args in
     let n = read .read-network .result .network in
     admits-good (a .net .now) (lent (a .rows .now) (a .gained .now) (a .lost .now) (a .head .now)) (read .read-network .result)
     (read .read-network .ensures) (long .long-enough .result) (long .long-enough .ensures) (read .before .if1 .left)
-    (good .before .before .before .before .before .if2 .left) (good .good-form .result)
+    (good .before .before .before .if2 .left) (good .good-form .result)
     (good .good-form .ensures (nodesOf n) (read .read-network .ensures .built .sound .widths)) (c .if3 .left)
 
 pub read-areas-spec : {M : Type 1} → statement M
@@ -85,6 +88,7 @@ read-areas-spec =
     returns
     read-network-requires
     returns-2
+    slice-aggregate-good-form
     good-form-requires
     refused-reading-requires-2
     returns-3

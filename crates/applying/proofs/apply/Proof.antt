@@ -32,7 +32,7 @@ returns c =
 
 apply-batch-requires : tie.Need-apply-batch-requires
 apply-batch-requires c κs =
-    let passed = c .before .before .before .before .before in
+    let passed = c .before .before .before .before in
     let read = passed .before .before .before in
     let a = read .before .before .before .before .before .before .before .before .before .before .before .args in
     applicable (a .net .now) (a .rows .now) (a .gained .now) (a .lost .now) (a .head .now) (read .read-areas .result) (read .read-areas .ensures) (a .batch .now) (passed .if1 .left)
@@ -52,7 +52,7 @@ same-length-8 c = search needs
 returns-2 : tie.Need-returns-2
 returns-2 c =
     let done = c .before .before .before .before .before .before .before .before in
-    let passed = done .before .before .before .before .before .before in
+    let passed = done .before .before .before .before .before in
     let read = passed .before .before .before in
     let a = read .before .before .before .before .before .before .before .before .before .before .before .args in
     let last = done .apply-batch .last .1 .1 in

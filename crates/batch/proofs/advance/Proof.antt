@@ -23,7 +23,7 @@ named-nodes-requires : tie.Need-named-nodes-requires
 named-nodes-requires c κs =
     let s = c .before .before .before .before .before in
     let a = s .args in
-    names (a .t1) (a .bytes .now) (a .rows .now) (a .gained .now) (a .lost .now) (a .head .now) (s .pre .0) (s .pre .1)
+    names (a .net) (a .bytes .now) (a .rows .now) (a .gained .now) (a .lost .now) (a .head .now) (s .pre .0) (s .pre .1)
 
 slice-aggregate-propagate : tie.Need-slice-aggregate-propagate
 slice-aggregate-propagate c = search needs
@@ -47,14 +47,13 @@ propagate-requires : tie.Need-propagate-requires
 propagate-requires c κs =
     let s = c .before .before .before .before .before .before .before .before .before .before .before .before .before .before in
     let a = s .args in (
-      ready (a .t1) (a .bytes .now) (a .rows .now) (a .gained .now) (a .lost .now) (a .head .now) (s .pre .0) (s .pre .1),
+      ready (a .net) (a .bytes .now) (a .rows .now) (a .gained .now) (a .lost .now) (a .head .now) (s .pre .0) (s .pre .1),
       record {
         work-is = refl;
         counts-are = refl;
         changed-is = refl;
         due-are = c .before .before .before .before .before .before .before .before .named-nodes .ensures;
-        picks-long =
-            length-replicate {A = ℕ} (maxNodes * picksSize) 0;
+        picks-long = length-replicate {A = ℕ} (maxNodes * picksSize) 0;
         sizes-are = refl;
       },
     )
@@ -76,12 +75,11 @@ same-length-2 c = search needs
 
 returns : tie.Need-returns
 returns c =
-    let s = c .before .before .before .before .before .before .before .before .before .before .before .before .before .before .before .before .before .before .before .before .before .before
-    .before .before in
+    let s = c .before .before .before .before .before .before .before .before .before .before .before .before .before .before .before .before .before .before .before .before .before .before .before .before in
     let a = s .args in
     let p = c .before .before .before .before .before .before .before .before .before .propagate in
     let t = c .before .enum-told2 .given in
-    over-refused (a .t1) (a .bytes .now) (a .rows .now) (a .gained .now) (a .lost .now) (a .head .now) (s .pre .0) (s .pre .1) (verdictOf (c .verdict-of .result)) (t .0 .0)
+    over-refused (a .net) (a .bytes .now) (a .rows .now) (a .gained .now) (a .lost .now) (a .head .now) (s .pre .0) (s .pre .1) (verdictOf (c .verdict-of .result)) (t .0 .0)
     (c .verdict-of .ensures ∙ ap verdictBy (t .1)) (c .verdict-of .ensures ∙ p .ensures .verdict)
 
 slice-aggregate-write-state : tie.Need-slice-aggregate-write-state
@@ -102,25 +100,22 @@ slice-aggregate-write-state-5 c = search needs
 slice-aggregate-write-state-6 : tie.Need-slice-aggregate-write-state-6
 slice-aggregate-write-state-6 c = search needs
 
+slice-aggregate-write-state-7 : tie.Need-slice-aggregate-write-state-7
+slice-aggregate-write-state-7 c = search needs
+
 write-state-requires : tie.Need-write-state-requires
 write-state-requires c κs =
-    let s = c .before .before .before .before .before .before .before .before .before .before .before .before .before .before .before .before .before .before .before .before .before .before
-    .before .before .before .before .before .before .before .before .before .before .before .before .before .before in
+    let s = c .before .before .before .before .before .before .before .before .before .before .before .before .before .before .before .before .before .before .before .before .before .before .before .before .before .before .before .before .before .before .before .before .before .before .before in
     let a = s .args in
-    let p = c .before .before .before .before .before .before .before .before .before .before .before .before .before .before .before .before .before .before .before .before .before .propagate in
-    let all = ap verdictBy (c .before .before .before .before .before .before .before .before .before .before .before .before .before .enum-told .given .1) in (
+    let p = c .before .before .before .before .before .before .before .before .before .before .before .before .before .before .before .before .before .before .before .before .propagate in
+    let all = ap verdictBy (c .before .before .before .before .before .before .before .before .before .before .before .before .enum-told .given .1) in (
       record {
-        net = a .t1;
-        out = worked-out (a .t1) (a .bytes .now) (a .rows .now) (a .gained .now) (a .lost .now) (a .head .now) (s .pre .0) (s .pre .1)
-            (p .last .1 .1 .1 .1 .0) (p .last .1 .1 .1 .1 .1 .0) (p .last .1 .1 .1 .1 .1 .1 .0) (p .last .1 .1 .1 .1 .1 .1 .1 .1 .0) (p .last .1 .1 .1 .1 .1 .1 .1 .1 .1 .0) (p .ensures
-            .worked all);
+        net = a .net;
+        out = worked-out (a .net) (a .bytes .now) (a .rows .now) (a .gained .now) (a .lost .now) (a .head .now) (s .pre .0) (s .pre .1)
+            (p .last .1 .1 .1 .1 .0) (p .last .1 .1 .1 .1 .1 .0) (p .last .1 .1 .1 .1 .1 .1 .0) (p .last .1 .1 .1 .1 .1 .1 .1 .1 .0) (p .last .1 .1 .1 .1 .1 .1 .1 .1 .1 .0) (p .ensures .worked all);
         fit = s .pre .0 .checkable .fit;
         marked = p .ensures .marked all;
-        marks-long = omega (
-          arith,
-          length-marks (a .bytes .now) _ (c .before .before .before .before .before .before .before .before .before .before .before .before .before .before .before
-              .before .before .before .before .before .before .before .before .before .before .before .before .before .before .before .named-nodes .ensures),
-        );
+        marks-long = omega (arith, length-marks (a .bytes .now) _ (c .before .before .before .before .before .before .before .before .before .before .before .before .before .before .before .before .before .before .before .before .before .before .before .before .before .before .before .before .before .named-nodes .ensures));
         count-is = refl;
         levels-are = refl;
       },
@@ -144,40 +139,30 @@ same-length-6 c = search needs
 
 returns-2 : tie.Need-returns-2
 returns-2 c =
-    let s = c .before .before .before .before .before .before .before .before .before .before .before .before .before .before .before .before .before .before .before .before .before .before
-    .before .before .before .before .before .before .before .before .before .before .before .before .before .before .before .before .before .before .before .before .before .before
-    .before .before in
+    let s = c .before .before .before .before .before .before .before .before .before .before .before .before .before .before .before .before .before .before .before .before .before .before .before .before .before .before .before .before .before .before .before .before .before .before .before .before .before .before .before .before .before .before .before .before .before in
     let a = s .args in
-    let p = c .before .before .before .before .before .before .before .before .before .before .before .before .before .before .before .before .before .before .before .before .before .before
-    .before .before .before .before .before .before .before .before .before .propagate in
+    let p = c .before .before .before .before .before .before .before .before .before .before .before .before .before .before .before .before .before .before .before .before .before .before .before .before .before .before .before .before .before .before .propagate in
     let w = c .before .before .before .before .before .before .before .before .before .write-state in
-    let t = c .before .before .before .before .before .before .before .before .before .before .before .before .before .before .before .before .before .before .before .before .before .before
-    .before .enum-told .given in
+    let t = c .before .before .before .before .before .before .before .before .before .before .before .before .before .before .before .before .before .before .before .before .before .before .enum-told .given in
     let all = ap verdictBy (t .1) in
-    let out = worked-out (a .t1) (a .bytes .now) (a .rows .now) (a .gained .now) (a .lost .now) (a .head .now) (s .pre .0) (s .pre .1)
+    let out = worked-out (a .net) (a .bytes .now) (a .rows .now) (a .gained .now) (a .lost .now) (a .head .now) (s .pre .0) (s .pre .1)
     (p .last .1 .1 .1 .1 .0) (p .last .1 .1 .1 .1 .1 .0) (p .last .1 .1 .1 .1 .1 .1 .0) (p .last .1 .1 .1 .1 .1 .1 .1 .1 .0) (p .last .1 .1 .1 .1 .1 .1 .1 .1 .1 .0) (p .ensures .worked all) in
+    let long = length-marks (a .bytes .now) _ (c .before .before .before .before .before .before .before .before .before .before .before .before .before .before .before .before .before .before .before .before .before .before .before .before .before .before .before .before .before .before .before .before .before .before .before .before .before .before .before .named-nodes .ensures) in
     let after = lent (w .last .1 .1 .1 .1 .1 .1 .1 .1 .0) (w .last .1 .1 .1 .1 .1 .1 .1 .1 .1 .0) (w .last .1 .1 .1 .1 .1 .1 .1 .1 .1 .1 .0) (w .last .1 .1 .1 .1 .1 .1 .1 .1 .1 .1 .1 .0) in
-    accepted-kept (a .t1) (a .bytes .now) (a .rows .now) (a .gained .now) (a .lost .now) (a .head .now) (s .pre .0) (s .pre .1)
+    accepted-kept (a .net) (a .bytes .now) (a .rows .now) (a .gained .now) (a .lost .now) (a .head .now) (s .pre .0) (s .pre .1)
     (p .last .1 .1 .1 .1 .0) (p .last .1 .1 .1 .1 .1 .0) (p .last .1 .1 .1 .1 .1 .1 .0) (p .last .1 .1 .1 .1 .1 .1 .1 .1 .0) (p .last .1 .1 .1 .1 .1 .1 .1 .1 .1 .0) (p .ensures .worked all)
     (verdictOf (c .verdict-of2 .result)) after (c .verdict-of2 .ensures ∙ all)
-    (w .ensures (record {
-      net = a .t1;
+    (w .ensures
+    (record {
+      net = a .net;
       out = out;
       fit = s .pre .0 .checkable .fit;
       marked = p .ensures .marked all;
-      marks-long = omega (
-        arith,
-        length-marks (a .bytes .now) _ (c .before
-            .before .before .before .before .before .before .before .before .before .before .before .before .before .before .before .before .before .before .before .before .before .before
-            .before .before .before .before .before .before .before .before .before .before .before .before .before .before .before .before .before .named-nodes .ensures),
-        c .before .before
-            .before .before .before .before .before .before .before .before .before .before .before .before .before .before .before .before .before .before .before .before .before
-            .before .before .before .before .due2 .given,
-      );
+      marks-long = omega (arith, long, c .before .before .before .before .before .before .before .before .before .before .before .before .before .before .before .before .before .before .before .before .before .before .before .before .before .before .due2 .given);
       count-is = refl;
       levels-are = refl;
     })
-    (tablesAfter (a .t1) (a .rows .now) (a .head .now) (a .bytes .now)))
+    (tablesAfter (a .net) (a .rows .now) (a .head .now) (a .bytes .now)))
 
 pub advance-spec : {M : Type 1} → statement M
 advance-spec =
@@ -203,6 +188,7 @@ advance-spec =
     slice-aggregate-write-state-4
     slice-aggregate-write-state-5
     slice-aggregate-write-state-6
+    slice-aggregate-write-state-7
     write-state-requires
     verdict-of-requires-2
     same-length-3

@@ -1,3 +1,4 @@
+use native.Mathlib.Omega.{arith}
 use mathlib.Core.Path.{refl, ap, sym, _∙_}
 use borrow.Author.Tests.{ne-eqb, eq-eqb}
 use Rattle.model.specs.Record.{isAccepted}
@@ -22,29 +23,34 @@ returns : tie.Need-returns
 returns c =
     let s = c .before .before .before .before .before .before .before .before in
     let a = s .args in
-    rw (c .refused .ensures) (last-refused (a .t1) (a .bytes .now) (a .rows .now) (a .gained .now) (a .lost .now) (a .head .now) (s .pre) (c .before .if1 .taken))
+    rw (c .refused .ensures) (last-refused (a .net) (a .bytes .now) (a .rows .now) (a .gained .now) (a .lost .now) (a .head .now) (s .pre) (c .before .if1 .taken))
+
+slice-aggregate-read-batch : tie.Need-slice-aggregate-read-batch
+slice-aggregate-read-batch c = search needs
+
+slice-aggregate-read-batch-2 : tie.Need-slice-aggregate-read-batch-2
+slice-aggregate-read-batch-2 c = search needs
 
 read-batch-requires : tie.Need-read-batch-requires
 read-batch-requires c κs = search needs
 
 returns-2 : tie.Need-returns-2
 returns-2 c =
-    let s = c .before .before .before .before .before .before .before .before .before .before .before .before .before .before .before in
+    let s = c .before .before .before .before .before .before .before .before .before .before .before .before .before .before in
     let a = s .args in
     let r = c .before .before .read-batch in
-    read-refused (a .t1) (a .bytes .now) (a .rows .now) (a .gained .now) (a .lost .now) (a .head .now) (s .pre) (c .before .before .before .before .before .before .before .before .if1
-    .left) (verdictOf (r .result))
-    (r .ensures (record { net = a .t1; built = s .pre .checkable .built; count-is = refl; widths-are = refl; levels-are = refl })) (ne-eqb (r .result .number) 0 (c .if2 .taken))
+    read-refused (a .net) (a .bytes .now) (a .rows .now) (a .gained .now) (a .lost .now) (a .head .now) (s .pre) (c .before .before .before .before .before .before .before .if1 .left) (verdictOf (r .result))
+    (r .ensures (record { net = a .net; built = s .pre .checkable .built; count-is = refl; widths-are = refl; levels-are = refl })) (ne-eqb (r .result .number) 0 (c .if2 .taken))
 
 advance-requires : tie.Need-advance-requires
 advance-requires c κs =
-    let s = c .before .before .before .before .before .before .before .before .before .before .before .before .before .before .before .before .before .before .before in
+    let s = c .before .before .before .before .before .before .before .before .before .before .before .before .before .before .before .before .before .before in
     let a = s .args in
     let r = c .before .before .before .before .before .before .read-batch in (
       s .pre,
       record {
-        number = c .before .before .before .before .before .before .before .before .before .before .before .before .if1 .left;
-        accepts = ap isAccepted (sym (r .ensures (record { net = a .t1; built = s .pre .checkable .built; count-is = refl; widths-are = refl; levels-are = refl })))
+        number = c .before .before .before .before .before .before .before .before .before .before .before .if1 .left;
+        accepts = ap isAccepted (sym (r .ensures (record { net = a .net; built = s .pre .checkable .built; count-is = refl; widths-are = refl; levels-are = refl })))
             ∙ eq-eqb (r .result .number) 0 (c .before .before .before .before .if2 .left);
       },
     )
@@ -71,6 +77,8 @@ apply-batch-spec =
     slice-read-if1
     refused-requires
     returns
+    slice-aggregate-read-batch
+    slice-aggregate-read-batch-2
     read-batch-requires
     returns-2
     advance-requires

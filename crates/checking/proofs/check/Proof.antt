@@ -19,14 +19,14 @@ returns c =
 
 is-coherent-requires : tie.Need-is-coherent-requires
 is-coherent-requires c κs =
-    let passed = c .before in
+    let passed = c in
     let read = passed .before .before in
     let a = read .before .before .before .before .before .before .args in
     checkable (a .net .now) (a .rows .now) (a .gained .now) (a .lost .now) (a .head .now) (read .read-areas .result) (read .read-areas .ensures) (passed .if1 .left)
 
 returns-2 : tie.Need-returns-2
 returns-2 c =
-    let passed = c .before .before in
+    let passed = c .before in
     let read = passed .before .before in
     let a = read .before .before .before .before .before .before .args in
     check-answered (a .net .now) (a .rows .now) (a .gained .now) (a .lost .now) (a .head .now) (read .read-areas .result) (read .read-areas .ensures) (passed .if1 .left)

@@ -19,7 +19,7 @@ returns c =
 
 report-node-requires : tie.Need-report-node-requires
 report-node-requires c κs =
-    let passed = c .before .before in
+    let passed = c .before in
     let read = passed .before .before in
     let a = read .before .before .before .before .before .before .before .args in (
       read .read-areas .ensures .built,
@@ -31,7 +31,7 @@ same-length c = search needs
 
 returns-2 : tie.Need-returns-2
 returns-2 c =
-    let passed = c .before .before .before .before .before in
+    let passed = c .before .before .before .before in
     let read = passed .before .before in
     let a = read .before .before .before .before .before .before .before .args in
     report-known (a .net .now) (a .node) (a .rows .now) (a .gained .now) (a .lost .now) (a .head .now) (a .out .now)
