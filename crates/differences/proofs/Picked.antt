@@ -15,9 +15,9 @@ use Rattle.laws.proofs.Parts.{map-append}
 use Rattle.laws.proofs.Sets.{Ascending, ascending-holds}
 use Rattle.rows.specs.Rows.{rowAt, rowsFrom, firstRows}
 use Rattle.rows.proofs.Words.{paste-sets, rows-cons, rows-none}
-use Rattle.sets.specs.Sets.{orderFirst, keptBy}
-use Rattle.sets.proofs.Merge.{Gives, first-above, gives-then, kept-passed, kept-passes}
-use Rattle.sets.proofs.Sets.{first-left}
+use Rattle.merges.specs.Merges.{orderFirst, keptBy}
+use Rattle.merges.proofs.Merge.{Gives, first-above, gives-then, kept-passed, kept-passes}
+use Rattle.merges.proofs.Merged.{first-left}
 use Rattle.areas.proofs.Pasted.{pasted-before, pasted-here}
 use Rattle.states.proofs.Worked.{Below, below-append, below-at, length-numbers}
 use Rattle.differences.specs.Differences.{chosen, picksSize, Compares, Told}

@@ -15,7 +15,7 @@ use Rattle.rows.specs.Rows.{rowAt, firstRows}
 use Rattle.rows.proofs.Place.{length-map-padded}
 use Rattle.places.specs.Places.{Place, relationIn}
 use Rattle.places.proofs.Places.{place-ascending, place-few}
-use Rattle.sets.proofs.Sets.{difference-is}
+use Rattle.merges.proofs.Merged.{difference-is}
 use Rattle.states.proofs.Changes.{changed-is, no-change as self-change}
 use Rattle.differences.specs.declared.Sizes.{Sizes}
 use Rattle.differences.specs.Differences.{chosen, Compares, Told, Within}

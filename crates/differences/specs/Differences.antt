@@ -7,7 +7,7 @@ use lib.ListN.{length, getD, take, drop}
 use Rattle.model.specs.Row.{Row, maxRows}
 use Rattle.model.specs.Areas.{stride}
 use Rattle.rows.specs.Rows.{rowAt, firstRows}
-use Rattle.sets.specs.Sets.{keptBy}
+use Rattle.merges.specs.Merges.{keptBy}
 use Rattle.differences.specs.declared.Sizes.{Sizes}
 
 -- how many numbers of rows two places can have that came or went: 128

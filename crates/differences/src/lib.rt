@@ -46,7 +46,7 @@ pub fn compare_places(old: &[u32], m: usize, new: &[u32], n: usize, picks: &mut 
     let mut i = 0;
     let mut j = 0;
     while j < n {
-        match sets::compare_first(new, j, old, m, i) {
+        match merges::compare_first(new, j, old, m, i) {
             Order::Less => {
                 picks[gained] = j as u8;
                 gained += 1;

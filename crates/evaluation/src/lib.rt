@@ -41,7 +41,7 @@ fn set_rows(
     let n = l.count;
     let m = r.count;
     match operation {
-        SetOperation::Union => sets::union_rows(left, n, right, m, out),
+        SetOperation::Union => unions::union_rows(left, n, right, m, out),
         SetOperation::Difference => Made::Rows(sets::difference_rows(left, n, right, m, out)),
         SetOperation::Intersection => Made::Rows(sets::intersect_rows(left, n, right, m, out)),
     }

@@ -2,14 +2,14 @@ use Prim.Native.Nat.{_<_, _-_, _+_, Ordering·gt}
 use native.Mathlib.Omega.{arith}
 use borrow.Author.Needs.{needs}
 use Rattle.laws.proofs.Order.{lt≢gt}
-use Rattle.sets.proofs.Sets.{told}
+use Rattle.merges.proofs.Merged.{told}
 use Rattle.differences.proofs.Picked.{Comparing, comparing-end, comparing-equal, comparing-greater, comparing-less, comparing-start, old-left}
 use Rattle.differences.proofs.compare_places.Statement.{statement}
 use Rattle.differences.proofs.compare_places.Tie as tie
 use Rattle.differences.proofs.compare_places.Reads as reads
 use Rattle.differences.proofs.compare_places.Lts as lts
 use Rattle.differences.proofs.put_numbers.Reads as put-numbers-reads
-use Rattle.sets.proofs.compare_first.Reads as compare-first-reads
+use Rattle.merges.proofs.compare_first.Reads as compare-first-reads
 
 abbrev Inv-loop : tie.InvT-loop
 Inv-loop old m new n picks₀ gained₀ lost₀ i₀ j₀ picks gained lost i j = Comparing old m new n i j picks gained lost

@@ -1,11 +1,11 @@
 use borrow.Author.Needs.{needs}
 use borrow.Author.Tests.{not-false, not-true}
-use Rattle.sets.proofs.Sets.{appended-none, appended-one}
+use Rattle.merges.proofs.Merged.{appended-none, appended-one}
 use Rattle.sets.proofs.append_wanted.Statement.{statement}
 use Rattle.sets.proofs.append_wanted.Tie as tie
 use Rattle.sets.proofs.append_wanted.Reads as reads
 use Rattle.sets.proofs.append_wanted.Lts as lts
-use Rattle.sets.proofs.append_rows.Reads as append-rows-reads
+use Rattle.merges.proofs.append_rows.Reads as append-rows-reads
 
 returns : tie.Need-returns
 returns c =

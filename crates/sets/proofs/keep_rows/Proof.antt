@@ -10,14 +10,15 @@ use Rattle.model.specs.Row.{keepIf}
 use Rattle.laws.proofs.Order.{lt≢eq, lt≢gt}
 use Rattle.laws.proofs.Sets.{ascending-holds}
 use Rattle.rows.specs.Rows.{rowAt, firstRows}
-use Rattle.sets.specs.Sets.{keptBy}
-use Rattle.sets.proofs.Merge.{kept-passes}
-use Rattle.sets.proofs.Sets.{Merged, appended-none, first-left, kept-all, merged-equal, merged-greater, merged-less, merged-start, one-more, stands-long, told}
+use Rattle.merges.specs.Merges.{keptBy}
+use Rattle.merges.proofs.Merge.{kept-passes}
+use Rattle.merges.proofs.Merged.{Merged, appended-none, first-left, merged-equal, merged-greater, merged-less, merged-start, stands-long, told}
+use Rattle.sets.proofs.Sets.{kept-all, one-more}
 use Rattle.sets.proofs.keep_rows.Statement.{statement}
 use Rattle.sets.proofs.keep_rows.Tie as tie
 use Rattle.sets.proofs.keep_rows.Reads as reads
 use Rattle.sets.proofs.keep_rows.Lts as lts
-use Rattle.sets.proofs.compare_first.Reads as compare-first-reads
+use Rattle.merges.proofs.compare_first.Reads as compare-first-reads
 use Rattle.sets.proofs.append_wanted.Reads as append-wanted-reads
 
 abbrev Inv-loop : tie.InvT-loop

@@ -7,30 +7,14 @@ use Rattle.model.specs.Areas.{stride}
 use Rattle.laws.proofs.Order.{lt≢eq, lt≢gt}
 use Rattle.laws.proofs.Sets.{ascending-holds}
 use Rattle.rows.specs.Rows.{rowAt, firstRows}
-use Rattle.sets.proofs.Merge.{alone, union, union-passes}
-use Rattle.sets.proofs.Sets.{
-  Merged,
-  appended-one,
-  first-left,
-  left-ascends,
-  merged-equal,
-  merged-greater,
-  merged-less,
-  merged-start,
-  stands-long,
-  told,
-  union-all,
-  union-exceeds,
-  union-fills,
-  union-over,
-  union-rest-over,
-}
-use Rattle.sets.proofs.union_rows.Statement.{statement}
-use Rattle.sets.proofs.union_rows.Tie as tie
-use Rattle.sets.proofs.union_rows.Reads as reads
-use Rattle.sets.proofs.union_rows.Lts as lts
-use Rattle.sets.proofs.append_rows.Reads as append-rows-reads
-use Rattle.sets.proofs.compare_first.Reads as compare-first-reads
+use Rattle.merges.proofs.Merged.{Merged, appended-one, first-left, merged-equal, merged-greater, merged-less, merged-start, stands-long, told}
+use Rattle.unions.proofs.Unions.{alone, left-ascends, union, union-all, union-exceeds, union-fills, union-over, union-passes, union-rest-over}
+use Rattle.unions.proofs.union_rows.Statement.{statement}
+use Rattle.unions.proofs.union_rows.Tie as tie
+use Rattle.unions.proofs.union_rows.Reads as reads
+use Rattle.unions.proofs.union_rows.Lts as lts
+use Rattle.merges.proofs.append_rows.Reads as append-rows-reads
+use Rattle.merges.proofs.compare_first.Reads as compare-first-reads
 
 abbrev Inv-loop : tie.InvT-loop
 Inv-loop left n right m out₀ count₀ i₀ j₀ out count i j = (i ≤ n) × (j ≤ m) × Merged union left n right m i j out count

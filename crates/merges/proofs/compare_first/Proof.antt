@@ -4,11 +4,11 @@ use borrow.Author.Needs.{needs}
 use Rattle.model.specs.Areas.{stride}
 use Rattle.rows.specs.Rows.{rowAt}
 use Rattle.rows.proofs.Words.{rows-cons, rows-none}
-use Rattle.sets.specs.Sets.{orderFirst}
-use Rattle.sets.proofs.compare_first.Statement.{statement}
-use Rattle.sets.proofs.compare_first.Tie as tie
-use Rattle.sets.proofs.compare_first.Reads as reads
-use Rattle.sets.proofs.compare_first.Lts as lts
+use Rattle.merges.specs.Merges.{orderFirst}
+use Rattle.merges.proofs.compare_first.Statement.{statement}
+use Rattle.merges.proofs.compare_first.Tie as tie
+use Rattle.merges.proofs.compare_first.Reads as reads
+use Rattle.merges.proofs.compare_first.Lts as lts
 use Rattle.rows.proofs.compare_rows.Reads as compare-rows-reads
 
 compare-rows-requires : tie.Need-compare-rows-requires

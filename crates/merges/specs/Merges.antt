@@ -1,4 +1,4 @@
--- Set operations by one pass over two ascending lists: what the functions of this crate leave.
+-- One pass over two ascending lists: what the functions of this crate and of those above it leave.
 use mathlib.Core.Path.{_≡_}
 use mathlib.Core.Bool.{Bool, Bool·beq}
 use mathlib.Core.List.{List, [], _∷_, _++_}

@@ -1,10 +1,10 @@
 use native.Mathlib.Omega.{arith}
 use borrow.Author.Needs.{needs}
-use Rattle.sets.proofs.Sets.{appended, stands-long}
-use Rattle.sets.proofs.append_rows.Statement.{statement}
-use Rattle.sets.proofs.append_rows.Tie as tie
-use Rattle.sets.proofs.append_rows.Reads as reads
-use Rattle.sets.proofs.append_rows.Lts as lts
+use Rattle.merges.proofs.Merged.{appended, stands-long}
+use Rattle.merges.proofs.append_rows.Statement.{statement}
+use Rattle.merges.proofs.append_rows.Tie as tie
+use Rattle.merges.proofs.append_rows.Reads as reads
+use Rattle.merges.proofs.append_rows.Lts as lts
 use Rattle.words.proofs.copy_run.Reads as copy-run-reads
 
 mul-copy-run : tie.Need-mul-copy-run
