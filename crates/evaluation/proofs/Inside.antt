@@ -17,7 +17,7 @@ use Rattle.masks.specs.declared.Joining.{Joining}
 use Rattle.model.specs.Network.{columnsBelow, operandBelow, pairsBelow, fitsOn, maxPairs}
 use Rattle.model.specs.Algebra.{Pair}
 use Rattle.laws.proofs.Sets.{and-both, and-first, and-second}
-use Rattle.projections.proofs.Rows.{columns-more}
+use Rattle.columns.proofs.Rows.{columns-more}
 use Rattle.nodes.specs.Nodes.{operandOf, pairsOf}
 use Rattle.model.specs.Row.{maxWidth}
 use Rattle.model.specs.Areas.{placeOf, stride}

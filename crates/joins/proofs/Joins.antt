@@ -21,8 +21,8 @@ use Rattle.places.specs.Places.{relationIn, Place, Stored, Makes, insertAll}
 use Rattle.places.specs.declared.Made.{Made}
 use Rattle.places.proofs.Places.{place-rows, place-wide}
 use Rattle.places.proofs.Puts.{putUpTo, made-is, made-wide, model-makes}
-use Rattle.projections.specs.Projections.{joinedField, joinedRow}
-use Rattle.projections.proofs.Rows.{columns-same, few-columns, joined-length}
+use Rattle.columns.specs.Columns.{joinedField, joinedRow}
+use Rattle.columns.proofs.Rows.{columns-same, few-columns, joined-length}
 use Rattle.masks.specs.Masks.{JoinFits}
 use Rattle.masks.specs.declared.Joining.{Joining}
 use Rattle.joins.specs.Joins.{JoinsIn, joinedWith, joinedRows}

@@ -19,8 +19,9 @@ use Rattle.rows.specs.Rows.{firstRows}
 use Rattle.rows.proofs.Padding.{field-padded}
 use Rattle.rows.proofs.Words.{length-rows}
 use Rattle.nodes.specs.Nodes.{pairsOf}
-use Rattle.projections.specs.Projections.{joinedField, maskedRow, maskedRows, MaskedSet}
-use Rattle.projections.proofs.Rows.{column-below}
+use Rattle.columns.specs.Columns.{joinedField, maskedRow, maskedRows}
+use Rattle.masked_rows.specs.MaskedRows.{MaskedSet}
+use Rattle.columns.proofs.Rows.{column-below}
 use Rattle.masks.specs.Masks.{JoinFits}
 use Rattle.masks.specs.declared.Joining.{Joining}
 use Rattle.masks.proofs.Masks.{Mask, Keeps, Uses}

@@ -15,8 +15,8 @@ use Rattle.places.specs.Places.{Stands, Stored, insertAll}
 use Rattle.places.specs.declared.Made.{Made}
 use Rattle.places.specs.declared.Made.the-variants.{Rows, Over}
 use Rattle.places.proofs.Puts.{put-exceeds, put-none, put-ready, put-size, put-stands, put-start, put-turn, putUpTo}
-use Rattle.projections.specs.Projections.{joinedRow}
-use Rattle.projections.proofs.Rows.{joined-length, row-made}
+use Rattle.columns.specs.Columns.{joinedRow}
+use Rattle.columns.proofs.Rows.{joined-length, row-made}
 use Rattle.masks.specs.Masks.{JoinFits}
 use Rattle.masks.specs.declared.Joining.{Joining}
 use Rattle.keys.specs.Keys.{sideColumns, Keyed, KeyedRows}

@@ -9,7 +9,7 @@ use Rattle.model.specs.Algebra.{agree}
 use Rattle.model.specs.Network.{columnsBelow, pairsBelow}
 use Rattle.nodes.specs.Nodes.{pairsOf}
 use Rattle.masks.specs.declared.Joining.{Joining}
-use Rattle.projections.specs.Projections.{joinedRow}
+use Rattle.columns.specs.Columns.{joinedRow}
 
 -- a left row with each right row that agrees
 abbrev pub joinedWith : Joining → List Row → Row → List Row

@@ -50,7 +50,7 @@ fn join_row(
         let j = at;
         at = next[j] as usize;
         if keys[j] == key {
-            let row = projections::columns_row(left, i, right, j, how.split, &how.columns, how.n);
+            let row = columns::columns_row(left, i, right, j, how.split, &how.columns, how.n);
             let Made::Rows(more) = places::put_row(out, rows, &row, 0) else {
                 return Made::Over;
             };
@@ -106,7 +106,7 @@ fn join_masked(
         return join_all(left, n, right, m, how, out);
     }
     let mut masked = [0u32; MAX_ROWS * STRIDE];
-    let k = projections::mask_unordered(right, m, &used, &mut masked);
+    let k = masked_rows::mask_unordered(right, m, &used, &mut masked);
     join_all(left, n, &masked, k, how, out)
 }
 
@@ -134,6 +134,6 @@ pub fn join_rows(
         return join_masked(left, n, right, m, how, out);
     }
     let mut masked = [0u32; MAX_ROWS * STRIDE];
-    let k = projections::mask_unordered(left, n, &used, &mut masked);
+    let k = masked_rows::mask_unordered(left, n, &used, &mut masked);
     join_masked(&masked, k, right, m, how, out)
 }

@@ -15,8 +15,8 @@ use Rattle.places.specs.Places.{relationIn, Place, Stored, Makes}
 use Rattle.places.specs.declared.Made.{Made}
 use Rattle.places.proofs.Puts.{putUpTo, put-all, made-is, made-wide, model-makes}
 use Rattle.rows.specs.Rows.{firstRows}
-use Rattle.projections.specs.Projections.{joinedField, maskedRow, maskedRows}
-use Rattle.projections.proofs.Rows.{columns-same, joined-length}
+use Rattle.columns.specs.Columns.{joinedField, maskedRow, maskedRows}
+use Rattle.columns.proofs.Rows.{columns-same, joined-length}
 
 -- the row that a projection makes of a row
 abbrev pub projected : List ℕ → Row → List Row

@@ -2,7 +2,7 @@ use native.Mathlib.Omega.{arith}
 use lib.ListN.{take}
 use borrow.Author.Needs.{needs}
 use Rattle.evaluation.proofs.evaluate.Statement.{statement}
-use Rattle.projections.proofs.Rows.{columns-more}
+use Rattle.columns.proofs.Rows.{columns-more}
 use Rattle.model.specs.Network.{evaluateOn, evaluateSet}
 use Rattle.evaluation.proofs.Inside.{fills-none, join-fits, join-inside, operand-narrow, project-inside, select-inside, set-inside}
 use Rattle.model.specs.Algebra.{joinRows, projectRows}

@@ -14,7 +14,7 @@ use Rattle.joins.proofs.join_masked.Lts as lts
 use Rattle.joins.proofs.join_all.Reads as join-all-reads
 use Rattle.masks.proofs.leaves_rows.Reads as leaves-rows-reads
 use Rattle.masks.proofs.used_columns.Reads as used-columns-reads
-use Rattle.projections.proofs.mask_unordered.Reads as mask-unordered-reads
+use Rattle.masked_rows.proofs.mask_unordered.Reads as mask-unordered-reads
 
 join-all-requires : tie.Need-join-all-requires
 join-all-requires c κs = search needs

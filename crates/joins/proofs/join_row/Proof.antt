@@ -8,7 +8,7 @@ use Rattle.model.specs.Areas.{stride}
 use Rattle.laws.proofs.Sets.{ascending-holds}
 use Rattle.rows.specs.Rows.{firstRows, rowAt}
 use Rattle.rows.proofs.Words.{wide-rows}
-use Rattle.projections.proofs.Rows.{joined-length}
+use Rattle.columns.proofs.Rows.{joined-length}
 use Rattle.keys.proofs.Chains.{slot-below, head-most}
 use Rattle.joins.proofs.Joins.{few-given}
 use Rattle.joins.proofs.Walk.{Walked, walk-ends, walk-exceeds, walk-less, walk-passes, walk-puts, walk-ready, walk-starts}
@@ -19,7 +19,7 @@ use Rattle.joins.proofs.join_row.Lts as lts
 use Rattle.keys.proofs.key_of.Reads as key-of-reads
 use Rattle.keys.proofs.slot_of.Reads as slot-of-reads
 use Rattle.places.proofs.put_row.Reads as put-row-reads
-use Rattle.projections.proofs.columns_row.Reads as columns-row-reads
+use Rattle.columns.proofs.columns_row.Reads as columns-row-reads
 
 abbrev Inv-loop : tie.InvT-loop
 Inv-loop left i right m keys heads next out₀ count how key rows₀ slot at₀ out rows at = Walked how (rowAt stride left i) key right m keys (firstRows out₀ count) at out rows

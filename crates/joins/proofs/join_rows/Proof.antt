@@ -19,7 +19,7 @@ use Rattle.joins.proofs.join_rows.Lts as lts
 use Rattle.joins.proofs.join_masked.Reads as join-masked-reads
 use Rattle.masks.proofs.leaves_rows.Reads as leaves-rows-reads
 use Rattle.masks.proofs.used_columns.Reads as used-columns-reads
-use Rattle.projections.proofs.mask_unordered.Reads as mask-unordered-reads
+use Rattle.masked_rows.proofs.mask_unordered.Reads as mask-unordered-reads
 
 -- the left rows are few where the first test fails
 few-left : (m n : ℕ) → (leb m 1 || ltb maxRows n) ≡ false → n ≤ maxRows

@@ -7,8 +7,7 @@ use borrow.Author.Needs.{needs}
 use Rattle.projections.proofs.project_rows.Statement.{statement}
 use Rattle.places.specs.Places.{Stands}
 use Rattle.places.specs.declared.Made.the-variants.{Over, Rows}
-use Rattle.projections.proofs.Rows.{columns-more, few-columns, joined-length}
-use Rattle.projections.proofs.Unordered.{masked-made}
+use Rattle.columns.proofs.Rows.{columns-more, few-columns, joined-length, masked-made}
 use Rattle.places.proofs.Puts.{put-exceeds, put-ready, put-stands, put-start, putUpTo, stands-none}
 use Rattle.projections.proofs.Projects.{project-all, project-makes, projected, wide-projected}
 use Rattle.model.specs.Areas.{placeSize, stride}
@@ -16,7 +15,7 @@ use Rattle.rows.specs.Rows.{rowAt}
 use Rattle.projections.proofs.project_rows.Tie as tie
 use Rattle.projections.proofs.project_rows.Reads as reads
 use Rattle.projections.proofs.project_rows.Lts as lts
-use Rattle.projections.proofs.columns_row.Reads as columns-row-reads
+use Rattle.columns.proofs.columns_row.Reads as columns-row-reads
 use Rattle.places.proofs.put_row.Reads as put-row-reads
 
 abbrev Inv-loop : tie.InvT-loop

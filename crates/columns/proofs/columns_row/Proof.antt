@@ -2,14 +2,14 @@ use mathlib.Core.Path.{refl, ap, sym, _∙_, _≡_}
 use Prim.Native.Nat.{ℕ, _+_, _*_, _-_, _≤_, zero-le}
 use native.Mathlib.Omega.{arith}
 use lib.ListN.{length, length-set, getD, replicate}
-use Rattle.projections.proofs.Rows.{both-field, column-below, filled, row-filled, row-started}
-use Rattle.projections.specs.Projections.{joinedField}
+use Rattle.columns.proofs.Rows.{both-field, column-below, filled, row-filled, row-started}
+use Rattle.columns.specs.Columns.{joinedField}
 use Rattle.rows.specs.Rows.{rowAt}
 use Rattle.model.specs.Areas.{stride}
-use Rattle.projections.proofs.columns_row.Statement.{statement}
-use Rattle.projections.proofs.columns_row.Tie as tie
-use Rattle.projections.proofs.columns_row.Reads as reads
-use Rattle.projections.proofs.columns_row.Lts as lts
+use Rattle.columns.proofs.columns_row.Statement.{statement}
+use Rattle.columns.proofs.columns_row.Tie as tie
+use Rattle.columns.proofs.columns_row.Reads as reads
+use Rattle.columns.proofs.columns_row.Lts as lts
 use Rattle.words.proofs.copy_run.Reads as copy-run-reads
 
 abbrev Inv-loop : tie.InvT-loop

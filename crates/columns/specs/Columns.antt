@@ -1,13 +1,11 @@
 -- Rows made of columns of rows: what projection makes of the rows of places, and join of two rows.
-use mathlib.Core.Path.{_≡_}
 use mathlib.Core.Bool.{cond}
-use mathlib.Core.List.{List, [], _∷_, map}
-use Prim.Native.Nat.{ℕ, _+_, _-_, _*_, _%_, _≤_}
+use mathlib.Core.List.{List, map}
+use Prim.Native.Nat.{ℕ, _-_}
 use lib.Dec.{ltb}
-use lib.ListN.{getD, length, replicate}
-use Rattle.model.specs.Row.{Row, setOf, maxRows}
-use Rattle.model.specs.Areas.{padded, placeSize, stride}
-use Rattle.rows.specs.Rows.{firstRows}
+use lib.ListN.{getD, replicate}
+use Rattle.model.specs.Row.{Row, setOf}
+use Rattle.model.specs.Areas.{padded, stride}
 
 -- a column of a left row of that many fields followed by a right row, each in words
 abbrev pub joinedField : ℕ → Row → Row → ℕ → ℕ
@@ -24,18 +22,3 @@ maskedRow columns r = joinedRow stride columns r (replicate stride 0)
 -- the same of rows, as a set
 abbrev pub maskedRows : List ℕ → List Row → List Row
 maskedRows columns rows = setOf (map (maskedRow columns) rows)
-
--- the slot of some fields more behind those with a slot
-abbrev pub slotFrom : ℕ → Row → ℕ
-slotFrom slot [] = slot
-slotFrom slot (x ∷ r) = slotFrom ((slot * 9 + x) % maxRows) r
-
--- the slot of a row
-unfoldable pub rowSlot : Row → ℕ
-rowSlot r = slotFrom 0 r
-
--- the first rows of a place are some masked rows, in any order and any number of times
-pub record MaskedSet (columns : List ℕ) (rows : List Row) (out : List ℕ) (n : ℕ) : Type 0 where
-  pub few : n ≤ length rows
-  pub size : length out ≡ placeSize
-  pub same : setOf (firstRows out n) ≡ maskedRows columns rows

@@ -8,7 +8,7 @@ use native.Mathlib.Numerals.{add-one}
 use native.Mathlib.Omega.{arith}
 use lib.Dec.{ltb}
 use lib.ListN.{length, length-append, length-drop, length-map, getD, List·getD-append, set, take, drop, replicate}
-use lib.Seq.{length-take-le, length-paste, take-all, take-suc, paste, getD-take, getD-drop, getD-append-add}
+use lib.Seq.{length-take-le, length-paste, take-all, take-suc, paste, getD-take, getD-append-add}
 use borrow.Author.Tests.{lt-ltb, ltb-true, ltb-false}
 use Rattle.laws.proofs.Sets.{and-first, and-second, and-both}
 use Rattle.model.specs.Areas.{padded, stride}
@@ -18,8 +18,7 @@ use Rattle.rows.proofs.Padding.{padded-more}
 use Rattle.rows.proofs.Place.{length-padded}
 use Rattle.rows.proofs.Words.{fields-part}
 use Rattle.rows.specs.Rows.{rowAt}
-use Rattle.places.proofs.Places.{row-cell}
-use Rattle.projections.specs.Projections.{joinedField, joinedRow}
+use Rattle.columns.specs.Columns.{joinedField, joinedRow, maskedRow}
 
 -- ---- a row filled column by column
 
@@ -78,6 +77,18 @@ row-itself r e = fields-part stride r 0 (omega (arith, e)) ∙ take-all stride r
 pub row-made : (row r : Row) → row ≡ r → length r ≡ stride → rowAt stride row 0 ≡ r
 row-made row r e h = ap (λ (x : Row). rowAt stride x 0) e ∙ row-itself r h
 
+-- ---- a masked row
+
+-- the row that columns_row gives for a mask, and as the first of its own
+pub masked-is : (columns : List ℕ) (r row : Row) → row ≡ joinedRow stride columns r (rowAt stride (replicate stride 0) 0) → row ≡ maskedRow columns r
+masked-is columns r row e = e ∙ ap (joinedRow stride columns r) (row-made (replicate stride 0) (replicate stride 0) refl refl)
+
+pub masked-made : (columns : List ℕ) (r row : Row) → length columns ≤ maxWidth → row ≡ joinedRow stride columns r (rowAt stride (replicate stride 0) 0) → rowAt stride row 0 ≡ maskedRow columns r
+masked-made columns r row h e = row-made row (maskedRow columns r) (masked-is columns r row e) (joined-length stride columns r (replicate stride 0) h)
+
+pub masked-length : (columns : List ℕ) (r row : Row) → length columns ≤ maxWidth → row ≡ joinedRow stride columns r (rowAt stride (replicate stride 0) 0) → length row ≡ stride
+masked-length columns r row h e = ap length e ∙ joined-length stride columns r (rowAt stride (replicate stride 0) 0) h
+
 -- ---- two rows one behind the other
 
 -- a word before, and one of, the words pasted over others
@@ -95,8 +106,9 @@ pasted-in d s at n k h f g =
     ∙ ap (λ (z : ℕ). getD (take at d ++ take n s) (z + k) 0) (sym e) ∙ getD-append-add (take at d) (take n s) k 0 ∙ getD-take n s k 0 g
 
 -- a field of a row, from where its words begin
-row-word : (s : List ℕ) (i k : ℕ) → k < stride → getD (drop (i * stride) s) k 0 ≡ getD (rowAt stride s i) k 0
-row-word s i k h = getD-drop (i * stride) s k 0 ∙ sym (row-cell s i k h)
+row-word : (s : List ℕ) (i k : ℕ) → i * stride + stride ≤ length s → k < stride → getD (drop (i * stride) s) k 0 ≡ getD (rowAt stride s i) k 0
+unfolding rowAt
+row-word s i k long h = sym (ap (λ (r : Row). getD r k 0) (fields-part stride s (i * stride) long) ∙ getD-take stride (drop (i * stride) s) k 0 h)
 
 -- a right row's words behind the fields of a left row's
 pub both-field : (left right : List ℕ) (i j split c : ℕ) (empty one both : List ℕ) → i * stride + stride ≤ length left → j * stride + stride ≤ length right → split ≤ stride → c < split + stride →
@@ -119,9 +131,9 @@ both-field left right i j split c empty one both hl hr few h size e f = go (ltb 
         let z : 0 + c ≡ c = omega arith in
         ap (λ (k : List ℕ). getD k c 0) f ∙ pasted-before one r split stride c (omega (arith, long)) b ∙ ap (λ (k : List ℕ). getD k c 0) e
         ∙ ap (λ (k : ℕ). getD (paste empty 0 l stride) k 0) (sym z) ∙ pasted-in empty l 0 stride c (omega (arith, size)) (omega (arith, length-drop (i * stride) left)) (omega arith)
-        ∙ row-word left i c (omega arith)
+        ∙ row-word left i c hl (omega arith)
     go false q =
         let b : split ≤ c = ltb-false c split q in
         let z : split + (c - split) ≡ c = omega arith in
         ap (λ (k : List ℕ). getD k c 0) f ∙ ap (λ (k : ℕ). getD (paste one split r stride) k 0) (sym z)
-        ∙ pasted-in one r split stride (c - split) (omega (arith, long)) (omega (arith, length-drop (j * stride) right)) (omega arith) ∙ row-word right j (c - split) (omega arith)
+        ∙ pasted-in one r split stride (c - split) (omega (arith, long)) (omega (arith, length-drop (j * stride) right)) (omega arith) ∙ row-word right j (c - split) hr (omega arith)

@@ -5,12 +5,12 @@ use lib.ListN.{getD, take}
 use lib.Seq.{take-all}
 use Rattle.model.specs.Row.{maxRows}
 use Rattle.model.specs.Areas.{stride}
-use Rattle.projections.specs.Projections.{rowSlot, slotFrom}
-use Rattle.projections.proofs.Unordered.{slot-more, slots-below}
-use Rattle.projections.proofs.slot_of_row.Statement.{statement}
-use Rattle.projections.proofs.slot_of_row.Tie as tie
-use Rattle.projections.proofs.slot_of_row.Reads as reads
-use Rattle.projections.proofs.slot_of_row.Lts as lts
+use Rattle.masked_rows.specs.MaskedRows.{rowSlot, slotFrom}
+use Rattle.masked_rows.proofs.Unordered.{slot-more, slots-below}
+use Rattle.masked_rows.proofs.slot_of_row.Statement.{statement}
+use Rattle.masked_rows.proofs.slot_of_row.Tie as tie
+use Rattle.masked_rows.proofs.slot_of_row.Reads as reads
+use Rattle.masked_rows.proofs.slot_of_row.Lts as lts
 
 abbrev Inv-loop : tie.InvT-loop
 Inv-loop row slot₀ k₀ slot k = (k ≤ stride) × (slot ≡ slotFrom 0 (take k row))

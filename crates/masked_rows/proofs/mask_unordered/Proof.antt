@@ -6,16 +6,16 @@ use borrow.Author.Tests.{not-false}
 use Rattle.model.specs.Areas.{stride}
 use Rattle.rows.specs.Rows.{firstRows, rowAt}
 use Rattle.rows.proofs.Words.{length-rows}
-use Rattle.projections.specs.Projections.{MaskedSet}
-use Rattle.projections.proofs.Rows.{few-columns}
-use Rattle.projections.proofs.Unordered.{masked-length, masked-more, masked-none, masked-there, slot-below}
-use Rattle.projections.proofs.mask_unordered.Statement.{statement}
-use Rattle.projections.proofs.mask_unordered.Tie as tie
-use Rattle.projections.proofs.mask_unordered.Reads as reads
-use Rattle.projections.proofs.mask_unordered.Lts as lts
-use Rattle.projections.proofs.columns_row.Reads as columns-row-reads
-use Rattle.projections.proofs.slot_of_row.Reads as slot-of-row-reads
-use Rattle.projections.proofs.stands_at.Reads as stands-at-reads
+use Rattle.masked_rows.specs.MaskedRows.{MaskedSet}
+use Rattle.columns.proofs.Rows.{few-columns, masked-length}
+use Rattle.masked_rows.proofs.Unordered.{masked-more, masked-none, masked-there, slot-below}
+use Rattle.masked_rows.proofs.mask_unordered.Statement.{statement}
+use Rattle.masked_rows.proofs.mask_unordered.Tie as tie
+use Rattle.masked_rows.proofs.mask_unordered.Reads as reads
+use Rattle.masked_rows.proofs.mask_unordered.Lts as lts
+use Rattle.columns.proofs.columns_row.Reads as columns-row-reads
+use Rattle.masked_rows.proofs.slot_of_row.Reads as slot-of-row-reads
+use Rattle.masked_rows.proofs.stands_at.Reads as stands-at-reads
 use Rattle.words.proofs.copy_run.Reads as copy-run-reads
 
 abbrev Inv-loop : tie.InvT-loop

@@ -8,10 +8,10 @@ use Rattle.model.specs.Row.{sameRow}
 use Rattle.model.specs.Areas.{stride}
 use Rattle.rows.specs.Rows.{orderOf, rowAt}
 use borrow.Author.Needs.{needs}
-use Rattle.projections.proofs.stands_at.Statement.{statement}
-use Rattle.projections.proofs.stands_at.Tie as tie
-use Rattle.projections.proofs.stands_at.Reads as reads
-use Rattle.projections.proofs.stands_at.Lts as lts
+use Rattle.masked_rows.proofs.stands_at.Statement.{statement}
+use Rattle.masked_rows.proofs.stands_at.Tie as tie
+use Rattle.masked_rows.proofs.stands_at.Reads as reads
+use Rattle.masked_rows.proofs.stands_at.Lts as lts
 use Rattle.rows.proofs.compare_rows.Reads as compare-rows-reads
 
 -- a row below the count is there if it is the same

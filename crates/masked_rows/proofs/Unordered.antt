@@ -18,8 +18,9 @@ use Rattle.laws.proofs.Parts.{map-append}
 use Rattle.rows.specs.Rows.{firstRows, rowAt, rowsFrom, stored}
 use Rattle.rows.proofs.Words.{length-rows, paste-sets, rows-snoc, rows-stored, stored-push, stored-same, wide-rows}
 use Rattle.places.proofs.Puts.{set-snoc}
-use Rattle.projections.specs.Projections.{joinedRow, maskedRow, maskedRows, rowSlot, slotFrom, MaskedSet}
-use Rattle.projections.proofs.Rows.{joined-length, row-made}
+use Rattle.columns.specs.Columns.{joinedRow, maskedRow, maskedRows}
+use Rattle.columns.proofs.Rows.{masked-is, masked-length, row-made}
+use Rattle.masked_rows.specs.MaskedRows.{rowSlot, slotFrom, MaskedSet}
 
 -- ---- a row's slot
 
@@ -68,16 +69,6 @@ row-member s j (suc i) (suc n) h =
 row-member s j i zero h = absurd (omega arith)
 
 -- ---- masked rows
-
--- the row that columns_row gives for a mask, and as the first of its own
-pub masked-is : (columns : List ℕ) (r row : Row) → row ≡ joinedRow stride columns r (rowAt stride (replicate stride 0) 0) → row ≡ maskedRow columns r
-masked-is columns r row e = e ∙ ap (joinedRow stride columns r) (row-made (replicate stride 0) (replicate stride 0) refl refl)
-
-pub masked-made : (columns : List ℕ) (r row : Row) → length columns ≤ maxWidth → row ≡ joinedRow stride columns r (rowAt stride (replicate stride 0) 0) → rowAt stride row 0 ≡ maskedRow columns r
-masked-made columns r row h e = row-made row (maskedRow columns r) (masked-is columns r row e) (joined-length stride columns r (replicate stride 0) h)
-
-pub masked-length : (columns : List ℕ) (r row : Row) → length columns ≤ maxWidth → row ≡ joinedRow stride columns r (rowAt stride (replicate stride 0) 0) → length row ≡ stride
-masked-length columns r row h e = ap length e ∙ joined-length stride columns r (rowAt stride (replicate stride 0) 0) h
 
 module _ (columns input : List ℕ) (few : length columns ≤ maxWidth) where
   pub masked-none : (out : List ℕ) → length out ≡ placeSize → MaskedSet columns (firstRows input 0) out 0
