@@ -31,7 +31,7 @@ pub struct Network {
     pub slots: [Slot; MAX_NODES],
     pub widths: [usize; MAX_NODES],
     pub levels: [usize; MAX_NODES],
-    pub signs: [usize; MAX_NODES],
+    pub signs: [u8; MAX_NODES],
 }
 
 // The verdict, and the network where it is accepted.
@@ -136,7 +136,7 @@ fn no_network() -> Network
         slots: [slot; MAX_NODES],
         widths: [0usize; MAX_NODES],
         levels: [0usize; MAX_NODES],
-        signs: [0usize; MAX_NODES],
+        signs: [0u8; MAX_NODES],
     }
 }
 

@@ -270,7 +270,7 @@ fn read_set(
 }
 
 // Kind 9.
-fn read_watch(bytes: &[u8], at: usize, count: usize, signs: &[usize]) -> Record
+fn read_watch(bytes: &[u8], at: usize, count: usize, signs: &[u8]) -> Record
     requires { ⌜ (isBroken (now bytes) at ≡ false) × (count ≤ length (now signs)) ⌝ }
     ensures { λ r. ⌜ ((ws : List ℕ) → ReadsBody ws (take count (now (signs .entry))) 9 (now (bytes .entry)) at r) ⌝ }
 {
@@ -291,6 +291,7 @@ fn read_watch(bytes: &[u8], at: usize, count: usize, signs: &[usize]) -> Record
     if signs[node] != 0 {
         return Record::Refused(7);
     }
+    let sign = sign as u8;
     Record::Item(Item::Watch { node, sign })
 }
 
@@ -327,7 +328,7 @@ pub fn read_record<'a>(
     at: usize,
     count: usize,
     widths: &'a [usize],
-    signs: &'a [usize],
+    signs: &'a [u8],
 ) -> Record
     requires { ⌜ (at ≤ length (now bytes)) × (count ≤ length (now widths)) × (count ≤ length (now signs))
         × Narrow (now widths) ⌝ }

@@ -50,7 +50,7 @@ pub enum Node {
 // What a record brings: a node, or a watch's node and sign.
 pub enum Item {
     Node(Node),
-    Watch { node: usize, sign: usize },
+    Watch { node: usize, sign: u8 },
 }
 
 // What reading a record gives: what it brings, or the number of the rule that it breaks.

@@ -20,12 +20,12 @@ pub struct ReportAnswer {
 }
 
 // The sign of a node's watch: 0 if it has none, or if there is no such node.
-fn sign_of(count: usize, signs: &[usize], node: usize) -> usize
+fn sign_of(count: usize, signs: &[u8], node: usize) -> usize
     requires { ⌜ count ≤ length (now signs) ⌝ }
     ensures { λ r. ⌜ r ≡ getD (take count (now (signs .entry))) node 0 ⌝ }
 {
     if node < count {
-        return signs[node];
+        return signs[node] as usize;
     }
     0
 }

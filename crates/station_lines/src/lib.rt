@@ -159,7 +159,7 @@ pub fn put_watched(
         at
         (now (out .entry)) (now (out .exit)) r ⌝ }
 {
-    let sign = network.signs[node];
+    let sign = network.signs[node] as usize;
     let w = network.widths[node];
     let g = head[GAINED_COUNTS + node] as usize;
     let l = head[LOST_COUNTS + node] as usize;

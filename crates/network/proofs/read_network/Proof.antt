@@ -315,17 +315,6 @@ loop-again c = let a =
 enum-known-item-2 : tie.Need-enum-known-item-2 Inv-loop μ-loop
 enum-known-item-2 c = search needs
 
-mul-net-3 : tie.Need-mul-net-3 Inv-loop μ-loop
-mul-net-3 c = let a = c .before .before .before .before .before .before .before .before .before .before .before .before .before .before .before .before .before .before .args in let fits =
-    rw (c .before .before .before .before .before .reading .given .1) at (c .before .before .before .before .before .before .before .read-record .ensures .fits) in let room =
-    rw (c .before .before .before .before .before .reading .given .1) at (c .before .before .before .before .before .before .before .read-record .ensures .room) in let f = follows
-    (c .before .before .before .before .before .reading .given .0 .0)
-    (c .before .before .before .before .before .before .before .before .before .before .before .before .before .before .loop .net) (a .bytes .now)
-    (c .before .before .before .before .before .before .before .before .before .before .before .before .before .before .loop .at)
-    (c .before .before .before .before .before .before .before .before .before .before .before .before .before .before .loop .inv .built) fits room in let g = rw (c .before .item2 .given .1)
-    at f in let b = c .before .before .before .before .before .before .before .before .before .before .before .before .before .before .loop .inv .built in omega
-    (arith, g, b .sound .few, b .signs-length)
-
 element-write-net-3 : tie.Need-element-write-net-3 Inv-loop μ-loop
 element-write-net-3 c = let a = c .before .before .before .before .before .before .before .before .before .before .before .before .before .before .before .before .before .before .args
     in let fits = rw (c .before .before .before .before .before .reading .given .1) at (c .before .before .before .before .before .before .before .read-record .ensures .fits) in let room =
@@ -418,7 +407,6 @@ read-network-spec =
     loop-less
     loop-again
     enum-known-item-2
-    mul-net-3
     element-write-net-3
     loop-less-2
     loop-again-2

@@ -42,9 +42,6 @@ returns-4 c = let a = c .before .before .before .before .before .before .before 
     (c .before .before .before .before .field-at .ensures .is) (c .before .before .before .if2 .left) (c .before .before .field-at2 .result) (c .before .before .field-at2 .ensures .is)
     (c .before .if3 .left) (c .if4 .taken)
 
-mul-if5 : tie.Need-mul-if5
-mul-if5 c = search needs
-
 shared-slice-read-if5 : tie.Need-shared-slice-read-if5
 shared-slice-read-if5 c = search needs
 
@@ -55,6 +52,9 @@ returns-5 c = let a = c .before .before .before .before .before .before .before 
     (c .before .before .before .before .before .before .before .if1 .left) (c .before .before .before .before .before .before .field-at .result)
     (c .before .before .before .before .before .before .field-at .ensures .is) (c .before .before .before .before .before .if2 .left) (c .before .before .before .before .field-at2 .result)
     (c .before .before .before .before .field-at2 .ensures .is) (c .before .before .before .if3 .left) (c .before .before .if4 .left) (c .if5 .taken)
+
+cast-sign : tie.Need-cast-sign
+cast-sign c = omega (arith, c .before .before .if4 .left)
 
 returns-6 : tie.Need-returns-6
 returns-6 c = let a = c .before .before .before .before .before .before .before .before .before .before .before .args in λ ws. watch-ok (a .signs .now) (a .count)
@@ -75,7 +75,7 @@ read-watch-spec =
     field-at-requires-2
     returns-3
     returns-4
-    mul-if5
     shared-slice-read-if5
     returns-5
+    cast-sign
     returns-6)

@@ -8,9 +8,6 @@ use Rattle.reporting.proofs.sign_of.Tie as tie
 use Rattle.reporting.proofs.sign_of.Reads as reads
 use Rattle.reporting.proofs.sign_of.Lts as lts
 
-mul-result : tie.Need-mul-result
-mul-result c = search needs
-
 shared-slice-read-result : tie.Need-shared-slice-read-result
 shared-slice-read-result c = search needs
 
@@ -22,4 +19,4 @@ returns-2 c = let a = c .before .args in sym
     (List·getD-eq-default (take (a .count) (a .signs .now)) 0 (rw (length-take-le (a .count) (a .signs .now) (c .before .pre)) (omega (arith, c .if1 .left))))
 
 pub sign-of-spec : {M : Type 1} → statement M
-sign-of-spec = tie.close (tie.spec mul-result shared-slice-read-result returns returns-2)
+sign-of-spec = tie.close (tie.spec shared-slice-read-result returns returns-2)
