@@ -10,8 +10,9 @@ use lib.Seq.{getD-take, length-take-le, slice}
 use borrow.Author.Tests.{lt-leb, ltb-true, leb-true, not-false, not-true}
 use Rattle.model.specs.Row.{allOf, numbersBelow, maxNodes, maxRows, maxWidth}
 use Rattle.model.specs.Areas.{allZero, emptyPlace, goodArea, goodPlace, heldIn, layout, goodForm, goodStamps, goodWorked, longEnough}
-use Rattle.rows.specs.Rows.{firstRows, goodRows}
-use Rattle.rows.proofs.Checked.{place-checked}
+use Rattle.rows.specs.Rows.{firstRows}
+use Rattle.row_checks.specs.RowChecks.{goodRows}
+use Rattle.row_checks.proofs.Checked.{place-checked}
 use Rattle.laws.proofs.All.{all-ext}
 use Rattle.model.specs.Network.{Node, widths}
 use Rattle.laws.proofs.Sets.{and-first, and-second}

@@ -65,7 +65,7 @@ fn good_place(area: &[u32], i: usize, width: usize, count: usize) -> bool
         return false;
     }
     let place = &area[i * PLACE..i * PLACE + PLACE];
-    if !rows::good_rows(place, count, width) {
+    if !row_checks::good_rows(place, count, width) {
         return false;
     }
     words::all_zero(place, count * STRIDE, PLACE)

@@ -17,7 +17,7 @@ use Rattle.changes.specs.Written.{placed, rowFrom, clearedRest, filled}
 use Rattle.places.specs.Places.{Place}
 use Rattle.places.proofs.Places.{place-few, place-rest, stored-blank}
 use Rattle.rows.specs.Rows.{words, stored}
-use Rattle.rows.proofs.Checked.{place-length, rest-zero}
+use Rattle.rows.proofs.Placed.{place-length, rest-zero}
 use Rattle.rows.proofs.Place.{length-map-padded, wide-padded}
 use Rattle.rows.proofs.Words.{drop-zeros, length-words}
 use Rattle.states.proofs.Written.{Sized, sized-tail, flat-length}

@@ -11,7 +11,7 @@ use Rattle.places.specs.Places.{Fills}
 use Rattle.model.specs.Row.{Row, Relation, sameRow, sameRows, maxRows, maxWidth, Wide}
 use Rattle.network.specs.declared.Slot.{Slot}
 use Rattle.rows.specs.Rows.{firstRows}
-use Rattle.rows.proofs.Checked.{placed-rows}
+use Rattle.rows.proofs.Placed.{placed-rows}
 use Rattle.rows.proofs.Words.{rows-part}
 use Rattle.words.specs.Runs.{sameFirst}
 use Rattle.rows.proofs.Place.{held-wide, length-held}

@@ -14,10 +14,10 @@ use Rattle.laws.proofs.Sets.{and-first}
 use Rattle.model.specs.Row.{ascending, maxRows}
 use Rattle.model.specs.Areas.{goodPlace, layout, placeOf, rowCount, unusedZero, placeSize}
 use Rattle.rows.proofs.Place.{length-held}
-use Rattle.rows.proofs.Checked.{part-good, part-held}
+use Rattle.rows.proofs.Placed.{part-good, part-held}
 use Rattle.areas.proofs.Good.{part-is}
 use Rattle.areas.specs.Lent.{placeAt}
-use Rattle.rows.proofs.Checked as checked
+use Rattle.rows.proofs.Placed as placed
 
 module _ (ws : List ℕ) (n : ℕ) (rows head : List ℕ) (p : Places ws n rows head) (j : ℕ) (h : j < n) where
   few-rows : rowCount head j ≤ maxRows
@@ -45,7 +45,7 @@ module _ (ws : List ℕ) (n : ℕ) (rows head : List ℕ) (p : Places ws n rows 
 
   -- its words are those of its rows
   pub words-at : placeAt rows j ≡ placeOf layout (heldAt ws head rows j)
-  words-at = part-is rows j ∙ checked.part-is (getD ws j 0) (rowCount head j) rows j (p .narrow j) few-rows inside (p .good j h)
+  words-at = part-is rows j ∙ placed.part-is (getD ws j 0) (rowCount head j) rows j (p .narrow j) few-rows inside (p .good j h)
 
   pub rows-few : length (heldAt ws head rows j) ≤ maxRows
   rows-few = rw (length-held layout (getD ws j 0) (rowCount head j) rows j) few-rows

@@ -9,7 +9,7 @@ use Rattle.model.specs.Row.{Row, allOf, someOf, keep, numbersBelow, maxWidth}
 use Rattle.model.specs.Network.{columnsBelow, pairsBelow}
 use Rattle.model.specs.Areas.{stride}
 use Rattle.nodes.specs.Nodes.{pairsOf}
-use Rattle.rows.specs.Rows.{zeroField}
+use Rattle.row_checks.specs.RowChecks.{zeroField}
 use Rattle.masks.specs.declared.Joining.{Joining}
 
 -- a join's columns are inside the words of its rows

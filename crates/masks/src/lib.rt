@@ -75,7 +75,7 @@ fn leaves_column(rows: &[u32], n: usize, used: &[u16; STRIDE], k: usize) -> bool
     if used[k] != MASKED {
         return true;
     }
-    rows::zero_field(rows, n, k)
+    row_checks::zero_field(rows, n, k)
 }
 
 // Whether a mask leaves every row as it is.

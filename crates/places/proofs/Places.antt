@@ -18,7 +18,7 @@ use Rattle.laws.proofs.Widths.{wide-keep}
 use Rattle.laws.proofs.Parts.{keep-append}
 use Rattle.rows.proofs.Place.{held-wide, length-held, length-map-padded, place-words, words-map}
 use Rattle.rows.proofs.Padding.{ascending-padded, keep-padded}
-use Rattle.rows.proofs.Checked.{placed-rows, rest-zero}
+use Rattle.rows.proofs.Placed.{placed-rows, rest-zero}
 use Rattle.places.specs.Places.{relationIn, Place, Blank, Fills, Kept}
 
 -- ---- a place of good form

@@ -3,5 +3,4 @@ pub mod Pairs
 pub mod Search
 pub mod Place
 pub mod Padding
-pub mod Form
-pub mod Checked
+pub mod Placed

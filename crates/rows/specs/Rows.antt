@@ -1,13 +1,11 @@
 -- Rows in words: what the functions of this crate read and leave. A row of the order stands in words with zeros up to
 -- the stride.
 use mathlib.Core.Path.{_≡_}
-use mathlib.Core.Bool.{Bool, _&&_}
-use mathlib.Core.List.{List, [], _∷_, _++_, map}
+use mathlib.Core.List.{List, [], _∷_, _++_}
 use Prim.Native.Nat.{ℕ, zero, suc, _+_, _*_, _≤_, _<_, Ordering, Ordering·lt, Ordering·eq, Ordering·gt}
-use lib.Dec.{eqb}
-use lib.ListN.{length, getD, take, drop, replicate}
-use Rattle.model.specs.Row.{Row, order, ascending, allOf}
-use Rattle.model.specs.Areas.{stride, fields, allZero}
+use lib.ListN.{length, getD, drop, replicate}
+use Rattle.model.specs.Row.{Row, order}
+use Rattle.model.specs.Areas.{stride, fields}
 use Rattle.rows.specs.declared.Order.{Order}
 use Rattle.rows.specs.declared.Order.the-variants.{Less, Equal, Greater}
 use Rattle.rows.specs.declared.Found.{Found}
@@ -65,20 +63,6 @@ locateBy Ordering·gt f = later f
 abbrev pub locate : Row → List Row → Found
 locate r [] = Missing zero
 locate r (s ∷ l) = locateBy (order r s) (locate r l)
-
--- ---- checking
-
--- field c is 0 in every row
-abbrev pub zeroField : ℕ → List Row → Bool
-zeroField c l = allOf (λ r. eqb (getD r c 0) 0) l
-
--- every row has zeros past the width
-abbrev pub zeroPast : ℕ → List Row → Bool
-zeroPast w l = allOf (λ r. allZero (drop w r)) l
-
--- rows of a width: strictly ascending, with zeros past the width
-unfoldable pub goodRows : ℕ → List Row → Bool
-goodRows w l = ascending (map (take w) l) && zeroPast w l
 
 -- ---- rows in words that were 0
 

@@ -25,7 +25,7 @@ use Rattle.places.specs.Places.{Place, relationIn}
 use Rattle.areas.specs.Lent.{placeAt}
 use Rattle.areas.proofs.Pasted.{place-long}
 use Rattle.areas.proofs.Good.{part-is}
-use Rattle.rows.proofs.Checked.{part-good, part-held}
+use Rattle.rows.proofs.Placed.{part-good, part-held}
 use Rattle.laws.proofs.Relations.{relation-at, relations-length}
 
 pub map-gained : (a b : List Relation) → length a ≡ length b → map (λ (c : Change). c .gained) (zipWith (λ g l. record { gained = g; lost = l }) a b) ≡ a

@@ -15,7 +15,7 @@ use Rattle.model.specs.Row.{Relation, ascending, numbersBelow, maxNodes, maxRow
 use Rattle.states.specs.Fitting.{Fitting}
 use Rattle.laws.proofs.Sets.{and-both}
 use Rattle.model.specs.Areas.{areaOf, emptyPlace, goodArea, goodPlace, heldIn, layout, over, placeOf, relationsIn, unusedZero}
-use Rattle.rows.proofs.Checked.{place-length}
+use Rattle.rows.proofs.Placed.{place-length}
 use Rattle.laws.proofs.Parts.{length-counted, counted-at}
 use Rattle.model.specs.Areas.{areaSize, placeSize}
 

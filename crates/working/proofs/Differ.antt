@@ -19,7 +19,7 @@ use Rattle.places.proofs.Places.{place-count, place-wide, place-few, place-is, 
 use Rattle.words.specs.Runs.{sameFirst}
 use Rattle.laws.proofs.Sets.{Ascending, and-both, ascending-true, sameRows-eq}
 use Rattle.model.specs.Areas.{goodPlace, placeOf, layout, heldIn, unusedZero, areaSize, placeSize, stride}
-use Rattle.rows.proofs.Checked.{place-length}
+use Rattle.rows.proofs.Placed.{place-length}
 use Rattle.rows.proofs.Place.{place-reads, place-clean}
 use Rattle.rows.proofs.Words.{drop-zeros}
 use Rattle.areas.specs.Lent.{placeAt}

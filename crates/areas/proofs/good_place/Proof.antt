@@ -12,7 +12,7 @@ use Rattle.areas.proofs.good_place.Tie as tie
 use Rattle.areas.proofs.good_place.Reads as reads
 use Rattle.areas.proofs.good_place.Lts as lts
 use Rattle.words.proofs.all_zero.Reads as all-zero-reads
-use Rattle.rows.proofs.good_rows.Reads as good-rows-reads
+use Rattle.row_checks.proofs.good_rows.Reads as good-rows-reads
 
 returns : tie.Need-returns
 returns c = let a = c .before .before .args in sym (too-many (a .width) (a .count) (a .area .now) (a .i) (c .if1 .taken))

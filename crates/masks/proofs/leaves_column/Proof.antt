@@ -4,12 +4,13 @@ use lib.ListN.{getD}
 use borrow.Author.Needs.{needs}
 use borrow.Author.Tests.{eq-eqb, ne-eqb}
 use Rattle.model.specs.Areas.{stride}
-use Rattle.rows.specs.Rows.{firstRows, zeroField}
+use Rattle.rows.specs.Rows.{firstRows}
+use Rattle.row_checks.specs.RowChecks.{zeroField}
 use Rattle.masks.proofs.leaves_column.Statement.{statement}
 use Rattle.masks.proofs.leaves_column.Tie as tie
 use Rattle.masks.proofs.leaves_column.Reads as reads
 use Rattle.masks.proofs.leaves_column.Lts as lts
-use Rattle.rows.proofs.zero_field.Reads as zero-field-reads
+use Rattle.row_checks.proofs.zero_field.Reads as zero-field-reads
 
 mul-if1 : tie.Need-mul-if1
 mul-if1 c = search needs

@@ -3,12 +3,12 @@ use mathlib.Core.Path.{sym, _∙_}
 use borrow.Author.Tests.{not-true, not-false}
 use native.Mathlib.Omega.{arith}
 use Rattle.model.specs.Areas.{stride}
-use Rattle.rows.proofs.Form.{AscendTo, ascend-none, ascend-more, ascend-not, ascend-all}
-use Rattle.rows.proofs.ascend.Statement.{statement}
-use Rattle.rows.proofs.ascend.Tie as tie
-use Rattle.rows.proofs.ascend.Reads as reads
-use Rattle.rows.proofs.ascend.Lts as lts
-use Rattle.rows.proofs.below_next.Reads as below-next-reads
+use Rattle.row_checks.proofs.Form.{AscendTo, ascend-none, ascend-more, ascend-not, ascend-all}
+use Rattle.row_checks.proofs.ascend.Statement.{statement}
+use Rattle.row_checks.proofs.ascend.Tie as tie
+use Rattle.row_checks.proofs.ascend.Reads as reads
+use Rattle.row_checks.proofs.ascend.Lts as lts
+use Rattle.row_checks.proofs.below_next.Reads as below-next-reads
 
 abbrev Inv-loop : tie.InvT-loop
 Inv-loop words n j₀ j = (j ≤ n) × AscendTo stride words n j

@@ -1,12 +1,12 @@
 use mathlib.Core.Path.{sym, ap, _∙_}
 use borrow.Author.Needs.{needs}
 use Rattle.model.specs.Row.{isLess}
 use Rattle.rows.specs.Rows.{orderOf}
-use Rattle.rows.proofs.below_next.Statement.{statement}
-use Rattle.rows.proofs.below_next.Tie as tie
-use Rattle.rows.proofs.below_next.Reads as reads
-use Rattle.rows.proofs.below_next.Lts as lts
+use Rattle.row_checks.proofs.below_next.Statement.{statement}
+use Rattle.row_checks.proofs.below_next.Tie as tie
+use Rattle.row_checks.proofs.below_next.Reads as reads
+use Rattle.row_checks.proofs.below_next.Lts as lts
 use Rattle.rows.proofs.compare_rows.Reads as compare-rows-reads
 
 add-compare-rows : tie.Need-add-compare-rows
 add-compare-rows c = search needs

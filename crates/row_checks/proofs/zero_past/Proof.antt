@@ -3,14 +3,15 @@ use mathlib.Core.Path.{_≡_, refl, sym, _∙_}
 use borrow.Author.Tests.{not-true, not-false}
 use native.Mathlib.Omega.{arith}
 use Rattle.model.specs.Areas.{stride}
-use Rattle.rows.specs.Rows.{firstRows, zeroPast}
-use Rattle.rows.proofs.Form.{past-more, past-not, past-all}
+use Rattle.rows.specs.Rows.{firstRows}
+use Rattle.row_checks.specs.RowChecks.{zeroPast}
+use Rattle.row_checks.proofs.Form.{past-more, past-not, past-all}
 use Rattle.rows.proofs.Words.{wide-rows}
-use Rattle.rows.proofs.zero_past.Statement.{statement}
-use Rattle.rows.proofs.zero_past.Tie as tie
-use Rattle.rows.proofs.zero_past.Reads as reads
-use Rattle.rows.proofs.zero_past.Lts as lts
-use Rattle.rows.proofs.zero_field.Reads as zero-field-reads
+use Rattle.row_checks.proofs.zero_past.Statement.{statement}
+use Rattle.row_checks.proofs.zero_past.Tie as tie
+use Rattle.row_checks.proofs.zero_past.Reads as reads
+use Rattle.row_checks.proofs.zero_past.Lts as lts
+use Rattle.row_checks.proofs.zero_field.Reads as zero-field-reads
 
 -- the fields before c are 0: those from there on decide
 abbrev Inv-loop : tie.InvT-loop

@@ -1,11 +1,11 @@
 use Prim.Native.Nat.{_≤_, _-_}
 use native.Mathlib.Omega.{arith}
 use Rattle.model.specs.Areas.{stride}
-use Rattle.rows.proofs.Form.{FieldTo, field-none, field-more, field-all}
-use Rattle.rows.proofs.zero_field.Statement.{statement}
-use Rattle.rows.proofs.zero_field.Tie as tie
-use Rattle.rows.proofs.zero_field.Reads as reads
-use Rattle.rows.proofs.zero_field.Lts as lts
+use Rattle.row_checks.proofs.Form.{FieldTo, field-none, field-more, field-all}
+use Rattle.row_checks.proofs.zero_field.Statement.{statement}
+use Rattle.row_checks.proofs.zero_field.Tie as tie
+use Rattle.row_checks.proofs.zero_field.Reads as reads
+use Rattle.row_checks.proofs.zero_field.Lts as lts
 
 abbrev Inv-loop : tie.InvT-loop
 Inv-loop words n c bits₀ j₀ bits j = (j ≤ n) × FieldTo stride words n c bits j

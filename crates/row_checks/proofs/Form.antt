@@ -14,10 +14,11 @@ use Rattle.model.specs.Row.{Row, order, isLess, ascending, Wide}
 use Rattle.model.specs.Areas.{fields, allZero, padded}
 use Rattle.laws.proofs.Sets.{and-first, and-second}
 use Rattle.words.proofs.Runs.{and-assoc, and-true, or-none}
-use Rattle.rows.specs.Rows.{rowAt, rowsFrom, zeroField, zeroPast, goodRows}
+use Rattle.rows.specs.Rows.{rowAt, rowsFrom}
 use Rattle.rows.proofs.Words.{rows-cons, rows-none}
 use Rattle.rows.proofs.Padding.{ascending-padded}
 use Rattle.rows.proofs.Place.{zeros-are}
+use Rattle.row_checks.specs.RowChecks.{zeroField, zeroPast, goodRows}
 
 pub slice-part : (at n : ℕ) (s : List ℕ) → at + n ≤ length s → slice at (at + n) s ≡ take n (drop at s)
 slice-part at n s h = ap (drop at) (take-add at n s) ∙ drop-at (take at s) (take n (drop at s)) at (length-take-le at s (omega arith))

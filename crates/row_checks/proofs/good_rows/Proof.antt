@@ -3,15 +3,15 @@ use borrow.Author.Tests.{not-true, not-false}
 use borrow.Author.Needs.{needs}
 use native.Mathlib.Omega.{arith}
 use Rattle.model.specs.Areas.{stride}
 use Rattle.rows.specs.Rows.{firstRows}
-use Rattle.rows.proofs.Form.{good-clean, good-unclean}
+use Rattle.row_checks.proofs.Form.{good-clean, good-unclean}
 use Rattle.rows.proofs.Words.{wide-rows}
-use Rattle.rows.proofs.good_rows.Statement.{statement}
-use Rattle.rows.proofs.good_rows.Tie as tie
-use Rattle.rows.proofs.good_rows.Reads as reads
-use Rattle.rows.proofs.good_rows.Lts as lts
-use Rattle.rows.proofs.ascend.Reads as ascend-reads
-use Rattle.rows.proofs.zero_past.Reads as zero-past-reads
+use Rattle.row_checks.proofs.good_rows.Statement.{statement}
+use Rattle.row_checks.proofs.good_rows.Tie as tie
+use Rattle.row_checks.proofs.good_rows.Reads as reads
+use Rattle.row_checks.proofs.good_rows.Lts as lts
+use Rattle.row_checks.proofs.ascend.Reads as ascend-reads
+use Rattle.row_checks.proofs.zero_past.Reads as zero-past-reads
 
 zero-past-requires : tie.Need-zero-past-requires
 zero-past-requires c κs = search needs
