@@ -16,13 +16,13 @@ use Rattle.laws.proofs.Build.{build-more}
 use Rattle.laws.proofs.Fits.{widths-more}
 use Rattle.laws.proofs.Inputs.{inputs-below, inputs-fit, inputs-high, inputs-highest}
 use Rattle.nodes.specs.Nodes.{listsOf, withLists, PartsAre}
-use Rattle.node_records.specs.NodeRecords.{nodeInRecord, NodeFits}
+use Rattle.derived_records.specs.Bodies.{nodeInRecord, NodeFits}
 use Rattle.nodes.specs.declared.Parts.{Parts}
 use Rattle.network.specs.Reading.{slotNode, nodesOf, Sound, Built, Extends, NextSlot, InputsBelow, WidthIs, LevelIs, Ends, Shaped, noSlot}
 use Rattle.nodes.specs.declared.Node.{Node}
 use Rattle.network.specs.declared.Slot.{Slot}
 use Rattle.network.specs.declared.Network.{Network}
-use Rattle.node_records.proofs.Lists.{length-fieldsAt}
+use Rattle.derived_records.proofs.Lists.{length-fieldsAt}
 use Rattle.model.specs.Network as model
 use Rattle.model.specs.Row.{maxNodes, maxWidth}
 

@@ -10,9 +10,9 @@ use Rattle.model.specs.Algebra.{Pair}
 use Rattle.model.specs.Network.{pairsAt, maxPairs}
 use Rattle.model.specs.Record.{Bytes, fieldsAt}
 use Rattle.rows.proofs.Padding.{take-padded}
-use Rattle.node_records.proofs.Lists.{length-fieldsAt, pairs-fields, pairs-take}
+use Rattle.derived_records.proofs.Lists.{length-fieldsAt, pairs-fields, pairs-take}
 use Rattle.nodes.specs.Nodes.{listsOf, nodeOf, pairsOf, withLists}
-use Rattle.node_records.specs.NodeRecords.{ListsFit, nodeInRecord}
+use Rattle.derived_records.specs.Bodies.{ListsFit, nodeInRecord}
 use Rattle.nodes.specs.declared.Node.{Node}
 use Rattle.network.specs.Reading.{Ends, Shaped}
 use Rattle.network.proofs.Building.{zero-at}

@@ -12,7 +12,8 @@ use Rattle.model.specs.Network.{Item, itemAt, recordFault, withItem, noNetwork,
 use Rattle.records.proofs.Header.{Whole, whole}
 use Rattle.records.proofs.Offsets.{remaining, remaining-all, remaining-none, remaining-broken, remaining-whole}
 use Rattle.nodes.specs.Nodes.{numberOf}
-use Rattle.node_records.specs.NodeRecords.{itemOf, Fits, Room, ReadsRecord}
+use Rattle.derived_records.specs.Bodies.{itemOf, Fits}
+use Rattle.node_records.specs.NodeRecords.{Room, ReadsRecord}
 use Rattle.network.specs.Reading.{networkOf, Built, Extends, Follows}
 use Rattle.nodes.specs.declared.Item as declaredItem
 use Rattle.nodes.specs.declared.Item.the-variants.{Node as NodeBrought, Watch as WatchBrought}

@@ -9,7 +9,7 @@ use Rattle.model.specs.Network.{Item, readNetwork, maxPairs}
 use Rattle.model.specs.Areas.{Areas}
 use Rattle.model.specs.Calls.{Result}
 use Rattle.nodes.specs.Nodes.{nodeOf, listsOf, withLists}
-use Rattle.node_records.specs.NodeRecords.{NodeFits}
+use Rattle.derived_records.specs.Bodies.{NodeFits}
 use Rattle.nodes.specs.declared.Node.{Node}
 use Rattle.nodes.specs.declared.Node.the-variants.{Table}
 use Rattle.nodes.specs.declared.Item.the-variants.{Node as NodeBrought, Watch as WatchBrought}

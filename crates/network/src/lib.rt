@@ -7,7 +7,7 @@ ghost use Rattle.model.specs.Record.{fieldsAt};
 ghost use Rattle.model.specs.Areas.{padded};
 ghost use Rattle.model.specs.Row.{maxNodes, maxWidth};
 ghost use Rattle.nodes.specs.Nodes.{listsOf};
-ghost use Rattle.node_records.specs.NodeRecords.{nodeInRecord, ListsFit};
+ghost use Rattle.derived_records.specs.Bodies.{nodeInRecord, ListsFit};
 ghost use Rattle.network.specs.Reading.{ReadsNetwork, Built, networkOf, readingOf};
 ghost use Rattle.network.specs.Reading.{slotNode, Shaped, InputsBelow, WidthIs, LevelIs};
 use nodes::Item;

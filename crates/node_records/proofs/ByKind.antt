@@ -12,7 +12,8 @@ use Rattle.model.specs.Record.{Bytes, kindAt, fieldAt, isBroken}
 use Rattle.model.specs.Network.{kinds, isUnknown, isNode, recordFault, itemAt, nodeItem, watchItem}
 use Rattle.laws.proofs.All.{all-below}
 use Rattle.nodes.specs.Nodes.{numberOf}
-use Rattle.node_records.specs.NodeRecords.{nodeInRecord, itemOf, bodyFault, Room, ReadsBody, ReadsNode, ReadsRecord}
+use Rattle.derived_records.specs.Bodies.{nodeInRecord, itemOf, bodyFault, ReadsBody}
+use Rattle.node_records.specs.NodeRecords.{Room, ReadsRecord}
 use Rattle.nodes.specs.declared.Record.{Record}
 use Rattle.nodes.specs.declared.Item.the-variants.{Node as NodeBrought, Watch as WatchBrought}
 use Rattle.nodes.specs.declared.Record.the-variants.{Item as Brought, Refused}
@@ -106,11 +107,3 @@ module _ (ws signs : List ℕ) (bs : Bytes) (at : ℕ) where
           fits = b .fits;
           room = room-watch ws bs at r (b .item);
         }
-
--- a body read as the kind of a number
-pub as-kind : {ws signs : List ℕ} {bs : Bytes} {at : ℕ} {r : Record} (k n : ℕ) → k ≡ n → ReadsBody ws signs n bs at r → ReadsBody ws signs k bs at r
-as-kind k n e b = rw e b
-
--- a derived node read as its record's kind
-pub reads-as : {ws : List ℕ} {bs : Bytes} {at : ℕ} {r : Record} (n : ℕ) → kindAt bs at ≡ n → ((signs : List ℕ) → ReadsBody ws signs n bs at r) → ReadsNode ws bs at r
-reads-as {bs = bs} {at = at} n e b = record { body = λ signs. as-kind (kindAt bs at) n e (b signs) }

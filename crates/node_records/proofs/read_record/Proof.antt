@@ -2,14 +2,15 @@ use mathlib.Core.Path.{sym, _∙_}
 use lib.ListN.{take}
 use lib.Seq.{length-take-le}
 use Rattle.records.proofs.Header.{whole}
-use Rattle.node_records.proofs.ByKind.{record-3, record-4, record-5, record-node, record-watch, unknown-low, unknown-high, as-kind}
+use Rattle.node_records.proofs.ByKind.{record-3, record-4, record-5, record-node, record-watch, unknown-low, unknown-high}
+use Rattle.derived_records.proofs.Body.{as-kind}
 use native.Mathlib.Omega.{arith}
 use borrow.Author.Needs.{needs}
 use Rattle.node_records.proofs.read_record.Statement.{statement}
 use Rattle.node_records.proofs.read_record.Tie as tie
 use Rattle.node_records.proofs.read_record.Reads as reads
 use Rattle.node_records.proofs.read_record.Lts as lts
-use Rattle.node_records.proofs.read_derived.Reads as read-derived-reads
+use Rattle.derived_records.proofs.read_derived.Reads as read-derived-reads
 use Rattle.node_records.proofs.read_table.Reads as read-table-reads
 use Rattle.node_records.proofs.read_watch.Reads as read-watch-reads
 use Rattle.records.proofs.is_broken.Reads as is-broken-reads

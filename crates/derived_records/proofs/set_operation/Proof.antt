@@ -1,9 +1,9 @@
 use mathlib.Core.Path.{_≡_}
 use native.Mathlib.Omega.{arith}
-use Rattle.node_records.proofs.set_operation.Statement.{statement}
-use Rattle.node_records.proofs.set_operation.Tie as tie
-use Rattle.node_records.proofs.set_operation.Reads as reads
-use Rattle.node_records.proofs.set_operation.Lts as lts
+use Rattle.derived_records.proofs.set_operation.Statement.{statement}
+use Rattle.derived_records.proofs.set_operation.Tie as tie
+use Rattle.derived_records.proofs.set_operation.Reads as reads
+use Rattle.derived_records.proofs.set_operation.Lts as lts
 
 returns : tie.Need-returns
 returns c = rw (c .match .keys1)

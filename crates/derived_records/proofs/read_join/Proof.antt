@@ -3,17 +3,16 @@ use Prim.Native.Nat.{_+_, _*_}
 use Rattle.model.specs.Record.{fieldAt}
 use borrow.Author.Tests.{not-true, not-false}
 use Rattle.records.proofs.Header.{whole}
-use Rattle.node_records.proofs.ByKind.{reads-as}
-use Rattle.node_records.proofs.Body.{join-shaped, join-unshaped, join-no-left, join-no-right, join-bad-pair, join-high, join-ok}
+use Rattle.derived_records.proofs.Body.{join-shaped, join-unshaped, join-no-left, join-no-right, join-bad-pair, join-high, join-ok, reads-as}
 use native.Mathlib.Omega.{arith}
 use borrow.Author.Needs.{needs}
-use Rattle.node_records.proofs.read_join.Statement.{statement}
-use Rattle.node_records.proofs.read_join.Tie as tie
-use Rattle.node_records.proofs.read_join.Reads as reads
-use Rattle.node_records.proofs.read_join.Lts as lts
-use Rattle.node_records.proofs.columns_below.Reads as columns-below-reads
-use Rattle.node_records.proofs.join_shape.Reads as join-shape-reads
-use Rattle.node_records.proofs.pairs_below.Reads as pairs-below-reads
+use Rattle.derived_records.proofs.read_join.Statement.{statement}
+use Rattle.derived_records.proofs.read_join.Tie as tie
+use Rattle.derived_records.proofs.read_join.Reads as reads
+use Rattle.derived_records.proofs.read_join.Lts as lts
+use Rattle.derived_records.proofs.columns_below.Reads as columns-below-reads
+use Rattle.derived_records.proofs.join_shape.Reads as join-shape-reads
+use Rattle.derived_records.proofs.pairs_below.Reads as pairs-below-reads
 use Rattle.records.proofs.field_at.Reads as field-at-reads
 
 join-shape-requires : tie.Need-join-shape-requires

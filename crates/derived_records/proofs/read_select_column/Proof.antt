@@ -3,15 +3,14 @@ use Prim.Native.Nat.{_<_}
 use lib.ListN.{take}
 use borrow.Author.Tests.{not-true, not-false}
 use Rattle.records.proofs.Header.{whole}
-use Rattle.node_records.proofs.ByKind.{reads-as}
-use Rattle.node_records.proofs.Body.{column-size, column-not, column-high, column-ok, select-input, first-at}
+use Rattle.derived_records.proofs.Body.{column-size, column-not, column-high, column-ok, select-input, first-at, reads-as}
 use native.Mathlib.Omega.{arith}
 use borrow.Author.Needs.{needs}
-use Rattle.node_records.proofs.read_select_column.Statement.{statement}
-use Rattle.node_records.proofs.read_select_column.Tie as tie
-use Rattle.node_records.proofs.read_select_column.Reads as reads
-use Rattle.node_records.proofs.read_select_column.Lts as lts
-use Rattle.node_records.proofs.select_fits.Reads as select-fits-reads
+use Rattle.derived_records.proofs.read_select_column.Statement.{statement}
+use Rattle.derived_records.proofs.read_select_column.Tie as tie
+use Rattle.derived_records.proofs.read_select_column.Reads as reads
+use Rattle.derived_records.proofs.read_select_column.Lts as lts
+use Rattle.derived_records.proofs.select_fits.Reads as select-fits-reads
 use Rattle.records.proofs.field_at.Reads as field-at-reads
 use Rattle.records.proofs.u16_at.Reads as u16-at-reads
 

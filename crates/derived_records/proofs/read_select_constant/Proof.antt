@@ -2,14 +2,13 @@ use mathlib.Core.Path.{sym, _∙_}
 use lib.ListN.{take}
 use borrow.Author.Tests.{not-true, not-false}
 use Rattle.records.proofs.Header.{whole}
-use Rattle.node_records.proofs.ByKind.{reads-as}
-use Rattle.node_records.proofs.Body.{constant-size, constant-not, constant-ok}
+use Rattle.derived_records.proofs.Body.{constant-size, constant-not, constant-ok, reads-as}
 use native.Mathlib.Omega.{arith}
-use Rattle.node_records.proofs.read_select_constant.Statement.{statement}
-use Rattle.node_records.proofs.read_select_constant.Tie as tie
-use Rattle.node_records.proofs.read_select_constant.Reads as reads
-use Rattle.node_records.proofs.read_select_constant.Lts as lts
-use Rattle.node_records.proofs.select_fits.Reads as select-fits-reads
+use Rattle.derived_records.proofs.read_select_constant.Statement.{statement}
+use Rattle.derived_records.proofs.read_select_constant.Tie as tie
+use Rattle.derived_records.proofs.read_select_constant.Reads as reads
+use Rattle.derived_records.proofs.read_select_constant.Lts as lts
+use Rattle.derived_records.proofs.select_fits.Reads as select-fits-reads
 use Rattle.records.proofs.field_at.Reads as field-at-reads
 use Rattle.records.proofs.u16_at.Reads as u16-at-reads
 use Rattle.records.proofs.u32_at.Reads as u32-at-reads

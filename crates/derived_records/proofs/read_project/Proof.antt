@@ -1,16 +1,15 @@
 use mathlib.Core.Path.{sym, _∙_}
 use borrow.Author.Tests.{not-true, not-false}
 use Rattle.records.proofs.Header.{whole}
-use Rattle.node_records.proofs.ByKind.{reads-as}
-use Rattle.node_records.proofs.Body.{project-shaped, project-unshaped, project-no-input, project-high, project-ok}
+use Rattle.derived_records.proofs.Body.{project-shaped, project-unshaped, project-no-input, project-high, project-ok, reads-as}
 use native.Mathlib.Omega.{arith}
 use borrow.Author.Needs.{needs}
-use Rattle.node_records.proofs.read_project.Statement.{statement}
-use Rattle.node_records.proofs.read_project.Tie as tie
-use Rattle.node_records.proofs.read_project.Reads as reads
-use Rattle.node_records.proofs.read_project.Lts as lts
-use Rattle.node_records.proofs.columns_below.Reads as columns-below-reads
-use Rattle.node_records.proofs.project_shape.Reads as project-shape-reads
+use Rattle.derived_records.proofs.read_project.Statement.{statement}
+use Rattle.derived_records.proofs.read_project.Tie as tie
+use Rattle.derived_records.proofs.read_project.Reads as reads
+use Rattle.derived_records.proofs.read_project.Lts as lts
+use Rattle.derived_records.proofs.columns_below.Reads as columns-below-reads
+use Rattle.derived_records.proofs.project_shape.Reads as project-shape-reads
 use Rattle.records.proofs.field_at.Reads as field-at-reads
 
 project-shape-requires : tie.Need-project-shape-requires

@@ -1,10 +1,10 @@
 use mathlib.Core.Path.{sym}
-use Rattle.node_records.proofs.Body.{select-no-input, select-no-column, select-code}
+use Rattle.derived_records.proofs.Body.{select-no-input, select-no-column, select-code}
 use borrow.Author.Needs.{needs}
-use Rattle.node_records.proofs.select_fits.Statement.{statement}
-use Rattle.node_records.proofs.select_fits.Tie as tie
-use Rattle.node_records.proofs.select_fits.Reads as reads
-use Rattle.node_records.proofs.select_fits.Lts as lts
+use Rattle.derived_records.proofs.select_fits.Statement.{statement}
+use Rattle.derived_records.proofs.select_fits.Tie as tie
+use Rattle.derived_records.proofs.select_fits.Reads as reads
+use Rattle.derived_records.proofs.select_fits.Lts as lts
 use Rattle.records.proofs.field_at.Reads as field-at-reads
 
 field-at-requires : tie.Need-field-at-requires

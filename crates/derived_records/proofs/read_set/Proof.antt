@@ -1,12 +1,11 @@
 use Rattle.records.proofs.Header.{whole}
-use Rattle.node_records.proofs.ByKind.{reads-as}
-use Rattle.node_records.proofs.Body.{set-size, set-no-left, set-no-right, set-unequal, set-ok}
+use Rattle.derived_records.proofs.Body.{set-size, set-no-left, set-no-right, set-unequal, set-ok, reads-as}
 use native.Mathlib.Omega.{arith}
 use borrow.Author.Needs.{needs}
-use Rattle.node_records.proofs.read_set.Statement.{statement}
-use Rattle.node_records.proofs.read_set.Tie as tie
-use Rattle.node_records.proofs.read_set.Reads as reads
-use Rattle.node_records.proofs.read_set.Lts as lts
+use Rattle.derived_records.proofs.read_set.Statement.{statement}
+use Rattle.derived_records.proofs.read_set.Tie as tie
+use Rattle.derived_records.proofs.read_set.Reads as reads
+use Rattle.derived_records.proofs.read_set.Lts as lts
 use Rattle.records.proofs.field_at.Reads as field-at-reads
 use Rattle.records.proofs.u16_at.Reads as u16-at-reads
 
