@@ -12,11 +12,11 @@ use Rattle.station_lines.proofs.put_watched.Reads as reads
 use Rattle.station_lines.proofs.put_watched.Lts as lts
 use Rattle.station_lines.proofs.put_node.Reads as put-node-reads
 
-mul-sign : tie.Need-mul-sign
-mul-sign c = search needs
-
 element-copy-out-sign : tie.Need-element-copy-out-sign
 element-copy-out-sign c = search needs
+
+cast-sign : tie.Need-cast-sign
+cast-sign c = search needs
 
 mul-w : tie.Need-mul-w
 mul-w c = search needs
@@ -79,8 +79,8 @@ pub put-watched-spec : {M : Type 1} → statement M
 put-watched-spec =
     tie.close
     (tie.spec
-    mul-sign
     element-copy-out-sign
+    cast-sign
     mul-w
     element-copy-out-w
     add-g
