@@ -8,36 +8,25 @@ use lib.ListN.{length}
 use mir.Val.{boolByte}
 use Rattle.model.specs.Record.{Bytes}
 use Rattle.model.specs.Areas.{Areas}
-use Rattle.model.specs.Calls.{Applied, openCall, checkCall, reportCall, longestReport}
+use Rattle.model.specs.Calls.{Applied, checkCall, longestReport}
 use Rattle.model.specs.Text.{line}
 use Rattle.network.specs.Reading.{resultWith}
-use Rattle.verdicts.specs.Verdicts.{verdictOf}
 use Rattle.verdicts.specs.declared.Verdict.{Verdict}
 use Rattle.checking.specs.Answer.{checkAnswerOf}
 use Rattle.reporting.specs.Answer.{reportAnswerOf}
 use Rattle.checking.specs.declared.CheckAnswer.{CheckAnswer}
-use Rattle.reporting.specs.declared.ReportAnswer.{ReportAnswer}
 use Rattle.lines.specs.Written.{PutLine}
 use Rattle.lines.proofs.Written.{put-more}
-use Rattle.test_calls.specs.Lines.{Applies, Opens, Reports, Writes, applyWord, checkLine, headWord, verdictLine}
-
-pub opens : (net : Bytes) (a : Areas) (v : Verdict) {after : Areas} {text out : Bytes} {r : ℕ} → resultWith v after ≡ openCall net a →
-    Writes (verdictLine (verdictOf v)) text out r → Opens net a after text out r
-opens net a v e p = record { wrote = rw (← e) p; areas = rw (← e) }
+use Rattle.test_calls.specs.Lines.{Applies, Writes, applyWord, checked, headWord}
 
 -- a truth value as a number
 bit-is : (t : Bool) → boolByte t ≡ cond t 1 0
 bit-is true = refl
 bit-is false = refl
 
-pub checks : (net : Bytes) (a : Areas) (v : CheckAnswer) {text out : Bytes} {r : ℕ} → checkAnswerOf v ≡ checkCall net a →
-    Writes (line [] (v .number ∷ v .place ∷ boolByte (v .yes) ∷ [])) text out r → Writes (checkLine (checkCall net a)) text out r
-checks net a v e p = rw (← e, ← bit-is (v .yes)) p
-
-pub reports : (net : Bytes) (node : ℕ) (a : Areas) (v : ReportAnswer) (room : Bytes) {after text out : Bytes} {r : ℕ} →
-    reportAnswerOf v after ≡ reportCall net node a room → Writes (line [] (v .number ∷ v .place ∷ v .size ∷ [])) text out r →
-    Reports net node a room after text out r
-reports net node a v room e p = record { wrote = rw (← e) p; bytes = rw (← e) }
+-- the check's answer as a report's
+pub told : (v : CheckAnswer) (out : Bytes) → reportAnswerOf (record { number = v .number; place = v .place; size = boolByte (v .yes) }) out ≡ checked (checkAnswerOf v) out
+told v out = rw (bit-is (v .yes))
 
 -- two lines
 pub applied : (net batch : Bytes) (a after : Areas) (v : Verdict) (c : CheckAnswer) {k r : ℕ} {text mid shown : Bytes} → length text ≡ 65536 → length (after .head) ≤ longestReport →

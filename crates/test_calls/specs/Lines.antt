@@ -6,7 +6,7 @@ use Prim.Native.Nat.{ℕ}
 use lib.ListN.{length}
 use Rattle.model.specs.Record.{Bytes, Verdict}
 use Rattle.model.specs.Areas.{Areas}
-use Rattle.model.specs.Calls.{Applied, CheckAnswer, ReportAnswer, Result, openCall, checkCall, reportCall}
+use Rattle.model.specs.Calls.{Applied, CheckAnswer, ReportAnswer, Result, checkCall}
 use Rattle.model.specs.Text.{line}
 use Rattle.lines.specs.Written.{Put}
 
@@ -19,6 +19,10 @@ verdictLine v = line [] (v .number ∷ v .place ∷ [])
 -- the coherence check's answer; yes is 1
 abbrev pub checkLine : CheckAnswer → Bytes
 checkLine c = line [] (c .verdict .number ∷ c .verdict .place ∷ cond (c .yes?) 1 0 ∷ [])
+
+-- the check's answer as a report's, which writes nothing: yes is size 1
+abbrev pub checked : CheckAnswer → Bytes → ReportAnswer
+checked c out = record { verdict = c .verdict; size = cond (c .yes?) 1 0; out = out }
 
 -- a report's verdict and size
 abbrev pub reportLine : ReportAnswer → Bytes
@@ -45,16 +49,6 @@ batchLines v c head = appliedLine v c ++ line headWord head
 -- a text is written from the first byte on
 abbrev pub Writes : Bytes → Bytes → Bytes → ℕ → Type 0
 Writes shown text after r = Put shown (length text) 0 text after r
-
--- the areas are opened, and the verdict's line is written
-pub record Opens (net : Bytes) (a after : Areas) (text text-after : Bytes) (r : ℕ) : Type 0 where
-  pub wrote : Writes (verdictLine (openCall net a .verdict)) text text-after r
-  pub areas : after ≡ openCall net a .areas
-
--- a report is made, and the line of its verdict and size is written
-pub record Reports (net : Bytes) (node : ℕ) (a : Areas) (out out-after text text-after : Bytes) (r : ℕ) : Type 0 where
-  pub wrote : Writes (reportLine (reportCall net node a out)) text text-after r
-  pub bytes : out-after ≡ reportCall net node a out .out
 
 -- a batch is applied, and its lines are written
 pub record Applies (net batch : Bytes) (a after : Areas) (text text-after : Bytes) (r : ℕ) : Type 0 where

@@ -1,17 +1,18 @@
 -- The operations of a script: what each prints, and what it leaves.
 use mathlib.Core.Path.{_≡_}
 use mathlib.Core.Bool.{cond}
+use mathlib.Core.Logic.{_⊎_}
 use mathlib.Core.List.{List, [], _∷_, _++_}
 use Prim.Native.Nat.{ℕ, _-_, _≤_}
 use lib.Dec.{eqb, ltb}
 use lib.ListN.{drop, getD, length, replicate, set, take}
 use Rattle.model.specs.Record.{Bytes}
 use Rattle.model.specs.Areas.{Areas, headWords}
-use Rattle.model.specs.Calls.{checkCall, longestReport, openCall, reportCall}
+use Rattle.model.specs.Calls.{ReportAnswer, Result, checkCall, longestReport, openCall, reportCall}
 use Rattle.model.specs.Text.{line}
 use Rattle.areas.specs.Lent.{lent}
 use Rattle.test_calls.specs.declared.script.Operation.{Operation}
-use Rattle.test_calls.specs.Lines.{Applies, Writes, checkLine, reportLine, verdictLine}
+use Rattle.test_calls.specs.Lines.{Applies, Writes, checkLine, checked, reportLine, verdictLine}
 
 -- ---- kinds
 
@@ -41,6 +42,24 @@ kinds =
 -- an operation's kind, by its number; any other clears
 abbrev pub kindOf : ℕ → Kind
 kindOf number = getD kinds number Clear
+
+-- the number of a kind that may write an area
+abbrev pub Changing : ℕ → Type 0
+Changing number = (number ≡ 3) ⊎ (number ≡ 4) ⊎ (number ≡ 8) ⊎ (number ≡ 11) ⊎ (number ≡ 12)
+
+-- the number of a kind that reads the areas
+abbrev pub Asking : ℕ → Type 0
+Asking number = (number ≡ 5) ⊎ (number ≡ 6) ⊎ (number ≡ 9) ⊎ (number ≡ 10)
+
+-- any other number
+abbrev pub Showing : ℕ → Type 0
+Showing number = (Changing number → ⊥) × (Asking number → ⊥)
+
+-- a number for what a kind does with the areas
+pub record Grouped (number r : ℕ) : Type 0 where
+  pub writes : r ≡ 1 → Changing number
+  pub reads : r ≡ 2 → Asking number
+  pub neither : (r ≡ 1 → ⊥) → (r ≡ 2 → ⊥) → Showing number
 
 -- the bytes that are lent for a report: as many as asked for, at most those of the longest
 abbrev pub roomOf : ℕ → ℕ
@@ -74,6 +93,35 @@ stored area i v a =
     cond (eqb area 0) (withRows (set (a .rows) i v) a)
     (cond (eqb area 1) (withGained (set (a .gained) i v) a)
     (cond (eqb area 2) (withLost (set (a .lost) i v) a) (withHead (set (a .head) i v) a)))
+
+-- ---- calls by their numbers
+
+-- a result with these rows
+abbrev pub resultRows : List ℕ → Result → Result
+resultRows l r = record { verdict = r .verdict; areas = withRows l (r .areas) }
+
+-- a result with this head
+abbrev pub resultHead : List ℕ → Result → Result
+resultHead l r = record { verdict = r .verdict; areas = withHead l (r .areas) }
+
+-- the areas opened, by 8 and 11 with an area too short, which keeps its words
+abbrev pub openedBy : ℕ → Bytes → Areas → Result
+openedBy number net a =
+    cond (eqb number 8) (resultRows (a .rows) (openCall net (withRows short a)))
+    (cond (eqb number 11) (resultHead (a .head) (openCall net (withHead short a))) (openCall net a))
+
+-- a report's answer, with the lent bytes behind its own
+abbrev pub answerBefore : Bytes → ReportAnswer → ReportAnswer
+answerBefore rest r = record { verdict = r .verdict; size = r .size; out = r .out ++ rest }
+
+-- the check's answer by 5 and 9, else a report's; with an area too short but by 5 and 6
+abbrev pub askedBy : ℕ → Operation → Bytes → Areas → Bytes → ReportAnswer
+askedBy number op net a out =
+    cond (eqb number 5) (checked (checkCall net a) out)
+    (cond (eqb number 6)
+    (answerBefore (drop (roomOf (op .value)) out) (reportCall net (op .index) a (take (roomOf (op .value)) out)))
+    (cond (eqb number 9) (checked (checkCall net (withGained short a)) out)
+    (reportCall net (op .index) (withLost short a) out)))
 
 -- ---- an operation, with the network, its own text, the areas and the bytes that are lent for a report
 

@@ -6,28 +6,28 @@ mod values;
 ghost use mathlib.Core.Path.{_≡_};
 ghost use Prim.Native.Nat.{_≤_};
 ghost use lib.ListN.{length};
+ghost use Rattle.model.specs.Record.{Bytes};
+ghost use Rattle.model.specs.Areas.{Areas};
 ghost use Rattle.model.specs.Calls.{longestReport};
 ghost use Rattle.areas.specs.Lent.{lent};
-ghost use Rattle.test_calls.specs.Operations.{Runs, kindOf, roomOf, stored};
+ghost use Rattle.test_calls.specs.Operations.{Changing, Grouped, Runs, Showing, kindOf, stored};
 use areas::AREA;
 use areas::HEAD;
 use libc::STDOUT_FILENO;
 use script::Operation;
+use values::TEXT;
 use values::VALUES;
 
 // The kind of an operation that holds a network.
 const NETWORK: usize = 2;
 
-// The words of an area that is too short.
-const SHORT: usize = HEAD - 1;
-
 // A word of an area set, if it is there: nothing is printed.
 fn store_word(
     op: Operation,
-    rows: &mut [u32],
-    gained: &mut [u32],
-    lost: &mut [u32],
-    head: &mut [u32],
+    rows: &mut [u32; AREA],
+    gained: &mut [u32; AREA],
+    lost: &mut [u32; AREA],
+    head: &mut [u32; HEAD],
 ) -> usize
     ensures word { λ _. ⌜ lent (now (rows .exit)) (now (gained .exit)) (now (lost .exit)) (now (head .exit))
         ≡ stored (op .area) (op .index) (op .value)
@@ -43,16 +43,59 @@ fn store_word(
     }
 }
 
-// The bytes that are lent for a report: as many as asked for, if there are so many.
-fn room(asked: u32) -> usize
-    ensures size { λ r. ⌜ r ≡ roomOf asked ⌝ }
-    ensures inside { λ r. ⌜ r ≤ longestReport ⌝ }
+// What an operation does with the areas, by its kind: 1 if it may write one, 2 if it reads them, 0 if neither.
+fn group_of(kind: usize) -> usize
+    ensures { λ r. ⌜ Grouped kind r ⌝ }
 {
-    let n = asked as usize;
-    if n < VALUES {
-        return n;
+    match kind {
+        3 | 4 | 8 | 11 | 12 => 1,
+        5 | 6 | 9 | 10 => 2,
+        _ => 0,
     }
-    VALUES
+}
+
+// An operation that may write an area, with the network and its own text.
+fn change(
+    net: &[u8],
+    part: &[u8],
+    op: Operation,
+    rows: &mut [u32; AREA],
+    gained: &mut [u32; AREA],
+    lost: &mut [u32; AREA],
+    head: &mut [u32; HEAD],
+    text: &mut [u8; TEXT],
+) -> usize
+    requires { ⌜ Changing (op .kind) ⌝ }
+    ensures { λ r. ⌜ ((out : Bytes) → Runs (kindOf (op .kind)) op (now (net .entry)) (now (part .entry))
+        (lent (now (rows .entry)) (now (gained .entry)) (now (lost .entry)) (now (head .entry)))
+        (lent (now (rows .exit)) (now (gained .exit)) (now (lost .exit)) (now (head .exit)))
+        out out (now (text .entry)) (now (text .exit)) r) ⌝ }
+{
+    let kind = op.kind;
+    match kind {
+        3 => store_word(op, rows, gained, lost, head),
+        12 => runs::apply_lines(net, part, rows, gained, lost, head, text),
+        _ => {
+            let v = runs::opened(net, kind, rows, gained, lost, head);
+            values::verdict_line(text, v)
+        }
+    }
+}
+
+// An operation without a call.
+fn show(part: &[u8], op: Operation, out: &mut [u8], text: &mut [u8; TEXT]) -> usize
+    requires { ⌜ Showing (op .kind) × (length (now part) ≤ 65536) × (length (now out) ≡ longestReport) ⌝ }
+    ensures { λ r. ⌜ ((net : Bytes) (a : Areas) → Runs (kindOf (op .kind)) op net (now (part .entry)) a a
+        (now (out .entry)) (now (out .exit)) (now (text .entry)) (now (text .exit)) r) ⌝ }
+{
+    let kind = op.kind;
+    let size = values::room(op.value);
+    match kind {
+        1 => bytes::copy(part, text),
+        2 => 0,
+        7 => values::values_line(text, 0, b"bytes", &out[..size], &[]),
+        _ => values::clear(out),
+    }
 }
 
 // An operation with the network and its own text: what it prints is written from the first byte on.
@@ -60,38 +103,27 @@ fn run(
     net: &[u8],
     part: &[u8],
     op: Operation,
-    rows: &mut [u32],
-    gained: &mut [u32],
-    lost: &mut [u32],
-    head: &mut [u32],
+    rows: &mut [u32; AREA],
+    gained: &mut [u32; AREA],
+    lost: &mut [u32; AREA],
+    head: &mut [u32; HEAD],
     out: &mut [u8],
-    text: &mut [u8],
+    text: &mut [u8; TEXT],
 ) -> usize
-    requires { ⌜ (length (now part) ≤ 65536) × (length (now head) ≤ longestReport) × (length (now out) ≡ longestReport)
-        × (length (now text) ≡ 65536) ⌝ }
+    requires { ⌜ (length (now part) ≤ 65536) × (length (now out) ≡ longestReport) ⌝ }
     ensures { λ r. ⌜ Runs (kindOf (op .kind)) op (now (net .entry)) (now (part .entry))
         (lent (now (rows .entry)) (now (gained .entry)) (now (lost .entry)) (now (head .entry)))
         (lent (now (rows .exit)) (now (gained .exit)) (now (lost .exit)) (now (head .exit)))
         (now (out .entry)) (now (out .exit)) (now (text .entry)) (now (text .exit)) r ⌝ }
 {
-    let kind = op.kind;
-    let node = op.index;
-    let size = room(op.value);
-    let mut short = [0u32; SHORT];
-    match kind {
-        1 => bytes::copy(part, text),
-        2 => 0,
-        3 => store_word(op, rows, gained, lost, head),
-        4 => runs::open_line(net, rows, gained, lost, head, text),
-        5 => runs::check_line(net, rows, gained, lost, head, text),
-        6 => runs::report_line(net, node, rows, gained, lost, head, &mut out[..size], text),
-        7 => values::values_line(text, 0, b"bytes", &out[..size], &[]),
-        8 => runs::open_line(net, &mut short, gained, lost, head, text),
-        9 => runs::check_line(net, rows, &short, lost, head, text),
-        10 => runs::report_line(net, node, rows, gained, &short, head, out, text),
-        11 => runs::open_line(net, rows, gained, lost, &mut short, text),
-        12 => runs::apply_lines(net, part, rows, gained, lost, head, text),
-        _ => values::clear(out),
+    let group = group_of(op.kind);
+    match group {
+        1 => change(net, part, op, rows, gained, lost, head, text),
+        2 => {
+            let v = runs::asked(net, op, rows, gained, lost, head, out);
+            values::answer_line(text, v)
+        }
+        _ => show(part, op, out, text),
     }
 }
 

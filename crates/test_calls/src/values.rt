@@ -1,17 +1,37 @@
 // Lines of bytes and words, and the bytes that are lent for a report.
 ghost use mathlib.Core.Path.{_≡_};
-ghost use mathlib.Core.List.{_++_};
+ghost use mathlib.Core.List.{[], _∷_, _++_};
 ghost use Prim.Native.Nat.{_+_, _*_, _≤_, _<_};
 ghost use lib.ListN.{length, getD, replicate};
 ghost use lib.Seq.{sets};
 ghost use Rattle.model.specs.Text.{line};
+ghost use Rattle.verdicts.specs.Verdicts.{verdictOf};
 ghost use Rattle.lines.specs.Written.{PutLine};
 ghost use Rattle.model.specs.Calls.{longestReport};
+ghost use Rattle.test_calls.specs.Lines.{Writes, verdictLine};
+ghost use Rattle.test_calls.specs.Operations.{roomOf};
+use reporting::ReportAnswer;
 use rows::MAX_ROWS;
 use rows::MAX_WIDTH;
+use verdicts::Verdict;
 
 // The most numbers of a line: a report's bytes.
 pub(crate) const VALUES: usize = 2 * MAX_ROWS * (6 + 4 * MAX_WIDTH);
+
+// The bytes of a buffer for what is printed.
+pub(crate) const TEXT: usize = 65536;
+
+// The bytes that are lent for a report: as many as asked for, if there are so many.
+pub(crate) fn room(asked: u32) -> usize
+    ensures size { λ r. ⌜ r ≡ roomOf asked ⌝ }
+    ensures inside { λ r. ⌜ r ≤ longestReport ⌝ }
+{
+    let n = asked as usize;
+    if n < VALUES {
+        return n;
+    }
+    VALUES
+}
 
 // One of some bytes and then some words.
 fn value_at(bytes: &[u8], words: &[u32], k: usize) -> usize
@@ -55,6 +75,20 @@ pub(crate) fn values_line(
     let mut numbers = [0usize; VALUES];
     values(bytes, words, &mut numbers);
     lines::put_line_at(text, at, word, &numbers[..size])
+}
+
+// The line of a verdict.
+pub(crate) fn verdict_line(text: &mut [u8; TEXT], v: Verdict) -> usize
+    ensures { λ r. ⌜ Writes (verdictLine (verdictOf v)) (now (text .entry)) (now (text .exit)) r ⌝ }
+{
+    lines::put_line(text, b"", &[v.number, v.place])
+}
+
+// The line of a report's verdict and size.
+pub(crate) fn answer_line(text: &mut [u8; TEXT], v: ReportAnswer) -> usize
+    ensures { λ r. ⌜ Writes (line [] (v .number ∷ v .place ∷ v .size ∷ [])) (now (text .entry)) (now (text .exit)) r ⌝ }
+{
+    lines::put_line(text, b"", &[v.number, v.place, v.size])
 }
 
 // The bytes that are lent for a report set to 0: nothing is printed.

@@ -6,22 +6,14 @@ use Prim.Native.Nat.{ℕ, _-_, _≤_}
 use native.Mathlib.Omega.{arith}
 use lib.ListN.{drop, length, take}
 use lib.Seq.{length-take-le}
-use Rattle.model.specs.Areas.{areaSize, headWords}
 use Rattle.model.specs.Calls.{longestReport}
-use Rattle.test_calls.proofs.Ran.{length-take-small}
+use Rattle.test_calls.proofs.Ran.{length-take-small, text-kept}
 use Rattle.test_calls.proofs.main.Statement.{statement}
 use Rattle.test_calls.proofs.main.Tie as tie
-use Rattle.test_calls.proofs.main.Reads as reads
-use Rattle.test_calls.proofs.main.Lts as lts
-use Rattle.io.proofs.large_buffer.Reads as large-buffer-reads
-use Rattle.io.proofs.read_full.Reads as read-full-reads
-use Rattle.io.proofs.write_all.Reads as write-all-reads
-use Rattle.test_calls.proofs.run.Reads as run-reads
-use Rattle.test_calls.proofs.script.operation_at.Reads as operation-at-reads
 
 abbrev Inv-loop : tie.InvT-loop
 Inv-loop input n text₀ out₀ rows₀ gained₀ lost₀ head₀ from₀ to₀ at₀ text out rows gained lost head from to at = (length input ≡ 65536) × (n ≤ 65536) × (from ≤ to) × (to ≤ n) × (length text
-    ≡ 65536) × (length out ≡ longestReport) × (length rows ≡ areaSize) × (length gained ≡ areaSize) × (length lost ≡ areaSize) × (length head ≡ headWords)
+    ≡ 65536) × (length out ≡ longestReport)
 
 abbrev μ-loop : tie.MeasureT-loop
 μ-loop input n text₀ out₀ rows₀ gained₀ lost₀ head₀ from₀ to₀ at₀ text out rows gained lost head from to at = n - at
@@ -64,7 +56,8 @@ operation-at-requires : tie.Need-operation-at-requires Inv-loop μ-loop
 operation-at-requires c κs = search needs
 
 sub-run : tie.Need-sub-run Inv-loop μ-loop
-sub-run c = let j = joined (c .before .before) in j .0
+sub-run c = let j = joined (c .before .before) in
+    j .0
 
 part-run-start : tie.Need-part-run-start Inv-loop μ-loop
 part-run-start c = let i = c .before .before .before .before .before .before .before .loop .inv in
@@ -81,31 +74,17 @@ part-run-end c = let i = c .before .before .before .before .before .before .befo
     omega (arith, j .1, n)
 
 sub-run-2 : tie.Need-sub-run-2 Inv-loop μ-loop
-sub-run-2 c = let w = c .before .before .before .before .before .operation-at .ensures in w .text
+sub-run-2 c = c .before .before .before .before .before .operation-at .ensures .text
 
 part-run-start-2 : tie.Need-part-run-start-2 Inv-loop μ-loop
-part-run-start-2 c = let w = c .before .before .before .before .before .operation-at .ensures in omega (arith, w .text, w .whole)
+part-run-start-2 c = let w = c .before .before .before .before .before .operation-at .ensures in
+    omega (arith, w .text, w .whole)
 
 part-run-end-2 : tie.Need-part-run-end-2 Inv-loop μ-loop
-part-run-end-2 c = let w = c .before .before .before .before .before .operation-at .ensures in w .whole
+part-run-end-2 c = c .before .before .before .before .before .operation-at .ensures .whole
 
 slice-aggregate-run : tie.Need-slice-aggregate-run Inv-loop μ-loop
 slice-aggregate-run c = search needs
-
-slice-aggregate-run-2 : tie.Need-slice-aggregate-run-2 Inv-loop μ-loop
-slice-aggregate-run-2 c = search needs
-
-slice-aggregate-run-3 : tie.Need-slice-aggregate-run-3 Inv-loop μ-loop
-slice-aggregate-run-3 c = search needs
-
-slice-aggregate-run-4 : tie.Need-slice-aggregate-run-4 Inv-loop μ-loop
-slice-aggregate-run-4 c = search needs
-
-slice-aggregate-run-5 : tie.Need-slice-aggregate-run-5 Inv-loop μ-loop
-slice-aggregate-run-5 c = search needs
-
-slice-aggregate-run-6 : tie.Need-slice-aggregate-run-6 Inv-loop μ-loop
-slice-aggregate-run-6 c = search needs
 
 run-requires : tie.Need-run-requires Inv-loop μ-loop
 run-requires c κs = let i = c .before .before .before .before .before .before .before .before .before .before .before .before .before .before .before .loop .inv in
@@ -123,65 +102,48 @@ run-requires c κs = let i = c .before .before .before .before .before .before .
         n,
         i .1,
       ),
-      omega (arith, i .9),
       i .5,
-      i .4,
     )
 
 array-share-prefix-text : tie.Need-array-share-prefix-text Inv-loop μ-loop
 array-share-prefix-text c = omega (
   arith,
-  c .before .before .before .before .before .before .run .ensures .fits,
-  c .before .before .before .before .before .before .before .before .before
-      .before .before .before .before .before .before .before .before .before .before .before .before .before .loop .inv .4,
+  c .before .run .ensures .fits,
+  c .before .before .before .before .before .before .before .before .before .before .before .before .before .before
+      .before .before .before .loop .inv .4,
+  text-kept (c .before .run .ensures),
 )
 
 slice-aggregate-write-all : tie.Need-slice-aggregate-write-all Inv-loop μ-loop
-slice-aggregate-write-all c = sym (length-take-le (c .before .before .before .before .before .before .before .run .result) (c .before .before .before .before .before .before .before .run
-    .last .1 .1 .1 .1 .1 .1 .1 .1 .0) (omega (
-      arith,
-      c .before .before .before .before .before .before .before .run .ensures .fits,
-      c .before .before .before .before .before .before .before
-          .run .kept .1 .1 .1 .1 .1 .1 .1 .1 .0,
-    )))
+slice-aggregate-write-all c = sym (length-take-le (c .before .before .run .result) (c .before .before .run .last .1 .1 .1 .1 .1 .1 .1 .1 .0) (omega (
+  arith,
+  c .before .before .run .ensures
+      .fits,
+  text-kept (c .before .before .run .ensures),
+)))
 
 write-all-requires : tie.Need-write-all-requires Inv-loop μ-loop
 write-all-requires c κs = search needs
 
 loop-less : tie.Need-loop-less Inv-loop μ-loop
-loop-less c = let i = c .before .before .before .before .before .before .before .before .before .before .before .before .before .before .before .before .before .before .before .before
-    .before .before .before .before .loop .inv in
-    let w = c .before .before .before .before .before .before .before .before .before .before .before .before .before .before .before .before .before .before .before .before .before
-    .operation-at .ensures in
+loop-less c = let i = c .before .before .before .before .before .before .before .before .before .before .before .before .before .before .before .before .before .before .before .loop .inv in
+    let w = c .before .before .before .before .before .before .before .before .before .before .before .before .before .before .before .before .operation-at .ensures in
     let n = size (c .before .before .before .before .before .before .before .before .before .before .before .before .before .before .before .before .before .before .before .before .before
-    .before .before .before .before .before .before .read-full .last .1 .0) (c .before .before .before .before .before .before .before .before .before .before .before .before .before
-    .before .before .before .before .before .before .before .before .before .before .before .before .before .before .read-full .result) (i .0) (i .1) in
+    .before .read-full .last .1 .0) (c .before .before .before .before .before .before .before .before .before .before .before .before .before .before .before .before .before .before
+    .before .before .before .before .read-full .result) (i .0) (i .1) in
     omega (
       arith,
       w .after,
       w .whole,
       n,
       c .before .before .before .before .before .before .before .before .before .before .before .before .before .before .before .before .before .before
-          .before .before .before .before .before .loop-test .taken,
+          .loop-test .taken,
     )
 
 loop-again : tie.Need-loop-again Inv-loop μ-loop
-loop-again c = let i = c .before .before .before .before .before .before .before .before .before .before .before .before .before .before .before .before .before .before .before .before
-    .before .before .before .before .loop .inv in
-    let j = joined (c .before .before .before .before .before .before .before .before .before .before .before .before .before .before .before .before .before .before .before) in
-    let k = c .before .before .before .before .before .before .before .before .run .kept in (
-      i .0,
-      i .1,
-      j .0,
-      j .1,
-      k .1 .1 .1 .1 .1 .1 .1 .1 .0 ∙ i .4,
-      k .1 .1 .1 .1 .1 .1 .1 .0 ∙ i .5,
-      k .1 .1 .1 .0 ∙ i .6,
-      k .1 .1 .1 .1 .0 ∙ i .7,
-      k .1 .1 .1 .1 .1 .0 ∙ i .8,
-      k .1 .1 .1 .1
-          .1 .1 .0 ∙ i .9,
-    )
+loop-again c = let i = c .before .before .before .before .before .before .before .before .before .before .before .before .before .before .before .before .before .before .before .loop .inv in
+    let j = joined (c .before .before .before .before .before .before .before .before .before .before .before .before .before .before) in
+    (i .0, i .1, j .0, j .1, text-kept (c .before .before .before .run .ensures) ∙ i .4, c .before .before .before .run .kept .1 .1 .1 .1 .1 .1 .1 .0 ∙ i .5)
 
 returns : tie.Need-returns Inv-loop μ-loop
 returns c = search needs
@@ -207,11 +169,6 @@ main-spec =
     part-run-start-2
     part-run-end-2
     slice-aggregate-run
-    slice-aggregate-run-2
-    slice-aggregate-run-3
-    slice-aggregate-run-4
-    slice-aggregate-run-5
-    slice-aggregate-run-6
     run-requires
     array-share-prefix-text
     slice-aggregate-write-all

@@ -1,10 +1,8 @@
-use Rattle.test_calls.proofs.Ran.{stored-rows, stored-gained, stored-lost, stored-head}
 use Rattle.areas.specs.Lent.{lent}
+use Rattle.test_calls.proofs.Ran.{stored-gained, stored-head, stored-lost, stored-rows}
 use borrow.Author.Needs.{needs}
 use Rattle.test_calls.proofs.store_word.Statement.{statement}
 use Rattle.test_calls.proofs.store_word.Tie as tie
-use Rattle.test_calls.proofs.store_word.Reads as reads
-use Rattle.test_calls.proofs.store_word.Lts as lts
 
 store-requires : tie.Need-store-requires
 store-requires c κs = search needs
@@ -18,45 +16,31 @@ store-requires-3 c κs = search needs
 store-requires-4 : tie.Need-store-requires-4
 store-requires-4 c κs = search needs
 
-same-length : tie.Need-same-length
-same-length c = search needs
-
 returns : tie.Need-returns
-returns c = let a = c .before .before .before .before .before .before .before .before .before .args in (
-  stored-rows (a .op .area) (a .op .index) (a .op .value) (lent (a .rows .now)
-      (a .gained .now) (a .lost .now) (a .head .now)) (c .before .before .before .before .match .keys1) (c .before .before .store .ensures .0),
-  c .before .before .store .ensures .1,
+returns c = let a = c .before .before .before .args in (
+  stored-rows (a .op .area) (a .op .index) (a .op .value) (lent (a .rows .now) (a .gained .now) (a .lost .now) (a .head .now)) (c .before .before .match .keys1) (c .store .ensures .0),
+  c
+      .store .ensures .1,
 )
-
-same-length-2 : tie.Need-same-length-2
-same-length-2 c = search needs
 
 returns-2 : tie.Need-returns-2
-returns-2 c = let a = c .before .before .before .before .before .before .before .before .before .args in (
-  stored-gained (a .op .area) (a .op .index) (a .op .value) (lent (a .rows .now)
-      (a .gained .now) (a .lost .now) (a .head .now)) (c .before .before .before .before .match .keys2) (c .before .before .store2 .ensures .0),
-  c .before .before .store2 .ensures .1,
+returns-2 c = let a = c .before .before .before .args in (
+  stored-gained (a .op .area) (a .op .index) (a .op .value) (lent (a .rows .now) (a .gained .now) (a .lost .now) (a .head .now)) (c .before .before .match .keys2) (c .store2 .ensures
+      .0),
+  c .store2 .ensures .1,
 )
-
-same-length-3 : tie.Need-same-length-3
-same-length-3 c = search needs
 
 returns-3 : tie.Need-returns-3
-returns-3 c = let a = c .before .before .before .before .before .before .before .before .before .args in (
-  stored-lost (a .op .area) (a .op .index) (a .op .value) (lent (a .rows .now)
-      (a .gained .now) (a .lost .now) (a .head .now)) (c .before .before .before .before .match .keys3) (c .before .before .store3 .ensures .0),
-  c .before .before .store3 .ensures .1,
+returns-3 c = let a = c .before .before .before .args in (
+  stored-lost (a .op .area) (a .op .index) (a .op .value) (lent (a .rows .now) (a .gained .now) (a .lost .now) (a .head .now)) (c .before .before .match .keys3) (c .store3 .ensures .0),
+  c .store3 .ensures .1,
 )
 
-same-length-4 : tie.Need-same-length-4
-same-length-4 c = search needs
-
 returns-4 : tie.Need-returns-4
-returns-4 c = let a = c .before .before .before .before .before .before .before .before .before .args in (
-  stored-head (a .op .area) (a .op .index) (a .op .value) (lent (a .rows .now)
-      (a .gained .now) (a .lost .now) (a .head .now)) (c .before .before .before .before .match .rest .0 .0 .1) (c .before .before .before .before .match .rest .0 .1)
-      (c .before .before .before .before .match .rest .1) (c .before .before .store4 .ensures .0),
-  c .before .before .store4 .ensures .1,
+returns-4 c = let a = c .before .before .before .args in (
+  stored-head (a .op .area) (a .op .index) (a .op .value) (lent (a .rows .now) (a .gained .now) (a .lost .now) (a .head .now)) (c .before .before .match .rest .0 .0 .1) (c .before
+      .before .match .rest .0 .1) (c .before .before .match .rest .1) (c .store4 .ensures .0),
+  c .store4 .ensures .1,
 )
 
 pub store-word-spec : {M : Type 1} → statement M
@@ -67,11 +51,7 @@ store-word-spec =
     store-requires-2
     store-requires-3
     store-requires-4
-    same-length
     returns
-    same-length-2
     returns-2
-    same-length-3
     returns-3
-    same-length-4
     returns-4)

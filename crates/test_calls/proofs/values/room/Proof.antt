@@ -1,10 +1,10 @@
 use native.Mathlib.Omega.{arith}
 use borrow.Author.Tests.{lt-ltb, le-ltb}
 use Rattle.model.specs.Calls.{longestReport}
-use Rattle.test_calls.proofs.room.Statement.{statement}
-use Rattle.test_calls.proofs.room.Tie as tie
-use Rattle.test_calls.proofs.room.Reads as reads
-use Rattle.test_calls.proofs.room.Lts as lts
+use Rattle.test_calls.proofs.values.room.Statement.{statement}
+use Rattle.test_calls.proofs.values.room.Tie as tie
+use Rattle.test_calls.proofs.values.room.Reads as reads
+use Rattle.test_calls.proofs.values.room.Lts as lts
 
 returns : tie.Need-returns
 returns c = (rw (lt-ltb (c .before .args .asked) longestReport (c .if1 .taken)), omega arith)
