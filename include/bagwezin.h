@@ -107,11 +107,11 @@ enum {
 /* The most bytes of stack that a call takes, for every input: below its caller's stack pointer, its return address included, and what memcpy and
  * memset take below theirs not. By the machine code (tests/stack_bounds) and measured (tests/c); here rounded up to 1024. */
 enum {
-    BAGWEZIN_STACK_READ = 17 * 1024,
-    BAGWEZIN_STACK_OPEN = 14 * 1024,
+    BAGWEZIN_STACK_READ = 16 * 1024,
+    BAGWEZIN_STACK_OPEN = 13 * 1024,
     BAGWEZIN_STACK_APPLY = 64 * 1024,
-    BAGWEZIN_STACK_CHECK = 26 * 1024,
-    BAGWEZIN_STACK_REPORT = 25 * 1024
+    BAGWEZIN_STACK_CHECK = 22 * 1024,
+    BAGWEZIN_STACK_REPORT = 21 * 1024
 };
 
 /* The number of an answer (0: not refused), and its lower half. */

@@ -87,8 +87,6 @@ cases =
     ([] ∷ put 2 (1 ∷ []) ∷ put 1 (1 ∷ []) ∷ [])
     (passes ∷ passes ∷ (13 ∷ 0 ∷ []) ∷ passes ∷ [])
     (ask stampsAre ((0 ∷ 2 ∷ 0 ∷ 0 ∷ 2 ∷ []) ∷ []) ∷ [])
-    -- "65 rows put in by 64 events and an older row, one removed in the next batch: refused first"
-    ∷ case networkS (put 0 (0 ∷ []) ∷ puts 1 64 ∷ remove 0 (0 ∷ []) ∷ []) (passes ∷ passes ∷ (14 ∷ 0 ∷ []) ∷ passes ∷ []) (ask (rowsOf 0) [] ∷ [])
     ∷ []
 
 cases-right : allOf isRight cases ≡ true

@@ -39,7 +39,8 @@ returns-2 c =
     let s = c .before .before .before .before .before .before .before .before .before .before .before .before .before .before in
     let a = s .args in
     let r = c .before .before .read-batch in
-    read-refused (a .net) (a .bytes .now) (a .rows .now) (a .gained .now) (a .lost .now) (a .head .now) (s .pre) (c .before .before .before .before .before .before .before .if1 .left) (verdictOf (r .result))
+    read-refused (a .net) (a .bytes .now) (a .rows .now) (a .gained .now) (a .lost .now) (a .head .now) (s .pre) (c .before .before .before .before .before .before .before .if1 .left)
+    (verdictOf (r .result))
     (r .ensures (record { net = a .net; built = s .pre .checkable .built; count-is = refl; widths-are = refl; levels-are = refl })) (ne-eqb (r .result .number) 0 (c .if2 .taken))
 
 advance-requires : tie.Need-advance-requires

@@ -73,8 +73,14 @@ mask-unordered-requires c κs =
     let then = kept .before in
     let start = then .before .before .before .before in
     let q = kept .used-columns in
-    let u = uses (start .args .how) (start .pre .2) 0 0 (start .args .how .split) (omega arith) (omega (arith, start .pre .2 .split)) (q .result) (q .ensures) in
-    (few-left (start .args .m) (start .args .n) (then .if1 .left), start .pre .0, omega (arith, u .mask .size), rw (take-all stride (q .result) (omega (arith, u .mask .size))) (u .mask .below), refl)
+    let u = uses (start .args .how) (start .pre .2) 0 0 (start .args .how .split) (omega arith) (omega (arith, start .pre .2 .split)) (q .result) (q .ensures) in (
+      few-left (start .args .m) (start .args .n) (then .if1 .left),
+      start .pre .0,
+      omega (arith, u .mask .size),
+      rw (take-all stride (q .result) (omega (arith, u .mask .size))) (u .mask
+          .below),
+      refl,
+    )
 
 slice-aggregate-join-masked : tie.Need-slice-aggregate-join-masked
 slice-aggregate-join-masked c = search needs

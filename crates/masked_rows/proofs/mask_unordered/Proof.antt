@@ -142,7 +142,8 @@ loop-again-2 c =
     let l = turn .loop in (
       omega (arith, test .loop-test .taken),
       masked-there (take stride (a .columns .now)) (a .input .now) (few-columns stride (a .columns .now) (omega arith) (start .pre .2)) (l .i) (l .count) (l .out)
-          (making .columns-row .result) (making .columns-row .ensures) (l .inv .1) (getD (l .last) (slotted .slot-of-row .result) 0) (sym (c .before .stands-at .ensures) ∙ not-false _ (c .if1 .left)),
+          (making .columns-row .result) (making .columns-row .ensures) (l .inv .1) (getD (l .last) (slotted .slot-of-row .result) 0) (sym (c .before .stands-at .ensures) ∙ not-false _ (c
+          .if1 .left)),
     )
 
 same-length : tie.Need-same-length Inv-loop μ-loop
