@@ -24,9 +24,6 @@ use Rattle.nodes.specs.declared.Node.the-variants.{Select, Project, Join, Set}
 use Rattle.nodes.specs.declared.Record.{Record}
 use Rattle.nodes.specs.declared.Record.the-variants.{Refused}
 
-pub no-first : (a b : Bool) → a ≡ false → (a && b) ≡ false
-no-first a b e = rw e
-
 pub no-second : (a b : Bool) → b ≡ false → (a && b) ≡ false
 no-second true b e = e
 no-second false b e = refl

@@ -82,8 +82,3 @@ module _ (w : ℕ) (old : List ℕ) (m : ℕ) (new : List ℕ) (n : ℕ) (picks 
   pub no-change : s .gained ≡ 0 → s .lost ≡ 0 → news ≡ olds
   no-change e f =
       differences-none olds news (ascending-holds olds (place-ascending w old m po)) (ascending-holds news (place-ascending w new n pn)) (sym came-count ∙ e) (sym gone-count ∙ f)
-
-  -- where the rows are the same none came and none went
-  pub same-none : news ≡ olds → (s .gained ≡ 0) × (s .lost ≡ 0)
-  same-none e =
-      (came-count ∙ ap (λ (l : Relation). length (differenceRows l olds)) e ∙ difference-self olds, gone-count ∙ ap (λ (l : Relation). length (differenceRows olds l)) e ∙ difference-self olds)

@@ -90,9 +90,6 @@ module _ (nodes : List Node) (fit : AllFit nodes) where
     abbrev pub agreesAt : ℕ → Bool
     agreesAt j = cond (isTable (nodeAt nodes j)) true (sameRows (rowsAt rels j) (givenBy nodes rels j))
 
-    abbrev freshRows : List Relation
-    freshRows = evaluate nodes (tablesOf nodes rels)
-
     fresh-own : (j : ℕ) → j < length nodes → isTable (nodeAt nodes j) ≡ true → rowsAt (evaluate nodes (tablesOf nodes rels)) j ≡ rowsAt rels j
     fresh-own j h e = fresh-table (tablesOf nodes rels) j h e ∙ tables-at nodes rels j size h ∙ rw e
 

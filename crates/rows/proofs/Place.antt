@@ -2,13 +2,13 @@
 -- Assumes nothing.
 use mathlib.Core.Path.{_≡_, refl, sym, ap, ap₂, _∙_}
 use mathlib.Core.Bool.{Bool, true, false, cond}
-use mathlib.Core.List.{List, [], _∷_, _++_, map, flatMap, append-assoc, append-nil}
+use mathlib.Core.List.{List, [], _∷_, _++_, map, flatMap, append-nil}
 use Prim.Native.Nat.{ℕ, zero, suc, _+_, _-_, _*_, _≤_, _<_, zero-le, suc-le-suc}
 use native.Mathlib.Nat.{not-suc-le-zero, le-of-suc-le-suc, mul-zero, add-zero, zero-add, add-mul, mul-assoc, mul-comm, mul-sub, le-refl}
 use native.Mathlib.Omega.{arith}
 use lib.Dec.{eqb, ltb}
-use lib.ListN.{length, getD, take, drop, replicate, length-append, length-replicate, getD-replicate, List·getD-append}
-use lib.Seq.{take-at, drop-at, length-take-le, getD-take, getD-drop, getD-append-add}
+use lib.ListN.{length, getD, take, drop, replicate, length-append, length-replicate, getD-replicate}
+use lib.Seq.{take-at, drop-at}
 use borrow.Author.Tests.{eqb-true, lt-ltb, le-ltb, ltb-true, ltb-false}
 use Rattle.model.specs.Row.{Row, Relation, countFrom, numbersBelow, Wide}
 use Rattle.model.specs.Areas.{Layout, placeWords, fields, rowStart, heldIn, allZero, unusedOf, unusedZero, padded, placeOf}
@@ -256,40 +256,3 @@ module _ (L : Layout) (w : ℕ) (area : List ℕ) (i : ℕ) (rel : Relation) (na
           zeros-at (map (padded (L .stride)) rel) (replicate (L .stride) 0) (L .capacity - length rel) k (rw (length-map-padded (L .stride) rel) past)
           (rw (length-map-padded (L .stride) rel) (omega arith)) in
           rw (whole-row k h ∙ zeros) (zeros-zero (L .stride))
-
--- ---- a place written back into its area
-
--- the area with the words from one place on replaced
-abbrev pub withPlace : Layout → List ℕ → ℕ → List ℕ → List ℕ
-withPlace L area i part = take (placeWords L * i) area ++ (part ++ drop (placeWords L * i + placeWords L) area)
-
--- the words of node i's place
-abbrev pub placeIn : Layout → List ℕ → ℕ → List ℕ
-placeIn L area i = take (placeWords L) (drop (placeWords L * i) area)
-
-module _ (L : Layout) (area part : List ℕ) (i : ℕ) (size : length part ≡ placeWords L) (long : placeWords L * i + placeWords L ≤ length area) where
-  -- inside it: the words written
-  pub written-inside : placeIn L (withPlace L area i part) i ≡ part
-  written-inside =
-      ap (take (placeWords L))
-      (drop-at (take (placeWords L * i) area) (part ++ drop (placeWords L * i + placeWords L) area) (placeWords L * i) (length-take-le (placeWords L * i) area (omega arith)))
-      ∙ take-at part (drop (placeWords L * i + placeWords L) area) (placeWords L) size
-
-  -- outside it every word is as it was
-  pub word-before : (k : ℕ) → k < placeWords L * i → getD (withPlace L area i part) k 0 ≡ getD area k 0
-  word-before k h =
-      List·getD-append (take (placeWords L * i) area) (part ++ drop (placeWords L * i + placeWords L) area) 0 k (rw (length-take-le (placeWords L * i) area (omega arith)) h)
-      ∙ getD-take (placeWords L * i) area k 0 h
-
-  pub word-behind : (k : ℕ) → placeWords L * i + placeWords L ≤ k → getD (withPlace L area i part) k 0 ≡ getD area k 0
-  word-behind k h =
-      let a : ℕ = placeWords L * i in
-      let b : ℕ = placeWords L in
-      let front : length (take (placeWords L * i) area) ≡ placeWords L * i = length-take-le (placeWords L * i) area (omega arith) in
-      let head : length (take (placeWords L * i) area ++ part) ≡ placeWords L * i + placeWords L = length-append (take (placeWords L * i) area) part ∙ rw (front, size) in
-      let split : placeWords L * i + placeWords L + (k - (placeWords L * i + placeWords L)) ≡ k = omega arith in
-      ap (λ (l : List ℕ). getD l k 0) (sym (append-assoc (take a area) part (drop (a + b) area)))
-      ∙ ap (λ (n : ℕ). getD (take a area ++ part ++ drop (a + b) area) n 0) (sym split ∙ ap (λ (n : ℕ). n + (k - (a + b))) (sym head))
-      ∙ getD-append-add (take a area ++ part) (drop (a + b) area) (k - (a + b)) 0
-      ∙ getD-drop (a + b) area (k - (a + b)) 0
-      ∙ ap (λ (n : ℕ). getD area n 0) split

@@ -4,7 +4,7 @@ use mathlib.Core.List.{List, [], _∷_, _++_, append-assoc, append-nil}
 use Prim.Native.Nat.{ℕ, zero, suc, _+_, _-_, _*_, _≤_, _<_, compare, Ordering·lt, Ordering·eq, Ordering·gt}
 use native.Mathlib.Nat.{suc-mul, zero-mul, add-zero}
 use native.Mathlib.Omega.{arith}
-use lib.ListN.{length-drop, replicate, replicate-append-replicate, length, getD, take, drop, length-append, take-append-drop, List·getD-append}
+use lib.ListN.{length-drop, replicate, replicate-append-replicate, length, getD, take, drop, length-append, take-append-drop}
 use lib.Seq.{paste, getD-drop, take-nil, drop-nil, getD-take}
 use lib.Seq.{sets, sets-eq, take-add, drop-drop, take-append-add, drop-append-add, length-take-le, drop-cons, take-at, drop-at}
 use Rattle.model.specs.Row.{Row, andThen, order, Wide}
@@ -213,20 +213,6 @@ pub rows-part : (w m : ℕ) (s : List ℕ) (j n : ℕ) → n * w ≤ m → rowsF
 rows-part w m s j n h =
     rows-ext w (take m (drop (j * w) s)) (drop (j * w) s) 0 n (λ k b. getD-take m (drop (j * w) s) k 0 (omega (arith, zero-mul w)))
     ∙ rows-drop w s j n
-
--- the rows in the front of a list, whatever comes after it
-pub rows-front : (w m : ℕ) (s t : List ℕ) (j n : ℕ) → m ≤ length s → j * w + n * w ≤ m → rowsFrom w (take m s ++ t) j n ≡ rowsFrom w s j n
-rows-front w m s t j n h g =
-    rows-ext w (take m s ++ t) s j n
-    (λ k b. List·getD-append (take m s) t 0 k (rw (length-take-le m s h) (omega arith)) ∙ getD-take m s k 0 (omega arith))
-
--- the rows behind a front
-pub rows-behind : (w : ℕ) (p t : List ℕ) (j n : ℕ) → length p ≡ j * w → rowsFrom w (p ++ t) j n ≡ rowsFrom w t 0 n
-rows-behind w p t j n h = sym (rows-drop w (p ++ t) j n) ∙ rw (drop-at p t (j * w) h)
-
-pub rows-stored-in : (w : ℕ) (l : List Row) (s t : List ℕ) → Wide w l → rowsFrom w (stored l s ++ t) 0 (length l) ≡ l
-unfolding stored
-rows-stored-in w l s t h = rw append-assoc (rows-words w l (drop (length (words l)) s ++ t) h)
 
 -- ---- blocks: what stands past the rows is 0
 
