@@ -26,7 +26,7 @@ use Rattle.model.specs.Algebra.{differenceRows}
 use Rattle.working.specs.Worked.{told, gainsAt, lossesAt, Worked}
 use Rattle.new_rows.specs.Working.{working, oldRows}
 use Rattle.places.specs.Places.{Place, relationIn}
-use Rattle.working.proofs.Differ.{fills-place}
+use Rattle.places.proofs.Same.{fills-place}
 use Rattle.laws.proofs.Sets.{ascending-holds}
 use Rattle.changes.proofs.Filled.{filled-later, filled-length, filled-more, filled-none}
 

@@ -12,12 +12,11 @@ use Rattle.places.specs.Places.{Place, relationIn}
 use Rattle.coherence.specs.Held.{Places, heldAt}
 use Rattle.laws.proofs.Sets.{and-first}
 use Rattle.model.specs.Row.{ascending, maxRows}
-use Rattle.model.specs.Areas.{goodPlace, layout, placeOf, rowCount, unusedZero, placeSize}
+use Rattle.model.specs.Areas.{goodPlace, layout, rowCount, unusedZero, placeSize}
 use Rattle.rows.proofs.Place.{length-held}
 use Rattle.rows.proofs.Placed.{part-good, part-held}
 use Rattle.areas.proofs.Good.{part-is}
 use Rattle.areas.specs.Lent.{placeAt}
-use Rattle.rows.proofs.Placed as placed
 
 module _ (ws : List ℕ) (n : ℕ) (rows head : List ℕ) (p : Places ws n rows head) (j : ℕ) (h : j < n) where
   few-rows : rowCount head j ≤ maxRows
@@ -42,10 +41,6 @@ module _ (ws : List ℕ) (n : ℕ) (rows head : List ℕ) (p : Places ws n rows 
   held-at =
       ap (λ (s : List ℕ). relationIn (getD ws j 0) s (rowCount head j)) (part-is rows j)
       ∙ part-held (getD ws j 0) (rowCount head j) rows j (p .narrow j) few-rows inside (p .good j h)
-
-  -- its words are those of its rows
-  pub words-at : placeAt rows j ≡ placeOf layout (heldAt ws head rows j)
-  words-at = part-is rows j ∙ placed.part-is (getD ws j 0) (rowCount head j) rows j (p .narrow j) few-rows inside (p .good j h)
 
   pub rows-few : length (heldAt ws head rows j) ≤ maxRows
   rows-few = rw (length-held layout (getD ws j 0) (rowCount head j) rows j) few-rows

@@ -15,7 +15,6 @@ use evaluation::Held;
 use network::Network;
 use network::Slot;
 use places::Made;
-use rows::STRIDE;
 
 // The width and the count of node i's rows.
 fn held(widths: &[usize], head: &[u32], i: usize) -> Held
@@ -65,12 +64,12 @@ fn rows_agree(slot: Slot, widths: &[usize], rows: &[u32], head: &[u32], i: usize
     let mut out = [0u32; PLACE];
     match evaluate_held(slot, widths, rows, head, i, &mut out) {
         Made::Over => false,
-        Made::Rows(count) => {
-            if head[ROW_COUNTS + i] as usize != count {
-                return false;
-            }
-            words::same_words(&rows[i * PLACE..i * PLACE + PLACE], &out, count * STRIDE)
-        }
+        Made::Rows(count) => places::same_rows(
+            &rows[i * PLACE..i * PLACE + PLACE],
+            head[ROW_COUNTS + i] as usize,
+            &out,
+            count,
+        ),
     }
 }
 

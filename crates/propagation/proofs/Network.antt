@@ -42,7 +42,7 @@ use Rattle.states.proofs.Batches.{batch-good}
 use Rattle.states.proofs.Fitted.{tables-fit, only-length}
 use Rattle.propagation.proofs.News.{new-wide, new-asc, new-table, new-derived, new-length}
 use Rattle.laws.proofs.Sets.{Ascending, ascending-true}
-use Rattle.working.proofs.Differ.{fills-place}
+use Rattle.places.proofs.Same.{fills-place}
 use Rattle.network.specs.declared.Slot.{Slot}
 use Rattle.tables.proofs.Acts.{accepted-folds, acts-fold, unnamed-folds}
 use Rattle.tables.specs.Fold.{foldRows}

@@ -1,5 +1,5 @@
 -- The rows that propagation gives: node by node, their form, and that from coherent rows they are the fresh evaluation. Assumes nothing.
-use mathlib.Core.Bool.{false, Bool, true, cond, _||_}
+use mathlib.Core.Bool.{false, Bool, true, cond, not, _||_}
 use mathlib.Core.Path.{_≡_, refl, _∙_, ap, sym, ap₂}
 use mathlib.Core.List.{List, []}
 use lib.ListN.{length, take, getD}
@@ -7,8 +7,9 @@ use Prim.Native.Nat.{ℕ, _<_, _≤_, zero, suc}
 use lib.Seq.{length-take-le, getD-take, ext-getD}
 use native.Mathlib.Omega.{arith}
 use native.Mathlib.Nat.{not-suc-le-zero, le-refl}
-use Rattle.model.specs.Row.{Relation, Wide}
-use Rattle.laws.proofs.Sets.{Ascending, ascending-holds}
+use borrow.Author.Tests.{not-false}
+use Rattle.model.specs.Row.{Relation, Wide, sameRows}
+use Rattle.laws.proofs.Sets.{Ascending, ascending-holds, sameRows-eq}
 use Rattle.model.specs.Network.{Node, AllFit, nodeAt, isTable, widths, leftOf, rightOf, evaluateOn}
 use Rattle.propagation.specs.Propagated.{propagated, nextOf, changedIn}
 use Rattle.laws.proofs.Build.{length-build, build-at, length-evaluate}
@@ -18,7 +19,10 @@ use Rattle.states.specs.Fitting.{Fitting}
 use Rattle.states.proofs.Tables.{Tables}
 use Rattle.laws.proofs.ByKind.{on-asc, on-wide}
 use Rattle.laws.proofs.Fits.{length-widths}
-use Rattle.working.proofs.Differ.{same-flag}
+
+-- rows that do not differ are the same
+same-flag : (a b : Relation) → not (sameRows a b) ≡ false → a ≡ b
+same-flag a b e = sameRows-eq a b (not-false (sameRows a b) e)
 
 module _ (nodes : List Node) (fit : AllFit nodes) (old copy : List Relation) where
   pub new-length : length (propagated nodes old copy) ≡ length nodes

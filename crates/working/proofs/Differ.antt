@@ -2,25 +2,21 @@
 use Prim.Native.Nat.{ℕ, _≤_, _*_, _<_, _+_, _-_}
 use mathlib.Core.List.{List, [], _++_, append-assoc}
 use mathlib.Core.Path.{_≡_, ap, sym, _∙_, refl}
-use mathlib.Core.Bool.{true, not, _&&_, Bool, false, true≢false, cond}
-use lib.ListN.{length, take, drop, getD, set, length-set, replicate}
+use mathlib.Core.Bool.{true, not, Bool, false, cond}
+use lib.ListN.{length, take, drop, getD, set, length-set}
 use lib.Seq.{take-all, getD-set-same, getD-set-other, set-getD, paste, length-paste}
 use borrow.Rule.Slice.PartMut.{putMid, post-is}
-use native.Mathlib.Nat.{le-refl, not-suc-le-zero}
+use native.Mathlib.Nat.{not-suc-le-zero}
 use native.Mathlib.Omega.{arith}
-use lib.Dec.{leb, ltb}
-use borrow.Author.Tests.{le-leb, ltb-true, ltb-false}
-use Rattle.places.specs.Places.{Place, Blank, relationIn, Fills}
-use Rattle.model.specs.Row.{Relation, sameRows, ascending, place, maxNodes, maxRows, maxWidth, Wide}
+use lib.Dec.{ltb}
+use borrow.Author.Tests.{ltb-true, ltb-false}
+use Rattle.places.specs.Places.{Place, Blank, relationIn}
+use Rattle.model.specs.Row.{Relation, sameRows, place, maxNodes, maxRows}
 use Rattle.model.specs.Algebra.{differenceRows}
-use Rattle.coherence.proofs.Agree.{sizes-differ, places-decide}
 use Rattle.states.proofs.Changes.{difference-self}
-use Rattle.places.proofs.Places.{place-count, place-wide, place-few, place-is, place-rest}
-use Rattle.words.specs.Runs.{sameFirst}
-use Rattle.laws.proofs.Sets.{Ascending, and-both, ascending-true, sameRows-eq}
-use Rattle.model.specs.Areas.{goodPlace, placeOf, layout, heldIn, unusedZero, areaSize, placeSize, stride}
-use Rattle.rows.proofs.Placed.{place-length}
-use Rattle.rows.proofs.Place.{place-reads, place-clean}
+use Rattle.places.proofs.Places.{place-few, place-is, place-rest}
+use Rattle.laws.proofs.Sets.{sameRows-eq}
+use Rattle.model.specs.Areas.{placeOf, layout, areaSize, placeSize, stride}
 use Rattle.rows.proofs.Words.{drop-zeros}
 use Rattle.areas.specs.Lent.{placeAt}
 use Rattle.rows.specs.Rows.{firstRows}
@@ -30,48 +26,6 @@ use Rattle.differences.proofs.Told.{told-within, came-rows, came-count, gone-ro
 use Rattle.working.specs.Worked.{Changes, told, SizedChanges, picksAt, gainsAt, lossesAt, Picked, Tells, KeepsTold, Untold, Puts}
 use Rattle.new_rows.specs.Working.{working}
 use Rattle.areas.proofs.Pasted.{pasted-before, pasted-here, pasted-after, place-pasted, place-other, place-counted}
-
--- rows that do not differ are the same
-pub same-flag : (a b : Relation) → not (sameRows a b) ≡ false → a ≡ b
-same-flag a b e = sameRows-eq a b (go (sameRows a b) e)
-  where
-    go : (t : Bool) → not t ≡ false → t ≡ true
-    go true f = refl
-    go false f = absurd (true≢false f)
-
-module _ (w : ℕ) (new : List ℕ) (n : ℕ) (old : List ℕ) (m : ℕ) (p : Place w new n) (q : Place w old m) where
-  abbrev a : Relation
-  a = relationIn w new n
-
-  abbrev b : Relation
-  b = relationIn w old m
-
-  pub place-counts : (n ≡ m → ⊥) → true ≡ not (sameRows (relationIn w new n) (relationIn w old m))
-  place-counts h = ap not (sym (sizes-differ a b (λ e. h (sym (place-count w new n p) ∙ e ∙ place-count w old m q))))
-
-  pub place-words-same : n ≡ m → sameFirst (n * stride) new old ≡ sameRows (relationIn w new n) (relationIn w old m)
-  place-words-same e =
-      places-decide w a b new old n (p .narrow) (place-wide w new n p) (place-wide w old m q) (rw (place-count w new n p) (place-few w new n p)) (sym (place-count w new n p))
-      (e ∙ sym (place-count w old m q)) (place-is w new n p) (place-is w old m q)
-
--- a relation that stands in a place is of good form there, and is read back
-pub fills-place : (w : ℕ) (rel : Relation) (out : List ℕ) (n : ℕ) → w ≤ maxWidth → Wide w rel → Ascending rel → Fills rel out n → Place w out n × (relationIn w out n ≡ rel)
-unfolding goodPlace
-fills-place w rel out n narrow wide asc f =
-    let few : length rel ≤ maxRows = rw (← f .count) (f .few) in
-    let long : length out ≡ placeSize = ap length (f .is) ∙ place-length w rel narrow wide few in
-    let whole : take placeSize (drop (placeSize * 0) out) ≡ placeOf layout rel = take-all placeSize out (rw long (le-refl placeSize)) ∙ f .is in
-    let back : heldIn layout w n out 0 ≡ rel = ap (λ (k : ℕ). heldIn layout w k out 0) (f .count) ∙ place-reads layout w out 0 rel narrow wide few (rw long (omega arith)) whole in
-    let clean : unusedZero layout w n out 0 ≡ true = ap (λ (k : ℕ). unusedZero layout w k out 0) (f .count)
-    ∙ place-clean layout w out 0 rel narrow wide few (rw long (omega arith)) whole in (
-      record {
-        long = long;
-        narrow = narrow;
-        good = and-both (leb n maxRows && ascending (heldIn layout w n out 0)) (unusedZero layout w n out 0)
-            (and-both (leb n maxRows) (ascending (heldIn layout w n out 0)) (le-leb n maxRows (f .few)) (ap ascending back ∙ ascending-true rel asc)) clean;
-      },
-      back,
-    )
 
 -- ---- changes told
 
@@ -179,14 +133,14 @@ module _ (w : ℕ) (ws out : List ℕ) (n : ℕ) (rows : List ℕ) (i m : ℕ) (
   flag-set t = getD-set-same changed i t false (omega (arith, few))
 
   -- the same rows: nothing more is written
-  pub put-same : getD changed i false ≡ false → Untold d i → (t : Bool) → t ≡ not (sameRows new old) → t ≡ false →
+  pub put-same : getD changed i false ≡ false → Untold d i → (t : Bool) → t ≡ sameRows new old → t ≡ true →
       Puts old new out n (working ws rows work counts changed) (working ws rows work (set counts i n) changed) d d i
   put-same u told t e z =
-      let flag : not (sameRows new old) ≡ false = sym e ∙ z in
-      let same : new ≡ old = same-flag new old flag in
+      let flag : sameRows new old ≡ true = sym e ∙ z in
+      let same : new ≡ old = sameRows-eq new old flag in
       record {
         counts = refl;
-        changed = sym (set-getD changed i false) ∙ ap (set changed i) (u ∙ sym flag);
+        changed = sym (set-getD changed i false) ∙ ap (set changed i) (u ∙ ap not (sym flag));
         place = ap (λ (t : Bool). placeAt (cond t work rows) i) u ∙ place-is w (placeAt rows i) m q ∙ ap (placeOf layout) (sym same) ∙ sym (place-is w out n p);
         work-long = work-long;
         work = λ j h k. refl;
@@ -195,7 +149,7 @@ module _ (w : ℕ) (ws out : List ℕ) (n : ℕ) (rows : List ℕ) (i m : ℕ) (
       }
 
   -- other rows: they stand in the working rows, in a place that was 0
-  pub put-other : (d′ : Changes) → (t : Bool) → t ≡ not (sameRows new old) → t ≡ true → Blank (placeAt work i) → (after : List ℕ) →
+  pub put-other : (d′ : Changes) → (t : Bool) → t ≡ sameRows new old → t ≡ false → Blank (placeAt work i) → (after : List ℕ) →
       after ≡ paste work (i * placeSize) (drop 0 out) (n * stride) → Tells old (placeAt rows i) new out d′ i → KeepsTold d d′ i →
       Puts old new out n (working ws rows work counts changed) (working ws rows after (set counts i n) (set changed i true)) d d′ i
   put-other d′ t e z blank after f told keeps =
@@ -207,7 +161,7 @@ module _ (w : ℕ) (ws out : List ℕ) (n : ℕ) (rows : List ℕ) (i m : ℕ) (
       let put : placeAt after i ≡ out = ap (λ (l : List ℕ). placeAt l i) whole ∙ place-pasted work out i fits long ∙ take-all placeSize out (omega (arith, p .long)) in
       record {
         counts = refl;
-        changed = ap (set changed i) (sym z ∙ e);
+        changed = ap (λ (s : Bool). set changed i (not s)) (sym z ∙ e);
         place = ap (λ (t : Bool). placeAt (cond t after rows) i) (flag-set true) ∙ put;
         work-long = ap length whole ∙ length-paste work (i * placeSize) out placeSize fits long ∙ work-long;
         work = λ j h k. ap (λ (l : List ℕ). placeAt l j) whole ∙ place-other work out i fits long j k;

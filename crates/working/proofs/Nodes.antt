@@ -25,7 +25,8 @@ use Rattle.tables.proofs.Acts.{fold-wide, fold-asc}
 use Rattle.coherence.specs.Held.{Derived}
 use Rattle.laws.proofs.ByKind.{on-wide, on-asc}
 use Rattle.rows.proofs.Place.{length-held}
-use Rattle.working.proofs.Differ.{fills-place, tells-none, keeps-all}
+use Rattle.places.proofs.Same.{fills-place}
+use Rattle.working.proofs.Differ.{tells-none, keeps-all}
 
 module _ (slot : Slot) (level : ℕ) (bs : Bytes) (head : List ℕ) (m : Working) (i : ℕ) (can : Workable slot level bs head m i) where
   w : ℕ

@@ -1,10 +1,10 @@
 // A node worked: its new rows put beside the old ones, if they are others, with their count and the change.
 ghost use mathlib.Core.Path.{_≡_};
-ghost use mathlib.Core.Bool.{true, false, not};
+ghost use mathlib.Core.Bool.{true, false};
 ghost use mathlib.Core.List.{List};
 ghost use Prim.Native.Nat.{ℕ, _*_, _≤_, _<_};
 ghost use lib.ListN.{length, getD, set};
-ghost use Rattle.model.specs.Row.{ascending, sameRows, maxNodes, maxRows};
+ghost use Rattle.model.specs.Row.{ascending, maxNodes, maxRows};
 ghost use Rattle.rows.specs.Rows.{firstRows};
 ghost use Rattle.places.specs.Places.{Place, Blank, relationIn};
 ghost use Rattle.network.specs.Reading.{slotNode};
@@ -36,18 +36,6 @@ fn must_work(slot: Slot, level: usize, i: usize, changed: &[bool], due: &mut [bo
     let must = worklist::input_changed(slot, changed);
     due[i] = must;
     must
-}
-
-// Whether the rows of a place are others than those of node i in the rows area.
-fn differs(new: &[u32], n: usize, rows: &[u32], i: usize, m: usize) -> bool
-    requires { ⌜ (i < maxNodes) × (n ≤ maxRows) × (areaSize ≤ length (now rows)) × (length (now new) ≡ placeSize) ⌝ }
-    ensures { λ r. ⌜ ((w : ℕ) → Place w (now (new .entry)) n → Place w (placeAt (now (rows .entry)) i) m →
-        r ≡ not (sameRows (relationIn w (now (new .entry)) n) (relationIn w (placeAt (now (rows .entry)) i) m))) ⌝ }
-{
-    if n != m {
-        return true;
-    }
-    !words::same_words(new, &rows[i * PLACE..i * PLACE + PLACE], n * STRIDE)
 }
 
 // The change from node i's rows in the rows area to those of a place told: the numbers of the rows that came and went,
@@ -109,7 +97,7 @@ fn put_node(
         (told (now (picks .entry)) (now (sizes .entry))) (told (now (picks .exit)) (now (sizes .exit))) i) ⌝ }
 {
     counts[i] = n as u32;
-    if !differs(out, n, rows, i, m) {
+    if places::same_rows(out, n, &rows[i * PLACE..i * PLACE + PLACE], m) {
         return;
     }
     changed[i] = true;
