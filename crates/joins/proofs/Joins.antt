@@ -1,21 +1,20 @@
 -- Join: the rows that pairs of rows make. Assumes nothing.
 use mathlib.Core.Path.{_≡_, refl, sym, ap, ap₂, _∙_}
-use mathlib.Core.Bool.{Bool, true, false, cond, _&&_}
+use mathlib.Core.Bool.{Bool, true, false, cond}
 use mathlib.Core.List.{List, [], _∷_, _++_, map, flatMap}
 use Prim.Native.Nat.{ℕ, _+_, _-_, _≤_, _<_}
 use native.Mathlib.Omega.{arith}
-use lib.Dec.{ltb, eqb}
+use lib.Dec.{ltb}
 use lib.ListN.{length, take, getD, List·getD-append, length-map}
 use lib.Seq.{getD-append-add}
 use borrow.Author.Tests.{ltb-true, ltb-false}
 use Rattle.model.specs.Row.{Row, Relation, keep, keepIf, maxWidth, Wide}
 use Rattle.model.specs.Algebra.{columnsOf, Pair, agree, joinOne, joinRows}
 use Rattle.model.specs.Areas.{padded, stride}
-use Rattle.laws.proofs.Sets.{and-first, and-second}
-use Rattle.model.specs.Network.{pairsBelow}
 use Rattle.rows.specs.Rows.{firstRows}
 use Rattle.laws.proofs.Widths.{wide-keep, wide-each}
 use Rattle.rows.proofs.Padding.{field-padded, keep-padded}
+use Rattle.keys.proofs.Keys.{agree-padded}
 use Rattle.nodes.specs.Nodes.{pairsOf}
 use Rattle.places.specs.Places.{relationIn, Place, Stored, Makes, insertAll}
 use Rattle.places.specs.declared.Made.{Made}
@@ -59,16 +58,6 @@ module _ (how : Joining) (fits : JoinFits how) where
 
   pub joined-from : (l : Row) (b : List Row) (right : List ℕ) (m : ℕ) → putUpTo (joinedIf how l) b right m ≡ insertAll (joinedWith how (firstRows right m) l) b
   joined-from l b right m = ap (λ (x : List Row). insertAll x b) (each-joined l (firstRows right m))
-
-agree-padded : (pairs : List Pair) (v w : ℕ) (l r : Row) → pairsBelow v w pairs ≡ true → length l ≡ v → length r ≡ w → agree pairs (padded stride l) (padded stride r) ≡ agree pairs l r
-agree-padded [] v w l r e f g = refl
-agree-padded (p ∷ pairs) v w l r e f g =
-    let b : (ltb (p .left) v && ltb (p .right) w) ≡ true = and-first (ltb (p .left) v && ltb (p .right) w) (pairsBelow v w pairs) e in
-    let hl : p .left < v = ltb-true (p .left) v (and-first (ltb (p .left) v) (ltb (p .right) w) b) in
-    let hr : p .right < w = ltb-true (p .right) w (and-second (ltb (p .left) v) (ltb (p .right) w) b) in
-    ap₂ {A = Bool} {B = Bool} {C = Bool} (λ x y. x && y)
-    (ap₂ {A = ℕ} {B = ℕ} {C = Bool} eqb (field-padded stride l (p .left) (rw f hl)) (field-padded stride r (p .right) (rw g hr)))
-    (agree-padded pairs v w l r (and-second (ltb (p .left) v && ltb (p .right) w) (pairsBelow v w pairs) e) f g)
 
 -- a column of the right row after the left one
 joined-cell : (v w : ℕ) (l r : Row) (c : ℕ) → length l ≡ v → length r ≡ w → c < v + w → joinedField v (padded stride l) (padded stride r) c ≡ getD (l ++ r) c 0

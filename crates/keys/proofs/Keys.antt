@@ -6,16 +6,18 @@ use mathlib.Core.Logic.{⊎-elim}
 use Prim.Native.Nat.{ℕ, zero, suc, _+_, _-_, _*_, _≤_, _<_}
 use native.Mathlib.Nat.{not-suc-le-zero, eq-or-lt-of-le, zero-add}
 use native.Mathlib.Omega.{arith}
-use lib.Dec.{eqb}
+use lib.Dec.{eqb, ltb}
 use lib.ListN.{length, getD, set, drop, List·getD-append, replicate}
 use lib.Seq.{getD-drop}
-use borrow.Author.Tests.{eqb-true, eqb-false, eq-eqb, ne-eqb}
+use borrow.Author.Tests.{eqb-true, eqb-false, eq-eqb, ne-eqb, ltb-true}
 use Rattle.model.specs.Row.{Row, numbersBelow, maxRows}
 use Rattle.model.specs.Algebra.{Pair, agree}
 use Rattle.model.specs.Areas.{padded, stride}
+use Rattle.model.specs.Network.{pairsBelow}
+use Rattle.laws.proofs.Sets.{and-first, and-second}
 use Rattle.nodes.specs.Nodes.{pairsOf}
 use Rattle.laws.proofs.Parts.{length-counted, counted-at, numbers-more, map-append}
-use Rattle.rows.proofs.Padding.{padded-more}
+use Rattle.rows.proofs.Padding.{padded-more, field-padded}
 use Rattle.rows.specs.Rows.{rowAt}
 use Rattle.keys.specs.Keys.{sideColumn, sideColumns, keyOf, FieldsFit, Keyed, KeyedRows}
 
@@ -67,6 +69,17 @@ keys-agree [] l r f g = refl
 keys-agree (p ∷ pairs) l r f g =
     parts-equal (getD l (p .left) 0) (getD r (p .right) 0) (keyOf (sideColumns 0 pairs) l) (keyOf (sideColumns 1 pairs) r) (f .0) (g .0)
     ∙ ap (λ (b : Bool). eqb (getD l (p .left) 0) (getD r (p .right) 0) && b) (keys-agree pairs l r (f .1) (g .1))
+
+-- rows agree where their words do
+pub agree-padded : (pairs : List Pair) (v w : ℕ) (l r : Row) → pairsBelow v w pairs ≡ true → length l ≡ v → length r ≡ w → agree pairs (padded stride l) (padded stride r) ≡ agree pairs l r
+agree-padded [] v w l r e f g = refl
+agree-padded (p ∷ pairs) v w l r e f g =
+    let b : (ltb (p .left) v && ltb (p .right) w) ≡ true = and-first (ltb (p .left) v && ltb (p .right) w) (pairsBelow v w pairs) e in
+    let hl : p .left < v = ltb-true (p .left) v (and-first (ltb (p .left) v) (ltb (p .right) w) b) in
+    let hr : p .right < w = ltb-true (p .right) w (and-second (ltb (p .left) v) (ltb (p .right) w) b) in
+    ap₂ {A = Bool} {B = Bool} {C = Bool} (λ x y. x && y)
+    (ap₂ {A = ℕ} {B = ℕ} {C = Bool} eqb (field-padded stride l (p .left) (rw f hl)) (field-padded stride r (p .right) (rw g hr)))
+    (agree-padded pairs v w l r (and-second (ltb (p .left) v && ltb (p .right) w) (pairsBelow v w pairs) e) f g)
 
 -- ---- keys one after the other
 

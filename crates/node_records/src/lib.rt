@@ -77,8 +77,10 @@ pub fn read_record<'a>(
     }
     let kind = records::u16_at(bytes, at + 2);
     match kind {
-        9 => read_watch(bytes, at, count, signs),
         1..=KINDS => {
+            if kind == 9 {
+                return read_watch(bytes, at, count, signs);
+            }
             if MAX_NODES <= count {
                 return Record::Refused(5);
             }
