@@ -9,7 +9,7 @@ use lib.ListN.{length, getD, take}
 use lib.Seq.{length-take-le, getD-take}
 use borrow.Author.Tests.{lt-ltb, le-ltb, le-leb, lt-leb, eq-eqb, ne-eqb, ltb-true, leb-true, eqb-true}
 use Rattle.model.specs.Record.{Bytes, kindAt, u32, lengthAt, fieldAt, fieldsAt}
-use Rattle.model.specs.Network.{hasShape, projectShape, joinShape, itemAt, itemFits, nodeFits, fitsOn, columnsBelow, pairsBelow, pairsAt, setAt, select, operandBelow, nodeItem}
+use Rattle.model.specs.Network.{hasShape, countedShape, joinShape, itemAt, itemFits, nodeFits, fitsOn, columnsBelow, pairsBelow, pairsAt, setAt, select, operandBelow, nodeItem}
 use Rattle.model.specs.Algebra.{Operand, constant, column}
 use Rattle.laws.proofs.Sets.{and-first, and-second}
 use Rattle.laws.proofs.ByKind.{item-narrow}
@@ -149,51 +149,53 @@ module _ (ws signs : List ℕ) (bs : Bytes) (at size : ℕ) (sized : size ≡ le
         reads-node ws signs bs at 3 (rw (← sized) (eq-eqb size 12 s)) (fits-select ws bs at (column (fieldAt bs at 3)) ∙ rw (e, ← is, ← other) (lt-ltb o (getD ws i 0) h))
         (Select i c k (Column o)) (rw (is, other, q, r)) (none-fit bs at)
 
--- ---- kind 4
+-- ---- one count
 
-module _ (bs : Bytes) (at size : ℕ) (sized : size ≡ lengthAt bs at) where
-  pub project-short : size < 8 → projectShape bs at ≡ false
-  unfolding projectShape
-  project-short h = rw (← sized, lt-leb 8 size h)
+module _ (k most each : ℕ) (bs : Bytes) (at size : ℕ) (sized : size ≡ lengthAt bs at) where
+  pub counted-short : size < 6 + 2 * k → countedShape k most each bs at ≡ false
+  unfolding countedShape
+  counted-short h = rw (← sized, lt-leb (6 + 2 * k) size h)
 
-  module _ (long : 8 ≤ size) (c : ℕ) (is : c ≡ fieldAt bs at 1) where
-    pub project-none : c < 1 → projectShape bs at ≡ false
-    unfolding projectShape
-    project-none h = rw (← sized, ← is, le-leb 8 size long, lt-leb 1 c h)
+  module _ (long : 6 + 2 * k ≤ size) (c : ℕ) (is : c ≡ fieldAt bs at k) where
+    pub counted-none : c < 1 → countedShape k most each bs at ≡ false
+    unfolding countedShape
+    counted-none h = rw (← sized, ← is, le-leb (6 + 2 * k) size long, lt-leb 1 c h)
 
-    pub project-many : 1 ≤ c → maxWidth < c → projectShape bs at ≡ false
-    unfolding projectShape
-    project-many h g = rw (← sized, ← is, le-leb 8 size long, le-leb 1 c h, lt-leb c maxWidth g)
+    pub counted-many : 1 ≤ c → most < c → countedShape k most each bs at ≡ false
+    unfolding countedShape
+    counted-many h g = rw (← sized, ← is, le-leb (6 + 2 * k) size long, le-leb 1 c h, lt-leb c most g)
 
-    pub project-size : 1 ≤ c → c ≤ maxWidth → eqb size (8 + 2 * c) ≡ projectShape bs at
-    unfolding projectShape
-    project-size h g = sym (rw (← sized, ← is, le-leb 8 size long, le-leb 1 c h, le-leb c maxWidth g))
+    pub counted-size : 1 ≤ c → c ≤ most → eqb size (6 + 2 * (k + each * c)) ≡ countedShape k most each bs at
+    unfolding countedShape
+    counted-size h g = sym (rw (← sized, ← is, le-leb (6 + 2 * k) size long, le-leb 1 c h, le-leb c most g))
 
--- the counts of a project's record, and its length
-pub record ProjectShape (bs : Bytes) (at : ℕ) : Type 0 where
-  pub size : lengthAt bs at ≡ 8 + 2 * fieldAt bs at 1
-  pub few : fieldAt bs at 1 ≤ maxWidth
-  pub some : 1 ≤ fieldAt bs at 1
+-- the count of a record, and its length
+pub record Counted (k most each : ℕ) (bs : Bytes) (at : ℕ) : Type 0 where
+  pub size : lengthAt bs at ≡ 6 + 2 * (k + each * fieldAt bs at k)
+  pub few : fieldAt bs at k ≤ most
+  pub some : 1 ≤ fieldAt bs at k
 
-pub project-shaped : (bs : Bytes) (at : ℕ) → projectShape bs at ≡ true → ProjectShape bs at
-unfolding projectShape
-project-shaped bs at e =
-    let l : Bool = leb 8 (lengthAt bs at) in
-    let w : Bool = leb 1 (fieldAt bs at 1) && leb (fieldAt bs at 1) maxWidth in
-    let s : Bool = eqb (lengthAt bs at) (8 + 2 * fieldAt bs at 1) in
+pub shape-counted : (k most each : ℕ) (bs : Bytes) (at : ℕ) → countedShape k most each bs at ≡ true → Counted k most each bs at
+unfolding countedShape
+shape-counted k most each bs at e =
+    let l : Bool = leb (6 + 2 * k) (lengthAt bs at) in
+    let w : Bool = leb 1 (fieldAt bs at k) && leb (fieldAt bs at k) most in
+    let s : Bool = eqb (lengthAt bs at) (6 + 2 * (k + each * fieldAt bs at k)) in
     let range : w ≡ true = and-second l w (and-first (l && w) s e) in
     record {
-      size = eqb-true (lengthAt bs at) (8 + 2 * fieldAt bs at 1) (and-second (l && w) s e);
-      few = leb-true (fieldAt bs at 1) maxWidth (and-second (leb 1 (fieldAt bs at 1)) (leb (fieldAt bs at 1) maxWidth) range);
-      some = leb-true 1 (fieldAt bs at 1) (and-first (leb 1 (fieldAt bs at 1)) (leb (fieldAt bs at 1) maxWidth) range);
+      size = eqb-true (lengthAt bs at) (6 + 2 * (k + each * fieldAt bs at k)) (and-second (l && w) s e);
+      few = leb-true (fieldAt bs at k) most (and-second (leb 1 (fieldAt bs at k)) (leb (fieldAt bs at k) most) range);
+      some = leb-true 1 (fieldAt bs at k) (and-first (leb 1 (fieldAt bs at k)) (leb (fieldAt bs at k) most) range);
     }
 
+-- ---- kind 4
+
 module _ (xs : List ℕ) (count : ℕ) (long : count ≤ length xs) (signs : List ℕ) (bs : Bytes) (at : ℕ) where
-  pub project-unshaped : projectShape bs at ≡ false → ReadsBody (take count xs) signs 4 bs at (Refused 6)
+  pub project-unshaped : countedShape 1 maxWidth 1 bs at ≡ false → ReadsBody (take count xs) signs 4 bs at (Refused 6)
   unfolding hasShape
   project-unshaped e = reads-6 (take count xs) signs bs at 4 e
 
-  module _ (shape : projectShape bs at ≡ true) (i : ℕ) (is : i ≡ fieldAt bs at 0) where
+  module _ (shape : countedShape 1 maxWidth 1 bs at ≡ true) (i : ℕ) (is : i ≡ fieldAt bs at 0) where
     pub project-no-input : count ≤ i → ReadsBody (take count xs) signs 4 bs at (Refused 7)
     unfolding hasShape itemFits itemAt nodeFits fitsOn
     project-no-input h = reads-7 (take count xs) signs bs at 4 shape (rw (← is, counted xs count long bs at, le-ltb i count h))
@@ -206,7 +208,7 @@ module _ (xs : List ℕ) (count : ℕ) (long : count ≤ length xs) (signs : Lis
       pub project-ok : columnsBelow (getD xs i 0) (fieldsAt bs at 2 n) ≡ true → at + lengthAt bs at ≤ length bs → ReadsBody (take count xs) signs 4 bs at (NodeRecord (Project i n))
       unfolding hasShape itemFits itemAt nodeFits fitsOn
       project-ok e inside =
-          let sh : ProjectShape bs at = project-shaped bs at shape in
+          let sh : Counted 1 maxWidth 1 bs at = shape-counted 1 maxWidth 1 bs at shape in
           reads-node (take count xs) signs bs at 4 shape
           (rw (← is, ← of, counted xs count long bs at, lt-ltb i count within, first-at xs count i within) e) (Project i n) (rw (is, of))
           (record {

@@ -3,7 +3,7 @@ ghost use mathlib.Core.Path.{_≡_};
 ghost use mathlib.Core.Bool.{false};
 ghost use Prim.Native.Nat.{_+_, _*_, _≤_};
 ghost use lib.ListN.{length, take};
-ghost use Rattle.model.specs.Network.{columnsBelow, pairsBelow, pairsAt, projectShape, joinShape};
+ghost use Rattle.model.specs.Network.{columnsBelow, pairsBelow, pairsAt, countedShape, joinShape};
 ghost use Rattle.model.specs.Record.{fieldsAt, isBroken, kindAt};
 ghost use Rattle.model.specs.Row.{Narrow};
 ghost use Rattle.nodes.specs.Nodes.{setKind};
@@ -120,23 +120,23 @@ fn read_select_column(bytes: &[u8], at: usize, count: usize, widths: &[usize]) -
     }))
 }
 
-// Rule 6 for kind 4.
-fn project_shape(bytes: &[u8], at: usize) -> bool
-    requires { ⌜ isBroken (now bytes) at ≡ false ⌝ }
-    ensures { λ r. ⌜ r ≡ projectShape (now (bytes .entry)) at ⌝ }
+// Rule 6 for a kind with one count, in field k, and so many fields for each counted.
+fn counted_shape(bytes: &[u8], at: usize, k: usize, most: usize, each: usize) -> bool
+    requires { ⌜ (isBroken (now bytes) at ≡ false) × (k ≤ 2) × (each ≤ 2) ⌝ }
+    ensures { λ r. ⌜ r ≡ countedShape k most each (now (bytes .entry)) at ⌝ }
 {
     let size = records::u16_at(bytes, at);
-    if size < 8 {
+    if size < 6 + 2 * k {
         return false;
     }
-    let count = records::field_at(bytes, at, 1);
+    let count = records::field_at(bytes, at, k);
     if count < 1 {
         return false;
     }
-    if MAX_WIDTH < count {
+    if most < count {
         return false;
     }
-    size == 8 + 2 * count
+    size == 6 + 2 * (k + each * count)
 }
 
 // Kind 4.
@@ -144,7 +144,7 @@ fn read_project(bytes: &[u8], at: usize, count: usize, widths: &[usize]) -> Reco
     requires { ⌜ (isBroken (now bytes) at ≡ false) × (count ≤ length (now widths)) × (kindAt (now bytes) at ≡ 4) ⌝ }
     ensures { λ r. ⌜ ReadsNode (take count (now (widths .entry))) (now (bytes .entry)) at r ⌝ }
 {
-    if !project_shape(bytes, at) {
+    if !counted_shape(bytes, at, 1, MAX_WIDTH, 1) {
         return Record::Refused(6);
     }
     let input = records::field_at(bytes, at, 0);

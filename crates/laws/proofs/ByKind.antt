@@ -11,7 +11,7 @@ use Rattle.model.specs.Row.{Row, Relation, Wide, keep, member, maxWidth}
 use Rattle.model.specs.Algebra.{Pair, agree, columnsOf, joinOne, passes, selectRows, projectRows, joinRows, unionRows, differenceRows, intersectRows, column, constant, Operand}
 use Rattle.model.specs.Record.{Bytes, fieldAt, fieldsAt, lengthAt}
 use Rattle.model.specs.Network.{maxPairs, Item, Kind, Node, difference, hasShape, intersection, itemAt, itemFits, join, joinShape, kindOf, kinds, noKind, nodeFits, nodeItem, project}
-use Rattle.model.specs.Network.{isTable, widthOn, projectShape, select, setOperation, table, union, watchItem, widthOf, within, fitsOn, SetOperation, evaluateOn, evaluateSet}
+use Rattle.model.specs.Network.{isTable, widthOn, countedShape, select, setOperation, table, union, watchItem, widthOf, within, fitsOn, SetOperation, evaluateOn, evaluateSet}
 use Rattle.laws.proofs.Sets.{Ascending, and-first, and-second}
 use Rattle.laws.proofs.Widths.{wide-keep, wide-append, wide-setOf, wide-each, wide-map}
 use Rattle.laws.proofs.Algebra.{asc-select, asc-project, asc-join, asc-union, asc-difference, asc-intersect}
@@ -58,12 +58,12 @@ length-fields-at : (bs : Bytes) (at k n : ℕ) → length (fieldsAt bs at k n) �
 length-fields-at bs at k zero = refl
 length-fields-at bs at k (suc n) = ap suc (length-fields-at bs at (suc k) n)
 
-project-narrow : (bs : Bytes) (at : ℕ) → projectShape bs at ≡ true → fieldAt bs at 1 ≤ maxWidth
-unfolding projectShape
-project-narrow bs at e =
-    let f : (leb 8 (lengthAt bs at) && within 1 maxWidth (fieldAt bs at 1)) ≡ true = and-first (leb 8 (lengthAt bs at) && within 1 maxWidth (fieldAt bs at 1))
-    (eqb (lengthAt bs at) (8 + 2 * fieldAt bs at 1)) e in
-    leb-true (fieldAt bs at 1) maxWidth (and-second (leb 1 (fieldAt bs at 1)) (leb (fieldAt bs at 1) maxWidth) (and-second (leb 8 (lengthAt bs at)) (within 1 maxWidth (fieldAt bs at 1)) f))
+counted-few : (k most each : ℕ) (bs : Bytes) (at : ℕ) → countedShape k most each bs at ≡ true → fieldAt bs at k ≤ most
+unfolding countedShape
+counted-few k most each bs at e =
+    let long : Bool = leb (6 + 2 * k) (lengthAt bs at) in
+    let f : (long && within 1 most (fieldAt bs at k)) ≡ true = and-first (long && within 1 most (fieldAt bs at k)) (eqb (lengthAt bs at) (6 + 2 * (k + each * fieldAt bs at k))) e in
+    leb-true (fieldAt bs at k) most (and-second (leb 1 (fieldAt bs at k)) (leb (fieldAt bs at k) most) (and-second long (within 1 most (fieldAt bs at k)) f))
 
 join-narrow : (bs : Bytes) (at : ℕ) → joinShape bs at ≡ true → fieldAt bs at (3 + 2 * fieldAt bs at 2) ≤ maxWidth
 unfolding joinShape
@@ -82,7 +82,7 @@ kinds-narrow = (
     (
       λ ws signs bs at h f narrow. narrow (fieldAt bs at 0),
       (
-        λ ws signs bs at h f narrow. rw (length-fields-at bs at 2 (fieldAt bs at 1)) (project-narrow bs at h),
+        λ ws signs bs at h f narrow. rw (length-fields-at bs at 2 (fieldAt bs at 1)) (counted-few 1 maxWidth 1 bs at h),
         (
           λ ws signs bs at h f narrow. rw (length-fields-at bs at (4 + 2 * fieldAt bs at 2) (fieldAt bs at (3 + 2 * fieldAt bs at 2))) (join-narrow bs at h),
           (

@@ -201,12 +201,12 @@ signOf net i = getD (net .signs) i 0
 
 -- ---- records of a network
 
--- kind 4: c is inside the record and 1 to 4, and the length is 8 + 2c
-unfoldable pub projectShape : Bytes → ℕ → Bool
-projectShape bs at =
-    leb 8 (lengthAt bs at)
-    && within 1 maxWidth (fieldAt bs at 1)
-    && eqb (lengthAt bs at) (8 + 2 * fieldAt bs at 1)
+-- the count in field k is inside the record and 1 to most, and behind it the record has so many fields for each counted
+unfoldable pub countedShape : ℕ → ℕ → ℕ → Bytes → ℕ → Bool
+countedShape k most each bs at =
+    leb (6 + 2 * k) (lengthAt bs at)
+    && within 1 most (fieldAt bs at k)
+    && eqb (lengthAt bs at) (6 + 2 * (k + each * fieldAt bs at k))
 
 -- the most pairs of a join: "p 0..2"
 abbrev pub maxPairs : ℕ
@@ -272,7 +272,7 @@ kinds =
     record { shape = hasLength 6; item = tableAt }  -- 1
     ∷ record { shape = hasLength 14; item = selectAt (λ bs at. constant (u32 bs (at + 10))) }  -- 2
     ∷ record { shape = hasLength 12; item = selectAt (λ bs at. column (fieldAt bs at 3)) }  -- 3
-    ∷ record { shape = projectShape; item = projectAt }  -- 4
+    ∷ record { shape = countedShape 1 maxWidth 1; item = projectAt }  -- 4: 8 + 2c bytes
     ∷ record { shape = joinShape; item = joinAt }  -- 5
     ∷ record { shape = hasLength 8; item = setAt union }  -- 6
     ∷ record { shape = hasLength 8; item = setAt difference }  -- 7
@@ -290,7 +290,7 @@ isUnknown number = not (within 1 (length kinds) number)
 
 -- rule 6: the length is its kind's, and counts p and c are in range and inside the record
 unfoldable pub hasShape : ℕ → Bytes → ℕ → Bool
-unfolding projectShape joinShape
+unfolding countedShape joinShape
 hasShape number bs at = getD (noKind ∷ kinds) number noKind .shape bs at
 
 -- what the record at an offset brings, as a record of a kind
