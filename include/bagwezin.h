@@ -77,6 +77,7 @@ enum {
     BAGWEZIN_WITHOUT = 7,
     BAGWEZIN_INTERSECTION = 8,
     BAGWEZIN_WATCH = 9,         /* in networks, no node */
+    BAGWEZIN_NO_MATCH = 10,     /* a node: the left rows with which no right row agrees on all pairs */
     BAGWEZIN_PUT = 32,          /* events */
     BAGWEZIN_REMOVE = 33,
     BAGWEZIN_MARK = 34,         /* ends a batch in a file of batches; part of no batch */
@@ -89,7 +90,7 @@ enum {
     BAGWEZIN_SHORT_AREA = 1,      /* an area, or the reader's answer, is shorter than stated */
     BAGWEZIN_NO_NETWORK = 2,      /* the network has no bytes */
     BAGWEZIN_NETWORK_LENGTH = 3,  /* 1 to 3 bytes remain in the network, or a length is below 4 or beyond the end */
-    BAGWEZIN_NETWORK_KIND = 4,    /* the record has a kind outside 1 to 9 */
+    BAGWEZIN_NETWORK_KIND = 4,    /* the record has a kind outside 1 to 10 */
     BAGWEZIN_NETWORK_NODES = 5,   /* it would be the 33rd node */
     BAGWEZIN_NETWORK_SIZE = 6,    /* its length is not its kind's, or a count is out of range or not inside the record */
     BAGWEZIN_NETWORK_FIELD = 7,   /* another of its fields breaks a rule */

@@ -104,6 +104,30 @@ static void names_and_layout(void)
     EXPECT(bagwezin_number(bad) == BAGWEZIN_EVENT_LENGTH && bagwezin_value(bad) == 0);
 }
 
+/* Blocks without a spray entry (week, block): one comes back with the loss of its last entry. */
+static const uint8_t UNSPRAYED[] = {
+    6, 0, BAGWEZIN_TABLE, 0, 1, 0,
+    6, 0, BAGWEZIN_TABLE, 0, 2, 0,
+    14, 0, BAGWEZIN_NO_MATCH, 0, 0, 0, 1, 0, 1, 0, 0, 0, 1, 0,
+};
+
+static void no_match(void)
+{
+    static struct areas a;
+    uint32_t answer[BAGWEZIN_ANSWER];
+    EXPECT(bagwezin_read(UNSPRAYED, sizeof UNSPRAYED, answer, BAGWEZIN_ANSWER) == 0);
+    EXPECT(answer[BAGWEZIN_ANSWER_KINDS + 2] == BAGWEZIN_NO_MATCH);
+    EXPECT(answer[BAGWEZIN_ANSWER_WIDTHS + 2] == 1 && answer[BAGWEZIN_ANSWER_LEVELS + 2] == 1);
+    uint8_t both[] = {10, 0, BAGWEZIN_PUT, 0, 0, 0, 5, 0, 0, 0, 14, 0, BAGWEZIN_PUT, 0, 1, 0, 21, 0, 0, 0, 5, 0, 0, 0};
+    uint8_t last[] = {14, 0, BAGWEZIN_REMOVE, 0, 1, 0, 21, 0, 0, 0, 5, 0, 0, 0};
+    EXPECT(bagwezin_open(UNSPRAYED, sizeof UNSPRAYED, LENT(&a)) == 0);
+    EXPECT(bagwezin_apply(UNSPRAYED, sizeof UNSPRAYED, both, sizeof both, LENT(&a)) == 0);
+    EXPECT(a.head[BAGWEZIN_HEAD_ROWS + 2] == 0 && a.head[BAGWEZIN_HEAD_STAMPS + 2] == 0);
+    EXPECT(bagwezin_apply(UNSPRAYED, sizeof UNSPRAYED, last, sizeof last, LENT(&a)) == 0);
+    EXPECT(a.head[BAGWEZIN_HEAD_GAINED + 2] == 1 && a.gained[bagwezin_word(2, 0, 0)] == 5);
+    EXPECT(bagwezin_check(UNSPRAYED, sizeof UNSPRAYED, LENT(&a)) == 1);
+}
+
 /* 64 rows of width 3 beside the one row of another table: when that row is exchanged, the product loses and gains 64 rows of width 4. */
 static const uint8_t PRODUCT[] = {
     6, 0, BAGWEZIN_TABLE, 0, 3, 0,
@@ -178,6 +202,7 @@ int main(void)
     EXPECT(page != MAP_FAILED);
     nothing_is_looked_at(page);
     names_and_layout();
+    no_match();
     the_largest_report();
     threads();
     printf("edges: %d passed, %d failed\n", passed, failed);

@@ -13,7 +13,7 @@ const fn form(word: &'static str, line: &'static str, example: &'static str) -> 
 }
 
 /// The lines of a network, in the order of their kinds.
-pub const RECORDS: [Form; 8] = [
+pub const RECORDS: [Form; 9] = [
     form("table", "table NAME COLUMN ...", "table catches block trap week count"),
     form("select", "select NAME = NODE where COLUMN COMPARISON VALUE", "select heavy = catches where count >= 8"),
     form("project", "project NAME = NODE give COLUMN ...", "project reached = codling give block week"),
@@ -26,6 +26,11 @@ pub const RECORDS: [Form; 8] = [
     form("minus", "minus NAME = LEFT RIGHT", "minus unsprayed = reached sprays"),
     form("intersect", "intersect NAME = LEFT RIGHT", "intersect again = reached sprays"),
     form("watch", "watch NODE SIGN", "watch advice both"),
+    form(
+        "nomatch",
+        "nomatch NAME = LEFT RIGHT on COLUMN = COLUMN [and COLUMN = COLUMN]",
+        "nomatch unsprayed = reached sprays on block = block and week = week",
+    ),
 ];
 
 /// The lines of a file of batches.

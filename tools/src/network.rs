@@ -41,6 +41,7 @@ pub enum Op {
     Project { input: usize, columns: Vec<usize> },
     Join { left: usize, right: usize, pairs: Vec<(usize, usize)>, columns: Vec<usize> },
     Set { set: Set, left: usize, right: usize },
+    NoMatch { left: usize, right: usize, pairs: Vec<(usize, usize)> },
 }
 
 impl Op {
@@ -48,7 +49,9 @@ impl Op {
         match *self {
             Op::Table(_) => vec![],
             Op::Select { input, .. } | Op::Project { input, .. } => vec![input],
-            Op::Join { left, right, .. } | Op::Set { left, right, .. } => vec![left, right],
+            Op::Join { left, right, .. } | Op::Set { left, right, .. } | Op::NoMatch { left, right, .. } => {
+                vec![left, right]
+            }
         }
     }
 
@@ -65,15 +68,21 @@ impl Op {
             }
             Op::Project { input, columns } => (4, [&[*input, columns.len()][..], columns].concat()),
             Op::Join { left, right, pairs, columns } => {
-                let mut out = vec![*left, *right, pairs.len()];
-                out.extend(pairs.iter().flat_map(|&(l, r)| [l, r]));
+                let mut out = paired(*left, *right, pairs);
                 out.push(columns.len());
                 out.extend(columns);
                 (5, out)
             }
             Op::Set { set, left, right } => (6 + *set as usize, vec![*left, *right]),
+            Op::NoMatch { left, right, pairs } => (10, paired(*left, *right, pairs)),
         }
     }
+}
+
+/// The fields of two nodes and of pairs of their columns.
+fn paired(left: usize, right: usize, pairs: &[(usize, usize)]) -> Vec<usize> {
+    let columns = pairs.iter().flat_map(|&(l, r)| [l, r]);
+    [left, right, pairs.len()].into_iter().chain(columns).collect()
 }
 
 /// A number's lower and upper 2 bytes.
@@ -193,7 +202,7 @@ impl Network {
                 let sides = columns.iter().map(|&k| self.side(*left, *right, k));
                 sides.map(|(node, k)| of(node, k)).collect()
             }
-            Op::Set { left, .. } => whole(*left),
+            Op::Set { left, .. } | Op::NoMatch { left, .. } => whole(*left),
         }
     }
 
@@ -250,6 +259,7 @@ impl Network {
                 Ok(Op::Project { input: f[0], columns })
             }
             5 => self.join(f),
+            10 => Ok(Op::NoMatch { left: f[0], right: f[1], pairs: self.pairs_from(f)? }),
             _ => {
                 let (l, r) = (self.earlier("left", f[0])?, self.earlier("right", f[1])?);
                 if l != r {
@@ -276,18 +286,24 @@ impl Network {
     }
 
     fn join(&self, f: &[usize]) -> Result<Op, String> {
+        let pairs = self.pairs_from(f)?;
+        let wide = self.nodes[f[0]].columns.len() + self.nodes[f[1]].columns.len();
+        let columns = f[4 + 2 * f[2]..].to_vec();
+        for &c in &columns {
+            within("column", c, wide)?;
+        }
+        Ok(Op::Join { left: f[0], right: f[1], pairs, columns })
+    }
+
+    /// The pairs of a record's fields, which begin with its left, its right, and the number of pairs.
+    fn pairs_from(&self, f: &[usize]) -> Result<Vec<(usize, usize)>, String> {
         let (l, r) = (self.earlier("left", f[0])?, self.earlier("right", f[1])?);
-        let (pairs, columns) = f[3..].split_at(2 * f[2]);
-        let pairs: Vec<(usize, usize)> = pairs.chunks(2).map(|p| (p[0], p[1])).collect();
+        let pairs: Vec<(usize, usize)> = f[3..3 + 2 * f[2]].chunks(2).map(|p| (p[0], p[1])).collect();
         for &(a, b) in &pairs {
             within("left column of a pair", a, l)?;
             within("right column of a pair", b, r)?;
         }
-        let columns = columns[1..].to_vec();
-        for &c in &columns {
-            within("column", c, l + r)?;
-        }
-        Ok(Op::Join { left: f[0], right: f[1], pairs, columns })
+        Ok(pairs)
     }
 }
 
@@ -360,6 +376,7 @@ pub fn fits(bytes: &[u8]) -> Result<Vec<usize>, String> {
             let pairs = count("pairs", 4, 0, 2)?;
             12 + 4 * pairs + 2 * count("columns", 5 + 2 * pairs, 1, FIELDS)?
         }
+        10 => 10 + 4 * count("pairs", 4, 1, 2)?,
         _ => 8,
     };
     if size != right {
@@ -380,6 +397,7 @@ pub fn kind_word(kind: usize) -> Option<&'static str> {
         "minus",
         "intersect",
         "watch",
+        "no match",
     ];
     words.get(kind.checked_sub(1)?).copied()
 }

@@ -16,6 +16,7 @@ const READERS: [Reader; RECORDS.len()] = [
     |net, line| net.read_set(line, Set::Minus),
     |net, line| net.read_set(line, Set::Intersect),
     Network::read_watch,
+    Network::read_no_match,
 ];
 
 impl Network {
@@ -111,11 +112,19 @@ impl Network {
         Ok(())
     }
 
-    fn read_join(&mut self, line: &mut Line) -> Checked<()> {
+    /// `NAME = LEFT RIGHT`
+    fn read_sides(&self, line: &mut Line) -> Checked<(String, usize, usize)> {
         let name = self.read_name(line)?;
         line.expect("=")?;
-        let (left, right) = (line.node(self)?, line.node(self)?);
-        let pairs = self.read_pairs(line, left, right)?;
+        Ok((name, line.node(self)?, line.node(self)?))
+    }
+
+    fn read_join(&mut self, line: &mut Line) -> Checked<()> {
+        let (name, left, right) = self.read_sides(line)?;
+        let pairs = match line.accept("on") {
+            true => self.read_pairs(line, left, right)?,
+            false => Vec::new(),
+        };
         line.expect("give")?;
         let (mut names, mut columns) = (Vec::new(), Vec::new());
         while line.peek().is_some() || columns.is_empty() {
@@ -130,18 +139,16 @@ impl Network {
         Ok(())
     }
 
-    /// `[on COLUMN = COLUMN [and COLUMN = COLUMN]]`
+    /// `COLUMN = COLUMN [and COLUMN = COLUMN]`
     fn read_pairs(&self, line: &mut Line, left: usize, right: usize) -> Checked<Vec<(usize, usize)>> {
         let mut pairs = Vec::new();
-        let mut more = line.accept("on");
-        while more {
+        while pairs.is_empty() || line.accept("and") {
             if pairs.len() == 2 {
-                return line.fail("a join has at most two pairs");
+                return line.fail(format!("a {} has at most two pairs", line.word()));
             }
             let l = line.column(self, left)?;
             line.expect("=")?;
             pairs.push((l, line.column(self, right)?));
-            more = line.accept("and");
         }
         Ok(pairs)
     }
@@ -164,9 +171,7 @@ impl Network {
     }
 
     fn read_set(&mut self, line: &mut Line, set: Set) -> Checked<()> {
-        let name = self.read_name(line)?;
-        line.expect("=")?;
-        let (left, right) = (line.node(self)?, line.node(self)?);
+        let (name, left, right) = self.read_sides(line)?;
         line.done()?;
         let (l, r) = (&self.nodes[left], &self.nodes[right]);
         if l.columns.len() != r.columns.len() {
@@ -191,6 +196,16 @@ impl Network {
             return line.fail(format!("'{}' has a watch already", self.nodes[node].name));
         }
         self.records.push(Record::Watch { node, sign });
+        Ok(())
+    }
+
+    fn read_no_match(&mut self, line: &mut Line) -> Checked<()> {
+        let (name, left, right) = self.read_sides(line)?;
+        line.expect("on")?;
+        let pairs = self.read_pairs(line, left, right)?;
+        line.done()?;
+        let columns = self.nodes[left].columns.clone();
+        self.add(name, columns, Op::NoMatch { left, right, pairs });
         Ok(())
     }
 
@@ -227,6 +242,9 @@ impl Network {
                 format!("join {} = {} {}{on} give {given}", name(i), name(*left), name(*right))
             }
             Op::Set { set, left, right } => format!("{} {} = {} {}", set.word(), name(i), name(*left), name(*right)),
+            Op::NoMatch { left, right, .. } => {
+                format!("nomatch {} = {} {} on {}", name(i), name(*left), name(*right), self.pairs(i))
+            }
         }
     }
 
@@ -257,10 +275,12 @@ impl Network {
         format!("{} {} {right}", columns[*column], COMPARISONS[*comparison])
     }
 
-    /// The pairs of a join; else nothing.
+    /// The pairs of a join or a no match; else nothing.
     pub fn pairs(&self, i: usize) -> String {
         match &self.nodes[i].op {
-            Op::Join { left, right, pairs, .. } => self.pairs_of(*left, *right, pairs),
+            Op::Join { left, right, pairs, .. } | Op::NoMatch { left, right, pairs } => {
+                self.pairs_of(*left, *right, pairs)
+            }
             _ => String::new(),
         }
     }

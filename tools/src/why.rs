@@ -88,6 +88,11 @@ fn fits(row: &[u32], known: &[(usize, u32)]) -> bool {
     known.iter().all(|&(k, v)| row[k] == v)
 }
 
+/// Whether a left row and a right one agree on pairs of columns.
+fn meet(left: &[u32], right: &[u32], pairs: &[(usize, usize)]) -> bool {
+    pairs.iter().all(|&(a, b)| left[a] == right[b])
+}
+
 /// Writes the lines of an answer.
 struct Teller<'a> {
     station: &'a Station<'a>,
@@ -150,13 +155,15 @@ impl Teller<'_> {
                 let from = self.matching(input, &fields.unwrap_or_default());
                 let count = counted(from.len(), "row", "rows");
                 self.line(depth, &format!("{named}: from {count} of {}", self.name(input)));
-                for r in from.iter().take(self.most) {
-                    self.tell(depth + 1, "", input, r);
-                }
-                self.more(depth + 1, from.len(), "rows");
+                self.tell_rows(depth + 1, input, &from);
             }
             Op::Join { left, right, .. } => self.join_origins(depth, named, node, (left, right), row),
             Op::Set { set, left, right } => self.set_origins(depth, named, row, (set, left, right)),
+            Op::NoMatch { left, right, .. } => {
+                let (l, r, on) = (self.name(left), self.name(right), self.net().pairs(node));
+                self.line(depth, &format!("{named}: in {l}, and no row of {r} agrees on {on}"));
+                self.tell(depth + 1, "", left, row);
+            }
         }
     }
 
@@ -189,6 +196,14 @@ impl Teller<'_> {
         }
     }
 
+    /// Rows of a node, each with its origins.
+    fn tell_rows(&mut self, depth: usize, node: usize, rows: &[Row]) {
+        for row in rows.iter().take(self.most) {
+            self.tell(depth, "", node, row);
+        }
+        self.more(depth, rows.len(), "rows");
+    }
+
     fn more(&mut self, depth: usize, count: usize, what: &str) {
         if count > self.most {
             let more = count - self.most;
@@ -209,8 +224,7 @@ impl Teller<'_> {
         };
         let mut out = Vec::new();
         for l in &self.station.rows[*left] {
-            let agrees = |r: &&Row| pairs.iter().all(|&(a, b)| l[a] == r[b]);
-            for r in self.station.rows[*right].iter().filter(agrees) {
+            for r in self.station.rows[*right].iter().filter(|r| meet(l, r, pairs)) {
                 let field = |k: usize| *l.get(k).unwrap_or_else(|| &r[k - l.len()]);
                 if columns.iter().zip(row).all(|(&k, &v)| field(k) == v) {
                     out.push((l.clone(), r.clone()));
@@ -260,6 +274,7 @@ impl Teller<'_> {
                 self.no_pair(depth, &missing, fields, (left, right, &pairs));
             }
             Op::Set { set, left, right } => self.set_absence(depth, &missing, known, (set, left, right)),
+            Op::NoMatch { left, right, pairs } => self.kept_out(depth, &missing, known, (left, right, &pairs)),
         }
     }
 
@@ -280,10 +295,7 @@ impl Teller<'_> {
         if rows.is_empty() {
             self.absence(depth, "", node, known);
         }
-        for row in rows.iter().take(self.most) {
-            self.tell(depth, "", node, row);
-        }
-        self.more(depth, rows.len(), "rows");
+        self.tell_rows(depth, node, rows);
     }
 
     fn no_entry(&mut self, depth: usize, missing: &str, table: usize, known: &[(usize, u32)]) {
@@ -359,6 +371,27 @@ impl Teller<'_> {
             let rows = if kept { some.clone() } else { Vec::new() };
             self.rows_or_absence(depth + 1, side, known, &rows);
         }
+    }
+
+    /// Why a no match has no row with known fields: no left row has them, or right rows agree with those that do.
+    fn kept_out(
+        &mut self,
+        depth: usize,
+        missing: &str,
+        known: &[(usize, u32)],
+        (left, right, pairs): (usize, usize, &[(usize, usize)]),
+    ) {
+        let some = self.matching(left, known);
+        if some.is_empty() {
+            self.line(depth, &format!("{missing}: not in {}", self.name(left)));
+            return self.absence(depth + 1, "", left, known);
+        }
+        let rows = self.station.rows[right].iter();
+        let others: Vec<Row> = rows.filter(|r| some.iter().any(|l| meet(l, r, pairs))).cloned().collect();
+        let (r, on) = (self.name(right), self.net().pairs_of(left, right, pairs));
+        let count = counted(others.len(), "row", "rows");
+        self.line(depth, &format!("{missing}: kept out by {count} of {r} with {on}"));
+        self.tell_rows(depth + 1, right, &others);
     }
 }
 

@@ -29,6 +29,10 @@ fn tool(args: &[&str]) -> Told {
     told(command(args).output().unwrap())
 }
 
+fn bytes(path: &str) -> Vec<u8> {
+    std::fs::read(common::root().join(path)).unwrap()
+}
+
 /// A file of its own for a test.
 fn made(name: &str, bytes: impl AsRef<[u8]>) -> String {
     let path = PathBuf::from(env!("CARGO_TARGET_TMPDIR")).join(name);
@@ -38,6 +42,8 @@ fn made(name: &str, bytes: impl AsRef<[u8]>) -> String {
 
 const NETWORK: &str = "examples/orchard/network.txt";
 const NETWORK_BIN: &str = "examples/orchard/network.bin";
+const NO_MATCH: &str = "examples/orchard/no-match.txt";
+const NO_MATCH_BIN: &str = "examples/orchard/no-match.bin";
 const BATCHES: &str = "examples/orchard/batches.txt";
 const BATCHES_BIN: &str = "examples/orchard/batch.bin";
 const NAMES: [&str; 8] = ["network", "text", "batches", "events", "check", "run", "why", "draw"];
@@ -105,8 +111,10 @@ fn bad_input_exits_1_with_file_and_line() {
     let wrong = made("wrong.txt", "table a x\nselect b = a where y = 1\n");
     let latin = made("latin.txt", b"table a x\n# \xe4\n");
     let short = made("short.bin", [6, 0, 1]);
+    let pairless = made("pairless.bin", [6, 0, 1, 0, 1, 0, 10, 0, 10, 0, 0, 0, 0, 0, 0, 0]);
+    let onless = made("onless.txt", "table a x\nnomatch b = a a\n");
     let over = made("over.txt", "put sprays 5 22\nput sprays 5\nend\n");
-    let list: [(&[&str], String); 12] = [
+    let list: [(&[&str], String); 14] = [
         (&["text", NETWORK], format!("{NETWORK}: this is text already")),
         (&["events", NETWORK, BATCHES], format!("{BATCHES}: this is text already")),
         (&["network", &wrong, "/dev/null"], format!("{wrong}:2: 'a' has no column 'y' (it has x)\n")),
@@ -115,6 +123,8 @@ fn bad_input_exits_1_with_file_and_line() {
         (&["network", "nowhere.txt", "/dev/null"], "nowhere.txt: No such file".into()),
         (&["text", &short], format!("{short}: refused 3 at byte 0: a network record's length is broken (3 bytes remain, a record has at least 4)\n")),
         (&["check", &short], format!("{short}: refused 3 at byte 0")),
+        (&["text", &pairless], format!("{pairless}: refused 6 at byte 6: ")),
+        (&["network", &onless, "/dev/null"], format!("{onless}:2: 'on' is missing at the end\n")),
         (&["batches", NETWORK, &over, "/dev/null"], format!("{over}:2: 1 number, and a row of 'sprays' has 2 (block, week)\n")),
         (&["run", NETWORK, &over], format!("{over}:2: ")),
         (&["why", NETWORK, BATCHES, "advise", "1"], format!("{NETWORK}: there is no node 'advise'")),
@@ -182,15 +192,35 @@ fn a_full_disk_behind_standard_error_is_no_panic() {
 
 #[test]
 fn text_and_events_come_back() {
-    let text = tool(&["text", NETWORK_BIN]);
-    let (path, out) = (made("again.txt", &text.out), made("again.bin", ""));
-    assert_eq!(tool(&["network", &path, &out]).status, 0);
-    let bytes = |p: &str| std::fs::read(common::root().join(p)).unwrap();
-    assert_eq!(bytes(&out), bytes(NETWORK_BIN));
-    let events = tool(&["events", &path, BATCHES_BIN]);
-    let events = made("again-events.txt", &events.out);
-    assert_eq!(tool(&["batches", &path, &events, &out]).status, 0);
-    assert_eq!(bytes(&out), bytes(BATCHES_BIN));
+    for network in [NETWORK_BIN, NO_MATCH_BIN] {
+        let text = tool(&["text", network]);
+        let (path, out) = (made("again.txt", &text.out), made("again.bin", ""));
+        assert_eq!(tool(&["network", &path, &out]).status, 0);
+        assert_eq!(bytes(&out), bytes(network));
+        let events = tool(&["events", &path, BATCHES_BIN]);
+        let events = made("again-events.txt", &events.out);
+        assert_eq!(tool(&["batches", &path, &events, &out]).status, 0);
+        assert_eq!(bytes(&out), bytes(BATCHES_BIN));
+    }
+}
+
+/// The files of the orchard with a no match are made from its text, and its day is told as that with the minus.
+#[test]
+fn the_orchard_with_a_no_match() {
+    let (network, picture) = (made("no-match.bin", ""), made("no-match.svg", ""));
+    assert_eq!(tool(&["network", NO_MATCH, &network]).status, 0);
+    assert_eq!(bytes(&network), bytes(NO_MATCH_BIN));
+    assert_eq!(tool(&["draw", NO_MATCH, &picture]).status, 0);
+    assert!(bytes(&picture) == bytes("examples/orchard/no-match.svg"));
+    let t = tool(&["check", NO_MATCH_BIN, BATCHES_BIN]);
+    let accepted = "accepted: 10 nodes, 2 watches, levels 0 to 6";
+    assert_eq!(t.out, format!("{NO_MATCH_BIN}: {accepted}\n{BATCHES_BIN}: accepted: 6 batches\n"));
+    let [minus, no_match] = [NETWORK, NO_MATCH].map(|n| tool(&["run", n, BATCHES]));
+    assert!(minus.status == 0 && minus.out.contains("\n+ advice owner=70 block=5 week=22\n"), "{}", minus.out);
+    assert_eq!((no_match.status, no_match.out), (0, minus.out));
+    let t = tool(&["why", NO_MATCH, BATCHES, "advice", "70", "5", "22", "--after", "5"]);
+    let kept = "\n    unsprayed (block 5, week 22): not there: kept out by 1 row of sprays with block = block and week = week\n";
+    assert!(t.status == 0 && t.out.contains(kept), "{}", t.out);
 }
 
 #[test]
@@ -235,7 +265,6 @@ fn the_picture_is_drawn_without_graphviz_too() {
     let t = told(without.env("PATH", "").output().unwrap());
     assert_eq!((t.status, t.out.as_str()), (0, ""));
     assert_eq!(t.err, "Graphviz (dot) is not installed: the built-in layout serves\n");
-    let bytes = |p: &str| std::fs::read(p).unwrap();
     assert!(bytes(&built_in) == bytes(&fallen_back));
     let graph = made("graph.dot", "");
     assert_eq!(tool(&["draw", "--dot", NETWORK, &graph]).status, 0);

@@ -2,6 +2,7 @@
 mod common;
 
 use bagwezin_tools::grammar::{reserved, EVENTS, RECORDS};
+use bagwezin_tools::network::record;
 use bagwezin_tools::{batches, Network};
 use common::{Random, N};
 
@@ -39,6 +40,10 @@ fn names_that_are_not_there() {
                 "table a x\njoin b = a a give x\n",
                 "2: 'x' does not say whose column it is: a join gives left.COLUMN or right.COLUMN",
             ),
+            ("table a x\ntable b y\nnomatch c = a b on y = y\n", "3: 'a' has no column 'y' (it has x)"),
+            ("table a x\ntable b y\nnomatch c = a b on x = x\n", "3: 'b' has no column 'x' (it has y)"),
+            ("table a x\ntable b y\nnomatch c = a b on x = y and x = .1\n", "3: 'b' has no column '.1' (it has y)"),
+            ("table a x\nnomatch b = a b on x = x\n", "2: there is no node 'b' (there are a)"),
         ],
     );
 }
@@ -88,11 +93,14 @@ fn numbers_and_counts() {
             ),
             ("table a x\nwatch a both\nwatch a lost\n", "3: 'a' has a watch already"),
             ("table a x\njoin b = a a on x = x and x = x and x = x give left.x\n", "2: a join has at most two pairs"),
+            ("table a x\nnomatch b = a a on x = x and x = x and x = x\n", "2: a nomatch has at most two pairs"),
             ("# nothing\n", "1: there is no node: a network has at least one table"),
         ],
     );
     let many: String = (0..33).map(|k| format!("table t{k} x\n")).collect();
     assert_eq!(network(&many), "33: a network has at most 32 nodes");
+    let full = many.replace("table t32 x\n", "nomatch last = t0 t1 on x = x\n");
+    assert_eq!(network(&full), "33: a network has at most 32 nodes");
 }
 
 #[test]
@@ -112,6 +120,15 @@ fn a_wrong_line_says_how_it_should_look() {
     assert!(told("select b = where x = 1").starts_with("2: a node is missing before 'where'\n"));
     assert!(told("select b = a where = 1").starts_with("2: a column is missing before '='\n"));
     assert!(told("join b = a on x = x give left.x").starts_with("2: a node is missing before 'on'\n"));
+    let form = RECORDS.iter().find(|f| f.word == "nomatch").unwrap();
+    let form = format!("\n    the line is written  {}\n    for example          {}", form.line, form.example);
+    assert_eq!(told("nomatch b = a a"), format!("2: 'on' is missing at the end{form}"));
+    assert_eq!(told("nomatch b = a a give left.x"), format!("2: after 'a' comes 'on', not 'give'{form}"));
+    assert_eq!(told("nomatch b = a on x = x"), format!("2: a node is missing before 'on'{form}"));
+    assert_eq!(told("nomatch b = a a on"), format!("2: a column is missing at the end{form}"));
+    assert_eq!(told("nomatch b = a a on x x"), format!("2: after 'x' comes '=', not 'x'{form}"));
+    assert_eq!(told("nomatch b = a a on x = x and"), format!("2: a column is missing at the end{form}"));
+    assert_eq!(told("nomatch b = a a on x = x give left.x"), format!("2: 'give' is one word too many{form}"));
     let lines = told("tabel b x");
     assert!(lines.starts_with("2: no line begins with 'tabel'; the lines are\n    table NAME COLUMN ...\n    select "));
     assert!(events("putt catches 1 2\n")
@@ -159,11 +176,12 @@ fn events_that_do_not_fit() {
 fn refused_networks_are_told_with_the_field_at_fault() {
     let table = [6, 0, 1, 0, 2, 0];
     let told = |more: &[u8]| Network::from_bytes(&[&table[..], more].concat()).unwrap_err().1;
-    let list: [(&[u8], &str); 14] = [
+    let list: [(&[u8], &str); 15] = [
         (&[1], "refused 3 at byte 6: a network record's length is broken (1 byte remains, a record has at least 4)"),
         (&[9, 0, 1, 0], "refused 3 at byte 6: a network record's length is broken (it says that it has 9 bytes, and 4 are left)"),
         (&[3, 0, 1, 0], "refused 3 at byte 6: a network record's length is broken (it says that it has 3 bytes, below 4)"),
-        (&[4, 0, 12, 0], "(its kind is 12)"),
+        (&[4, 0, 0, 0], "(its kind is 0)"),
+        (&[4, 0, 11, 0], "(its kind is 11)"),
         (&[7, 0, 1, 0, 1, 0, 0], "(table: it has 7 bytes, and this table takes 6)"),
         (&[8, 0, 4, 0, 0, 0, 5, 0], "(project: its number of columns is 5, not 1 to 4)"),
         (&[8, 0, 5, 0, 0, 0, 0, 0], "(join: with 8 bytes it ends before its number of pairs)"),
@@ -179,6 +197,37 @@ fn refused_networks_are_told_with_the_field_at_fault() {
         assert!(told(more).ends_with(answer), "{} for {more:?}", told(more));
     }
     assert_eq!(Network::from_bytes(&[]).unwrap_err().1, "refused 2: the network has no bytes");
+}
+
+#[test]
+fn refused_no_matches_are_told_with_the_field_at_fault() {
+    let tables = [6, 0, 1, 0, 2, 0, 6, 0, 1, 0, 1, 0];
+    let list: [(&[usize], u32, &str); 13] = [
+        (&[0, 1], 6, "with 8 bytes it ends before its number of pairs"),
+        (&[0, 1, 0], 6, "its number of pairs is 0, not 1 to 2"),
+        (&[0, 1, 3, 0, 0, 0, 0, 0, 0], 6, "its number of pairs is 3, not 1 to 2"),
+        (&[0, 1, 1, 0], 6, "it has 12 bytes, and this no match takes 14"),
+        (&[0, 1, 1, 0, 0, 0], 6, "it has 16 bytes, and this no match takes 14"),
+        (&[0, 1, 2, 0, 0], 6, "it has 14 bytes, and this no match takes 18"),
+        (&[2, 1, 1, 0, 0], 7, "its left is node 2, and the nodes before it are 0 to 1"),
+        (&[0, 2, 1, 0, 0], 7, "its right is node 2, and the nodes before it are 0 to 1"),
+        (&[0, 1, 1, 2, 0], 7, "its left column of a pair is 2, and the columns are 0 to 1"),
+        (&[0, 1, 1, 1, 1], 7, "its right column of a pair is 1, and the columns are 0 to 0"),
+        (&[1, 0, 1, 1, 1], 7, "its left column of a pair is 1, and the columns are 0 to 0"),
+        (&[0, 1, 2, 0, 0, 2, 0], 7, "its left column of a pair is 2, and the columns are 0 to 1"),
+        (&[0, 1, 2, 0, 0, 0, 1], 7, "its right column of a pair is 1, and the columns are 0 to 0"),
+    ];
+    for (fields, number, fault) in list {
+        let bytes = [&tables[..], &record(10, fields)].concat();
+        let (refusal, text) = Network::from_bytes(&bytes).unwrap_err();
+        assert_eq!((refusal.number, refusal.place), (number, 12), "{fields:?}");
+        assert_eq!(text, format!("{refusal} (no match: {fault})"));
+    }
+    let whole = record(10, &[0, 0, 1, 0, 0]);
+    let first = Network::from_bytes(&whole).unwrap_err().1;
+    assert!(first.ends_with("(no match: its left is node 0, and there is none yet)"), "{first}");
+    let late = Network::from_bytes(&[tables.repeat(16), whole].concat()).unwrap_err().1;
+    assert_eq!(late, "refused 5 at byte 192: it would be the 33rd node");
 }
 
 #[test]

@@ -4,15 +4,11 @@ mod common;
 use bagwezin_tools::draw::{self, Held};
 use bagwezin_tools::station::Station;
 use bagwezin_tools::{batches, Network};
-use common::{Random, N};
+use common::{example, example_network, Random, EXAMPLES, N};
 
-fn text(path: &str) -> String {
-    std::fs::read_to_string(common::root().join("examples").join(path)).unwrap()
-}
-
-fn drawn(folder: &str) -> String {
-    let net = Network::assemble(&text(&format!("{folder}/network.txt"))).unwrap();
-    draw::svg(&net, None)
+/// The picture of an example.
+fn drawn(path: &str) -> String {
+    draw::svg(&example_network(path), None)
 }
 
 /// The number that follows a mark in a text.
@@ -24,17 +20,17 @@ fn number(text: &str, mark: &str) -> f64 {
 
 #[test]
 fn the_stored_pictures_are_made_anew() {
-    for folder in ["orchard", "pictures/32-nodes", "pictures/self-join"] {
-        let stored = text(&format!("{folder}/network.svg"));
-        assert!(drawn(folder) == stored, "examples/{folder}/network.svg is not what draw makes");
+    for path in EXAMPLES {
+        let stored = example(&format!("{path}.svg"));
+        assert!(drawn(path) == stored, "examples/{path}.svg is not what draw makes");
         assert!(number(&stored, "width=\"") <= 900.0);
     }
-    let net = Network::assemble(&text("orchard/network.txt")).unwrap();
-    let file = batches::assemble(&net, &text("orchard/batches.txt")).unwrap();
+    let net = example_network("orchard/network");
+    let file = batches::assemble(&net, &example("orchard/batches.txt")).unwrap();
     let mut station = Station::open(&net).unwrap();
     station.play(&file.bytes, Some(5)).unwrap();
     let picture = draw::svg(&net, Some(&draw::state(&station)));
-    assert!(picture == text("orchard/after-batch-5.svg"));
+    assert!(picture == example("orchard/after-batch-5.svg"));
     assert!(picture.contains(">1 row, 1 gained<") && picture.contains(">0 rows, 1 lost<"));
     assert!(!picture.contains(">1 rows"));
 }
@@ -48,8 +44,32 @@ fn every_node_edge_and_watch_is_drawn() {
     assert_eq!(picture.matches(">level ").count(), 4);
     let texts = [">watched: gained and lost<", "count\u{a0}&gt;=\u{a0}8", ">block, count<"];
     assert!(texts.iter().all(|t| picture.contains(t)));
-    let twice = drawn("pictures/self-join");
+    let twice = drawn("pictures/self-join/network");
     assert_eq!(twice.matches("<title>twice to pairs</title>").count(), 2);
+}
+
+#[test]
+fn a_no_match_is_drawn_with_its_pairs() {
+    let picture = drawn("orchard/no-match");
+    let lines = [
+        ">8 unsprayed<",
+        ">block, week<",
+        ">reached nomatch sprays<",
+        ">on\u{a0}block\u{a0}=\u{a0}block<",
+        ">and\u{a0}week\u{a0}=\u{a0}week<",
+        ">watched: gained<",
+    ];
+    let texts: Vec<&str> = picture.lines().filter(|l| l.starts_with("<text ")).collect();
+    let at = texts.iter().position(|l| l.contains(lines[0])).unwrap();
+    for (text, line) in texts[at..].iter().zip(lines) {
+        assert!(text.contains(line), "{text}, not {line}");
+    }
+    for from in ["reached", "sprays"] {
+        assert_eq!(picture.matches(&format!("<title>{from} to unsprayed</title>")).count(), 1);
+    }
+    let graph = draw::dot(&example_network("orchard/no-match"), None);
+    assert!(graph.contains("n7 -> n8 ") && graph.contains("n3 -> n8 "));
+    assert!(graph.contains("\\lreached nomatch sprays\\lon\u{a0}block\u{a0}=\u{a0}block\\l"));
 }
 
 type Frame = (f64, f64, f64, f64);
@@ -120,8 +140,8 @@ fn sound(picture: &str, what: &str) {
 
 #[test]
 fn edges_run_between_boxes() {
-    for folder in ["orchard", "pictures/32-nodes", "pictures/self-join"] {
-        sound(&drawn(folder), folder);
+    for path in EXAMPLES {
+        sound(&drawn(path), path);
     }
     for seed in 0..150 {
         let mut r = Random::new(seed);

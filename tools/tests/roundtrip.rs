@@ -34,13 +34,18 @@ fn batches_around(net: &Network, file: &[u8]) -> Result<(), String> {
 
 #[test]
 fn random_networks_and_batches() {
+    let mut kinds = [0; 11];
     for seed in 0..20_000 {
         let mut r = Random::new(seed);
         let made = common::network(&mut r);
         let net = around(&made.bytes).unwrap_or_else(|e| panic!("seed {seed}: refused {e:?}"));
         let file = common::batches(&mut r, &made);
         batches_around(&net, &file).unwrap_or_else(|e| panic!("seed {seed}: {e}"));
+        for at in network::offsets(&made.bytes) {
+            kinds[network::two(&made.bytes, at + 2).unwrap()] += 1;
+        }
     }
+    assert!(kinds[1..].iter().all(|&n| n > 5000), "{kinds:?}");
 }
 
 #[test]
@@ -114,13 +119,13 @@ fn damaged_files_of_batches_are_refused_by_the_library_or_come_back() {
 fn damaged_texts_are_read_or_told() {
     let words =
         ["=", "where", "give", "as", "left.x", ".9", "@40", "@", ".", "4294967296", "-1", "both", "#", "é", "!"];
-    let texts = [common::N, include_str!("../../examples/orchard/network.txt")];
-    let events = include_str!("../../examples/orchard/batches.txt");
-    let orchard = Network::assemble(texts[1]).unwrap();
+    let texts = [common::N.into(), common::example("orchard/network.txt"), common::example("orchard/no-match.txt")];
+    let events = common::example("orchard/batches.txt");
+    let orchard = common::example_network("orchard/network");
     let mut read = 0;
     for seed in 0..20_000 {
         let mut r = Random::new(seed + 3_000_000);
-        let whole = [texts[0], texts[1], events][r.below(3)];
+        let whole = [&texts[0], &texts[1], &texts[2], &events][r.below(4)];
         let mut pieces: Vec<&str> = whole.split_inclusive([' ', '\n']).collect();
         for _ in 0..1 + r.below(3) {
             let at = r.below(pieces.len());
@@ -131,7 +136,7 @@ fn damaged_texts_are_read_or_told() {
             }
         }
         let text = pieces.concat();
-        let problem = match whole == events {
+        let problem = match *whole == events {
             true => batches::assemble(&orchard, &text).err(),
             false => Network::assemble(&text).map(|net| around(&net.bytes()).unwrap()).err(),
         };
@@ -145,9 +150,8 @@ fn damaged_texts_are_read_or_told() {
 
 #[test]
 fn named_networks_come_back_with_their_names() {
-    for folder in ["orchard", "pictures/32-nodes", "pictures/self-join"] {
-        let path = common::root().join("examples").join(folder).join("network.txt");
-        let net = Network::assemble(&std::fs::read_to_string(path).unwrap()).unwrap();
+    for path in common::EXAMPLES {
+        let net = common::example_network(path);
         assert_eq!(Network::assemble(&net.text()).unwrap(), net);
     }
 }
@@ -192,6 +196,10 @@ fn odd_but_legal_networks() {
         "watch n4 both",
         "join n5 = n4 n4 give left.c0_2 right.c0",
         "intersect n6 = n5 n5",
+        "nomatch n7 = n0 n0 on c0 = c0 and c0 = c0",
+        "watch n7 gained",
+        "nomatch n8 = n1 n7 on c1_3 = c1",
+        "nomatch n9 = n7 n1 on c1 = c1_3 and c0 = c1",
     ];
     let text = lines.join("\n") + "\n";
     let net = Network::assemble(&text).unwrap();
@@ -200,10 +208,19 @@ fn odd_but_legal_networks() {
 
 #[test]
 fn names_and_positions_give_the_same_bytes() {
-    let named = "table a x y\ntable b x\nselect s = a where y >= 8\nselect t = a where x < y\nproject p = a give y x\njoin j = a b on x = x give left.y right.x\nwatch j both\n";
-    let placed = "table a x y\ntable b x\nselect s = @0 where .1>=8\nselect t=a where .0<.1\nproject p = @0 give .1 .0\njoin j = @0 @1 on .0=.0 give left.1 right.0\nwatch @5 both\n";
-    let (named, placed) = (Network::assemble(named).unwrap(), Network::assemble(placed).unwrap());
-    assert_eq!(named, placed);
+    let lines = [
+        ("table a x y", "table a x y"),
+        ("table b x", "table b x"),
+        ("select s = a where y >= 8", "select s = @0 where .1>=8"),
+        ("select t = a where x < y", "select t=a where .0<.1"),
+        ("project p = a give y x", "project p = @0 give .1 .0"),
+        ("join j = a b on x = x give left.y right.x", "join j = @0 @1 on .0=.0 give left.1 right.0"),
+        ("watch j both", "watch @5 both"),
+        ("nomatch k = a b on y = x and x = x", "nomatch k=@0 @1 on .1=.0 and .0=.0"),
+    ];
+    let (named, placed): (Vec<&str>, Vec<&str>) = lines.into_iter().unzip();
+    let read = |lines: Vec<&str>| Network::assemble(&lines.join("\n")).unwrap();
+    assert_eq!(read(named), read(placed));
 }
 
 #[test]
@@ -223,13 +240,30 @@ fn the_papers_network_has_the_papers_bytes() {
     assert_eq!(batches::text(&net, events).unwrap(), text);
 }
 
+/// A no match has 10 bytes and 4 for each pair, takes a node number, and has its left's columns.
+#[test]
+fn a_no_match_has_its_kinds_bytes() {
+    let tables = "table a v w\ntable b x y z\n";
+    let text = format!("{tables}nomatch c = a b on w = z\nnomatch d = c b on v = y and w = x\nwatch d lost\n");
+    let net = Network::assemble(&text).unwrap();
+    let bytes: &[u8] = &[
+        6, 0, 1, 0, 2, 0, 6, 0, 1, 0, 3, 0, 14, 0, 10, 0, 0, 0, 1, 0, 1, 0, 1, 0, 2, 0, 18, 0, 10, 0, 2, 0, 1, 0, 2, 0,
+        0, 0, 1, 0, 1, 0, 0, 0, 8, 0, 9, 0, 3, 0, 2, 0,
+    ];
+    assert_eq!(net.bytes(), bytes);
+    assert_eq!(net.text(), text);
+    let shapes: Vec<(usize, usize)> = net.nodes.iter().map(|n| (n.columns.len(), n.level)).collect();
+    assert_eq!(shapes, [(2, 0), (3, 0), (2, 1), (2, 2)]);
+    assert_eq!(net.nodes[3].columns, ["v", "w"]);
+}
+
 #[test]
 fn the_orchards_text_has_the_orchards_bytes() {
-    let folder = common::root().join("examples/orchard");
-    let text = |name: &str| std::fs::read_to_string(folder.join(name)).unwrap();
-    let bytes = |name: &str| std::fs::read(folder.join(name)).unwrap();
-    let net = Network::assemble(&text("network.txt")).unwrap();
-    assert_eq!(net.bytes(), bytes("network.bin"));
-    let file = batches::assemble(&net, &text("batches.txt")).unwrap();
-    assert_eq!(file.bytes, bytes("batch.bin"));
+    let events = common::example("orchard/batches.txt");
+    for path in ["orchard/network", "orchard/no-match"] {
+        let net = common::example_network(path);
+        assert_eq!(net.bytes(), common::example_bytes(&format!("{path}.bin")));
+        let file = batches::assemble(&net, &events).unwrap();
+        assert_eq!(file.bytes, common::example_bytes("orchard/batch.bin"));
+    }
 }

@@ -17,7 +17,7 @@ use nodes::SetOperation;
 use rows::MAX_WIDTH;
 
 // The last kind's number.
-pub const KINDS: usize = 9;
+pub const KINDS: usize = 10;
 
 // Whether n fields of the record from field k on are below a width.
 fn columns_below(bytes: &[u8], at: usize, k: usize, n: usize, width: usize) -> bool
@@ -252,6 +252,29 @@ fn read_set(
     }))
 }
 
+// Kind 10.
+fn read_no_match(bytes: &[u8], at: usize, count: usize, widths: &[usize]) -> Record
+    requires { ⌜ (isBroken (now bytes) at ≡ false) × (count ≤ length (now widths)) × (kindAt (now bytes) at ≡ 10) ⌝ }
+    ensures { λ r. ⌜ ReadsNode (take count (now (widths .entry))) (now (bytes .entry)) at r ⌝ }
+{
+    if !counted_shape(bytes, at, 2, MAX_PAIRS, 2) {
+        return Record::Refused(6);
+    }
+    let left = records::field_at(bytes, at, 0);
+    if count <= left {
+        return Record::Refused(7);
+    }
+    let right = records::field_at(bytes, at, 1);
+    if count <= right {
+        return Record::Refused(7);
+    }
+    let pairs = records::field_at(bytes, at, 2);
+    if !pairs_below(bytes, at, pairs, widths[left], widths[right]) {
+        return Record::Refused(7);
+    }
+    Record::Item(Item::Node(Node::NoMatch { left, right, pairs }))
+}
+
 // The operation of kind 6, 7 or 8.
 fn set_operation(kind: usize) -> SetOperation
     requires { ⌜ (6 ≤ kind) × (kind ≤ 8) ⌝ }
@@ -266,7 +289,7 @@ fn set_operation(kind: usize) -> SetOperation
 
 // The record of a derived node, by its kind.
 pub fn read_derived(kind: usize, bytes: &[u8], at: usize, count: usize, widths: &[usize]) -> Record
-    requires { ⌜ (2 ≤ kind) × (kind ≤ 9) × (kind ≡ 9 → ⊥) × (kindAt (now bytes) at ≡ kind)
+    requires { ⌜ (2 ≤ kind) × (kind ≤ 10) × (kind ≡ 9 → ⊥) × (kindAt (now bytes) at ≡ kind)
         × (isBroken (now bytes) at ≡ false) × (count ≤ length (now widths)) × Narrow (now widths) ⌝ }
     ensures { λ r. ⌜ ReadsNode (take count (now (widths .entry))) (now (bytes .entry)) at r ⌝ }
 {
@@ -275,6 +298,7 @@ pub fn read_derived(kind: usize, bytes: &[u8], at: usize, count: usize, widths: 
         3 => read_select_column(bytes, at, count, widths),
         4 => read_project(bytes, at, count, widths),
         5 => read_join(bytes, at, count, widths),
+        10 => read_no_match(bytes, at, count, widths),
         _ => read_set(set_operation(kind), bytes, at, count, widths),
     }
 }

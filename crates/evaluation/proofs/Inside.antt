@@ -55,7 +55,11 @@ pub set-inside : (v w i j : ℕ) (o : model.SetOperation) → fitsOn v w (model.
 unfolding fitsOn
 set-inside v w i j o e = eqb-true v w e
 
-pairs-more : (v w : ℕ) (pairs : List Pair) → v ≤ maxWidth → w ≤ maxWidth → pairsBelow v w pairs ≡ true → pairsBelow stride stride pairs ≡ true
+pub no-match-inside : (v w i j : ℕ) (pairs : List Pair) → fitsOn v w (model.noMatch i j pairs) ≡ true → pairsBelow v w pairs ≡ true
+unfolding fitsOn
+no-match-inside v w i j pairs e = e
+
+pub pairs-more : (v w : ℕ) (pairs : List Pair) → v ≤ maxWidth → w ≤ maxWidth → pairsBelow v w pairs ≡ true → pairsBelow stride stride pairs ≡ true
 pairs-more v w [] h g e = refl
 pairs-more v w (p ∷ pairs) h g e =
     let b : (ltb (p .left) v && ltb (p .right) w) ≡ true = and-first (ltb (p .left) v && ltb (p .right) w) (pairsBelow v w pairs) e in

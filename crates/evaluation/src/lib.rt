@@ -105,5 +105,10 @@ pub fn evaluate(slot: Slot, left: &[u32], l: Held, right: &[u32], r: Held, out: 
             left: _,
             right: _,
         } => set_rows(operation, left, l, right, r, out),
+        Node::NoMatch {
+            left: _,
+            right: _,
+            pairs: p,
+        } => { Made::Rows(unmatched::unmatched_rows(left, n, right, m, &slot.pairs, p, out)) }
     }
 }

@@ -7,7 +7,7 @@ use lib.Dec.{eqb, leb, ltb}
 use borrow.Author.Tests.{lt-ltb, le-ltb, le-leb, lt-leb, eq-eqb, ne-eqb}
 use native.Mathlib.Omega.{arith}
 use Rattle.model.specs.Row.{Row, Relation, sameRow, member, keep, keepIf, someOf, numbersBelow}
-use Rattle.model.specs.Algebra.{holdsOf, compareFields, columnsOf, Pair, agree, Operand, passes, selectRows, projectRows, joinOne, joinRows, unionRows, differenceRows, intersectRows}
+use Rattle.model.specs.Algebra.{holdsOf, compareFields, columnsOf, Pair, agree, Operand, passes, selectRows, projectRows, joinOne, joinRows, unionRows, differenceRows, intersectRows, unmatchedRows}
 use Rattle.laws.proofs.Order.{compare-says, sameRow-refl, sameRow-eq}
 use Rattle.laws.proofs.Sets.{Ascending, member-keep, member-setOf, asc-keep, asc-setOf, ext}
 
@@ -39,6 +39,10 @@ module _ {A : Type 0} where
       go : (t : Bool) → someOf q (keep p l) ≡ someOf (λ s. p s && q s) l → someOf q (keepIf t s (keep p l)) ≡ (t && q s || someOf (λ s. p s && q s) l)
       go true ih = ap (λ (b : Bool). q s || b) ih
       go false ih = ih
+
+  pub some-append : (p : A → Bool) (a b : List A) → someOf p (a ++ b) ≡ (someOf p a || someOf p b)
+  some-append p [] b = refl
+  some-append p (s ∷ a) b = rw (some-append p a b) (sym (or-assoc (p s) (someOf p a) (someOf p b)))
 
 -- some row passes a test exactly if there is a row of the list that does
 pub some-row : (p : Row → Bool) (l : List Row) → someOf p l ≡ true → (s : Row) × (member s l ≡ true) × (p s ≡ true)
@@ -124,6 +128,11 @@ pub member-intersect : (r : Row) (a b : Relation) → member r (intersectRows a 
 unfolding intersectRows
 member-intersect r a b = member-keep (λ s. member s b) r a
 
+-- kind 10: in the left, and no right row agrees on all pairs
+pub member-unmatched : (r : Row) (pairs : List Pair) (a b : Relation) → member r (unmatchedRows pairs a b) ≡ (not (someOf (agree pairs r) b) && member r a)
+unfolding unmatchedRows
+member-unmatched r pairs a b = member-keep (λ l. not (someOf (agree pairs l) b)) r a
+
 -- ---- each result is strictly ascending
 
 pub asc-select : (c k : ℕ) (o : Operand) (input : Relation) → Ascending input → Ascending (selectRows c k o input)
@@ -149,6 +158,10 @@ asc-difference a b h = asc-keep (λ s. not (member s b)) a h
 pub asc-intersect : (a b : Relation) → Ascending a → Ascending (intersectRows a b)
 unfolding intersectRows
 asc-intersect a b h = asc-keep (λ s. member s b) a h
+
+pub asc-unmatched : (pairs : List Pair) (a b : Relation) → Ascending a → Ascending (unmatchedRows pairs a b)
+unfolding unmatchedRows
+asc-unmatched pairs a b h = asc-keep (λ l. not (someOf (agree pairs l) b)) a h
 
 -- ---- a union does not depend on the order of its sides
 

@@ -7,14 +7,15 @@ use native.Mathlib.Omega.{arith}
 use lib.Dec.{eqb, leb}
 use lib.ListN.{getD, length, length-map}
 use borrow.Author.Tests.{eqb-true, leb-true}
-use Rattle.model.specs.Row.{Row, Relation, Wide, keep, member, maxWidth}
-use Rattle.model.specs.Algebra.{Pair, agree, columnsOf, joinOne, passes, selectRows, projectRows, joinRows, unionRows, differenceRows, intersectRows, column, constant, Operand}
+use Rattle.model.specs.Row.{Row, Relation, Wide, keep, member, someOf, maxWidth}
+use Rattle.model.specs.Algebra.{Pair, agree, columnsOf, joinOne, passes, selectRows, projectRows, joinRows, unionRows, differenceRows, intersectRows, unmatchedRows}
+use Rattle.model.specs.Algebra.{column, constant, Operand}
 use Rattle.model.specs.Record.{Bytes, fieldAt, fieldsAt, lengthAt}
 use Rattle.model.specs.Network.{maxPairs, Item, Kind, Node, difference, hasShape, intersection, itemAt, itemFits, join, joinShape, kindOf, kinds, noKind, nodeFits, nodeItem, project}
-use Rattle.model.specs.Network.{isTable, widthOn, countedShape, select, setOperation, table, union, watchItem, widthOf, within, fitsOn, SetOperation, evaluateOn, evaluateSet}
+use Rattle.model.specs.Network.{isTable, widthOn, countedShape, select, setOperation, noMatch, table, union, watchItem, widthOf, within, fitsOn, SetOperation, evaluateOn, evaluateSet}
 use Rattle.laws.proofs.Sets.{Ascending, and-first, and-second}
 use Rattle.laws.proofs.Widths.{wide-keep, wide-append, wide-setOf, wide-each, wide-map}
-use Rattle.laws.proofs.Algebra.{asc-select, asc-project, asc-join, asc-union, asc-difference, asc-intersect}
+use Rattle.laws.proofs.Algebra.{asc-select, asc-project, asc-join, asc-union, asc-difference, asc-intersect, asc-unmatched}
 
 -- ---- a kind's number
 
@@ -27,6 +28,7 @@ kind-most (join l r pairs columns) = omega arith
 kind-most (setOperation union l r) = omega arith
 kind-most (setOperation difference l r) = omega arith
 kind-most (setOperation intersection l r) = omega arith
+kind-most (noMatch l r pairs) = omega arith
 
 -- ---- what a record of a kind brings is no wider than the largest width, if the nodes before it are
 
@@ -93,7 +95,10 @@ kinds-narrow = (
                 λ ws signs bs at h f narrow. narrow (fieldAt bs at 0),
                 (
                   λ ws signs bs at h f narrow. zero-le,
-                  tt,
+                  (
+                    λ ws signs bs at h f narrow. narrow (fieldAt bs at 0),
+                    tt,
+                  ),
                 ),
               ),
             ),
@@ -126,6 +131,7 @@ on-asc (select i c k o) l r a = asc-select c k o l a
 on-asc (project i columns) l r a = asc-project columns l
 on-asc (join i j pairs columns) l r a = asc-join pairs columns l r
 on-asc (setOperation o i j) l r a = asc-set o l r a
+on-asc (noMatch i j pairs) l r a = asc-unmatched pairs l r a
 
 select-none : (c k : ℕ) (o : Operand) → selectRows c k o [] ≡ []
 unfolding selectRows
@@ -140,12 +146,13 @@ set-none intersection = refl
 
 -- from no rows it gives none
 pub on-none : (n : Node) → evaluateOn n [] [] ≡ []
-unfolding evaluateOn projectRows joinRows flatMap
+unfolding evaluateOn projectRows joinRows unmatchedRows flatMap
 on-none (table w) = refl
 on-none (select i c k o) = select-none c k o
 on-none (project i columns) = refl
 on-none (join l r pairs columns) = refl
 on-none (setOperation o l r) = set-none o
+on-none (noMatch l r pairs) = refl
 
 wide-one : (pairs : List Pair) (columns : List ℕ) (right : Relation) (l : Row) → Wide (length columns) (joinOne pairs columns right l)
 unfolding joinOne
@@ -159,7 +166,7 @@ wide-operation v intersection l r h g = wide-keep v (λ x. member x r) l h
 
 -- what a node's kind gives has its width
 pub on-wide : (v w : ℕ) (n : Node) (l r : Relation) → isTable n ≡ false → fitsOn v w n ≡ true → Wide v l → Wide w r → Wide (widthOn v n) (evaluateOn n l r)
-unfolding evaluateOn fitsOn selectRows projectRows joinRows
+unfolding evaluateOn fitsOn selectRows projectRows joinRows unmatchedRows
 on-wide v w (table x) l r e f h g = absurd (true≢false e)
 on-wide v w (select i c k o) l r e f h g = wide-keep v (passes c k o) l h
 on-wide v w (project i columns) l r e f h g = wide-setOf (length columns) (map (columnsOf columns) l)
@@ -167,3 +174,4 @@ on-wide v w (project i columns) l r e f h g = wide-setOf (length columns) (map (
 on-wide v w (join i j pairs columns) l r e f h g = wide-setOf (length columns) (flatMap (joinOne pairs columns r) l)
     (wide-each (length columns) (joinOne pairs columns r) l v h (λ s k. wide-one pairs columns r s))
 on-wide v w (setOperation o i j) l r e f h g = let same : v ≡ w = eqb-true v w f in wide-operation v o l r h (rw same g)
+on-wide v w (noMatch i j pairs) l r e f h g = wide-keep v (λ x. not (someOf (agree pairs x) r)) l h

@@ -7,7 +7,7 @@ use lib.ListN.{replicate}
 use Rattle.model.specs.Row.{sameRow, allOf, numbersBelow}
 use Rattle.model.specs.Record.{Bytes, u16, u32, bytes16, bytes32, Verdict, accepted, refused}
 use Rattle.model.specs.Algebra.{constant, column}
-use Rattle.model.specs.Network.{table, select, project, join, setOperation, union, difference, intersection, readNetwork}
+use Rattle.model.specs.Network.{table, select, project, join, setOperation, noMatch, union, difference, intersection, readNetwork}
 use Rattle.model.specs.Calls.{readCall}
 use Rattle.model.specs.Examples.{recordBytes, shown}
 
@@ -23,7 +23,7 @@ in-bytes = refl
 
 -- ---- one node of each kind
 
--- two tables, both selects, a project, a join on two pairs, the three set operations; watches on nodes 7 and 0
+-- two tables, both selects, a project, a join on two pairs, the three set operations, a no match on two pairs; watches on nodes 7 and 0
 networkK : Bytes
 unfolding recordBytes
 networkK =
@@ -38,6 +38,7 @@ networkK =
     ++ recordBytes 9 (7 ∷ 2 ∷ [])
     ++ recordBytes 9 (0 ∷ 1 ∷ [])
     ++ recordBytes 1 (1 ∷ [])
+    ++ recordBytes 10 (0 ∷ 3 ∷ 2 ∷ 0 ∷ 1 ∷ 1 ∷ 2 ∷ [])
 
 -- each field where its kind's body says
 read-nodes : readNetwork networkK .network ≡ record {
@@ -51,8 +52,9 @@ read-nodes : readNetwork networkK .network ≡ record {
       ∷ setOperation difference 1 0
       ∷ setOperation intersection 5 6
       ∷ table 1
+      ∷ noMatch 0 3 (record { left = 0; right = 1 } ∷ record { left = 1; right = 2 } ∷ [])
       ∷ [];
-  signs = 1 ∷ 0 ∷ 0 ∷ 0 ∷ 0 ∷ 0 ∷ 0 ∷ 2 ∷ 0 ∷ [];
+  signs = 1 ∷ 0 ∷ 0 ∷ 0 ∷ 0 ∷ 0 ∷ 0 ∷ 2 ∷ 0 ∷ 0 ∷ [];
 }
 unfolding readNetwork networkK
 read-nodes = refl
@@ -60,16 +62,16 @@ read-nodes = refl
 -- the reader's answer on it: node count, kinds, widths, levels, 0 past the last node
 read-answer : readCall networkK ≡ record {
   verdict = accepted;
-  count = 9;
-  kinds = 1 ∷ 2 ∷ 3 ∷ 4 ∷ 5 ∷ 6 ∷ 7 ∷ 8 ∷ 1 ∷ replicate 23 0;
-  widths = 2 ∷ 2 ∷ 2 ∷ 3 ∷ 4 ∷ 2 ∷ 2 ∷ 2 ∷ 1 ∷ replicate 23 0;
-  levels = 0 ∷ 1 ∷ 2 ∷ 3 ∷ 4 ∷ 3 ∷ 2 ∷ 4 ∷ 0 ∷ replicate 23 0;
+  count = 10;
+  kinds = 1 ∷ 2 ∷ 3 ∷ 4 ∷ 5 ∷ 6 ∷ 7 ∷ 8 ∷ 1 ∷ 10 ∷ replicate 22 0;
+  widths = 2 ∷ 2 ∷ 2 ∷ 3 ∷ 4 ∷ 2 ∷ 2 ∷ 2 ∷ 1 ∷ 2 ∷ replicate 22 0;
+  levels = 0 ∷ 1 ∷ 2 ∷ 3 ∷ 4 ∷ 3 ∷ 2 ∷ 4 ∷ 0 ∷ 4 ∷ replicate 22 0;
 }
 unfolding readCall networkK
 read-answer = refl
 
 -- beside a refusal all numbers are 0
-read-refused : readCall (recordBytes 1 (2 ∷ []) ++ recordBytes 10 []) ≡ record { verdict = refused 4 6; count = 0; kinds = replicate 32 0; widths = replicate 32 0; levels = replicate 32 0 }
+read-refused : readCall (recordBytes 1 (2 ∷ []) ++ recordBytes 11 []) ≡ record { verdict = refused 4 6; count = 0; kinds = replicate 32 0; widths = replicate 32 0; levels = replicate 32 0 }
 unfolding readCall recordBytes
 read-refused = refl
 
@@ -113,10 +115,11 @@ judged-2-to-5 :
     ∷ verdict 3 0 (3 ∷ 0 ∷ 1 ∷ 0 ∷ [])  -- a length below 4
     ∷ verdict 3 0 (7 ∷ 0 ∷ 1 ∷ 0 ∷ 1 ∷ 0 ∷ [])  -- a length beyond the end
     ∷ verdict 4 0 (recordBytes 0 (1 ∷ []))  -- kind 0
-    ∷ verdict 4 6 (one ++ recordBytes 10 (0 ∷ 1 ∷ []))  -- kind 10
+    ∷ verdict 4 6 (one ++ recordBytes 11 (0 ∷ 1 ∷ []))  -- kind 11
     ∷ verdict 4 0 (recordBytes 257 (1 ∷ []))  -- a kind has two bytes
     ∷ verdict 5 192 (full ++ recordBytes 1 (9 ∷ 9 ∷ []))  -- the 33rd node, before its length
-    ∷ verdict 4 192 (full ++ recordBytes 10 [])  -- 4 comes before 5
+    ∷ verdict 5 192 (full ++ recordBytes 10 [])  -- a no match is a node
+    ∷ verdict 4 192 (full ++ recordBytes 11 [])  -- 4 comes before 5
     ∷ verdict 0 0 (full ++ recordBytes 9 (31 ∷ 3 ∷ []))  -- a watch is no node
     ∷ verdict 7 192 (full ++ recordBytes 9 (32 ∷ 3 ∷ []))  -- but can be wrong
     ∷ [])
@@ -140,6 +143,11 @@ judged-6 :
     ∷ verdict 6 6 (one ++ recordBytes 5 (0 ∷ 0 ∷ 0 ∷ 0 ∷ []))  -- a join of no column
     ∷ verdict 6 6 (one ++ recordBytes 6 (0 ∷ []))  -- a union of 6 bytes
     ∷ verdict 6 6 (one ++ recordBytes 9 (0 ∷ 1 ∷ 0 ∷ []))  -- a watch of 10 bytes
+    ∷ verdict 6 6 (one ++ recordBytes 10 (0 ∷ 0 ∷ []))  -- a no match without its count
+    ∷ verdict 6 6 (one ++ recordBytes 10 (0 ∷ 0 ∷ 0 ∷ []))  -- no pair
+    ∷ verdict 6 6 (one ++ recordBytes 10 (0 ∷ 0 ∷ 3 ∷ 0 ∷ 0 ∷ 0 ∷ 0 ∷ 0 ∷ 0 ∷ []))  -- three pairs
+    ∷ verdict 6 6 (one ++ recordBytes 10 (0 ∷ 0 ∷ 1 ∷ 0 ∷ 0 ∷ 0 ∷ []))  -- more fields than the count
+    ∷ verdict 6 6 (one ++ recordBytes 10 (0 ∷ 0 ∷ 2 ∷ 0 ∷ 0 ∷ []))  -- a pair is outside
     ∷ verdict 6 0 (recordBytes 1 (0 ∷ 0 ∷ []))  -- 6 comes before 7
     ∷ [])
     ≡ true
@@ -164,6 +172,11 @@ judged-7 :
     ∷ verdict 7 12 (two ++ one ++ recordBytes 5 (0 ∷ 1 ∷ 1 ∷ 1 ∷ 1 ∷ 1 ∷ 0 ∷ []))  -- a pair's right column at the right width
     ∷ verdict 7 12 (two ++ one ++ recordBytes 5 (0 ∷ 1 ∷ 0 ∷ 1 ∷ 3 ∷ []))  -- a named column at both widths' sum
     ∷ verdict 0 0 (two ++ one ++ recordBytes 5 (0 ∷ 1 ∷ 1 ∷ 1 ∷ 0 ∷ 1 ∷ 2 ∷ []))  -- a join just inside all of these
+    ∷ verdict 7 12 (two ++ one ++ recordBytes 10 (2 ∷ 1 ∷ 1 ∷ 0 ∷ 0 ∷ []))  -- a no match's left is itself
+    ∷ verdict 7 12 (two ++ one ++ recordBytes 10 (0 ∷ 2 ∷ 1 ∷ 0 ∷ 0 ∷ []))  -- its right is itself
+    ∷ verdict 7 12 (two ++ one ++ recordBytes 10 (0 ∷ 1 ∷ 1 ∷ 2 ∷ 0 ∷ []))  -- its left column at the left width
+    ∷ verdict 7 12 (two ++ one ++ recordBytes 10 (0 ∷ 1 ∷ 2 ∷ 1 ∷ 0 ∷ 0 ∷ 1 ∷ []))  -- its second pair's right column at the right width
+    ∷ verdict 0 0 (two ++ one ++ recordBytes 10 (0 ∷ 1 ∷ 2 ∷ 1 ∷ 0 ∷ 0 ∷ 0 ∷ []))  -- one just inside all of these
     ∷ verdict 7 12 (two ++ one ++ recordBytes 6 (0 ∷ 1 ∷ []))  -- unequal widths
     ∷ verdict 7 6 (one ++ recordBytes 7 (1 ∷ 0 ∷ []))  -- a difference's left is itself
     ∷ verdict 7 6 (one ++ recordBytes 8 (0 ∷ 1 ∷ []))  -- an intersection's right is itself

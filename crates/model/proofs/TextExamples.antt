@@ -76,7 +76,7 @@ unfolding runFiles networkN put recordBytes mark batchLine
 output-refused = refl
 
 -- a refused network ends the program with its number and its place
-output-network : runFiles (recordBytes 1 (1 ∷ []) ++ recordBytes 10 []) mark ≡ 114 ∷ 101 ∷ 102 ∷ 117 ∷ 115 ∷ 101 ∷ 100 ∷ 32 ∷ 52 ∷ 32 ∷ 54 ∷ 10 ∷ []
+output-network : runFiles (recordBytes 1 (1 ∷ []) ++ recordBytes 11 []) mark ≡ 114 ∷ 101 ∷ 102 ∷ 117 ∷ 115 ∷ 101 ∷ 100 ∷ 32 ∷ 52 ∷ 32 ∷ 54 ∷ 10 ∷ []
 unfolding runFiles recordBytes mark
 output-network = refl
 

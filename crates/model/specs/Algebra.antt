@@ -1,10 +1,11 @@
--- Relational algebra on sets: the column "rows" of document 01's table of kinds, and what it says of joins.
+-- Relational algebra on sets: the column "rows" of document 01's table of kinds, what it says of joins, and document
+-- 02's kind 10.
 use mathlib.Core.Bool.{Bool, true, false, not, _&&_}
 use mathlib.Core.List.{List, [], _∷_, _++_, map, flatMap}
 use Prim.Native.Nat.{ℕ, compare, Ordering, Ordering·lt, Ordering·eq, Ordering·gt}
 use lib.Dec.{eqb}
 use lib.ListN.{getD}
-use Rattle.model.specs.Row.{Row, Relation, member, setOf, keep}
+use Rattle.model.specs.Row.{Row, Relation, member, setOf, keep, someOf}
 
 -- ---- comparisons
 
@@ -55,7 +56,7 @@ passes c code operand r = holdsOf code (compareFields (getD r c 0) (operandIn op
 abbrev pub columnsOf : List ℕ → Row → Row
 columnsOf columns r = map (λ c. getD r c 0) columns
 
--- a pair of columns of a join: the left row's, the right row's
+-- a pair of columns: the left row's, the right row's
 pub record Pair : Type 0 where
   pub left : ℕ
   pub right : ℕ
@@ -97,3 +98,7 @@ differenceRows left right = keep (λ r. not (member r right)) left
 -- kind 8: intersection
 unfoldable pub intersectRows : Relation → Relation → Relation
 intersectRows left right = keep (λ r. member r right) left
+
+-- kind 10: "the left rows for which no right row agrees on all pairs"
+unfoldable pub unmatchedRows : List Pair → Relation → Relation → Relation
+unmatchedRows pairs left right = keep (λ l. not (someOf (agree pairs l) right)) left

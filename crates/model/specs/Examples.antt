@@ -1,5 +1,5 @@
--- The starred examples of document 01 as one table: from bytes to what they must give, with one test over the whole
--- table.
+-- The starred examples of document 01 as one table, and what document 02 says of new kinds as another: from bytes to
+-- what they must give, with one test over each table.
 use mathlib.Core.Path.{_≡_, refl}
 use mathlib.Core.Bool.{Bool, true, _&&_}
 use mathlib.Core.List.{List, [], _∷_, _++_, map, flatMap}
@@ -57,6 +57,17 @@ networkS =
     ++ recordBytes 7 (0 ∷ 0 ∷ [])
     ++ recordBytes 5 (0 ∷ 0 ∷ 1 ∷ 0 ∷ 0 ∷ 1 ∷ 0 ∷ [])
     ++ recordBytes 6 (0 ∷ 1 ∷ [])
+
+-- a table of width 1 (block), a table of width 2 (sprayed block, day), node 2 the blocks with no spray entry, nodes 3
+-- and 4 the entries with no entry that agrees on both columns, and with none whose day is their block
+unfoldable pub networkM : Bytes
+unfolding recordBytes
+networkM =
+    recordBytes 1 (1 ∷ [])
+    ++ recordBytes 1 (2 ∷ [])
+    ++ recordBytes 10 (0 ∷ 1 ∷ 1 ∷ 0 ∷ 0 ∷ [])
+    ++ recordBytes 10 (1 ∷ 1 ∷ 2 ∷ 0 ∷ 0 ∷ 1 ∷ 1 ∷ [])
+    ++ recordBytes 10 (1 ∷ 1 ∷ 1 ∷ 0 ∷ 1 ∷ [])
 
 -- ---- batches
 
@@ -220,3 +231,52 @@ examples =
 pub examples-right : allOf isRight examples ≡ true
 unfolding examples isRight
 examples-right = refl
+
+-- document 02, point 1
+unfoldable pub requested : List Case
+unfolding networkM put remove
+requested =
+    -- "one agreeing row on the right is enough to keep it out"
+    case
+    networkM
+    ((put 0 (5 ∷ []) ++ put 0 (6 ∷ []) ++ put 1 (5 ∷ 1 ∷ []) ++ put 1 (1 ∷ 6 ∷ [])) ∷ [])
+    (passes ∷ passes ∷ [])
+    (ask (rowsOf 2) ((6 ∷ []) ∷ []) ∷ ask (gainedOf 2) ((6 ∷ []) ∷ []) ∷ ask levelsAre
+    ((0 ∷ 0 ∷ 1 ∷ 1 ∷ 1 ∷ []) ∷ []) ∷ [])
+    -- "A lost right row can thus be a gain": it was the only one that agreed
+    ∷ case
+    networkM
+    ((put 0 (5 ∷ []) ++ put 1 (5 ∷ 1 ∷ [])) ∷ remove 1 (5 ∷ 1 ∷ []) ∷ [])
+    (passes ∷ passes ∷ passes ∷ [])
+    (ask (gainedOf 2) ((5 ∷ []) ∷ []) ∷ ask (lostOf 2) [] ∷ ask (rowsOf 2) ((5 ∷ []) ∷ []) ∷ [])
+    -- one of two right rows that agree lost is no change
+    ∷ case
+    networkM
+    ((put 0 (5 ∷ []) ++ put 1 (5 ∷ 1 ∷ []) ++ put 1 (5 ∷ 2 ∷ [])) ∷ remove 1 (5 ∷ 1 ∷ []) ∷ [])
+    (passes ∷ passes ∷ passes ∷ [])
+    (ask (gainedOf 2) [] ∷ ask (lostOf 2) [] ∷ ask (rowsOf 2) [] ∷ ask workedIs ((2 ∷ 3 ∷ 4 ∷ []) ∷ []) ∷ [])
+    -- a right row gained is a loss
+    ∷ case
+    networkM
+    (put 0 (5 ∷ []) ∷ put 1 (5 ∷ 1 ∷ []) ∷ [])
+    (passes ∷ passes ∷ passes ∷ [])
+    (ask (gainedOf 2) [] ∷ ask (lostOf 2) ((5 ∷ []) ∷ []) ∷ [])
+    -- both inputs gain a row, and the two cancel
+    ∷ case
+    networkM
+    ((put 0 (5 ∷ []) ++ put 1 (5 ∷ 1 ∷ [])) ∷ [])
+    (passes ∷ passes ∷ [])
+    (ask (gainedOf 0) ((5 ∷ []) ∷ []) ∷ ask (gainedOf 1) ((5 ∷ 1 ∷ []) ∷ []) ∷ ask (gainedOf 2) [] ∷ ask (rowsOf 2)
+    [] ∷ [])
+    -- of a node with itself: on the same columns no row is left, on crossed ones (2,5) is, since no entry has day 2
+    ∷ case
+    networkM
+    ((put 1 (5 ∷ 1 ∷ []) ++ put 1 (2 ∷ 5 ∷ [])) ∷ [])
+    (passes ∷ passes ∷ [])
+    (ask (rowsOf 3) [] ∷ ask (rowsOf 4) ((2 ∷ 5 ∷ []) ∷ []) ∷ [])
+    ∷ []
+
+-- this table is right too
+pub requested-right : allOf isRight requested ≡ true
+unfolding requested isRight
+requested-right = refl

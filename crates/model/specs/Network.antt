@@ -1,4 +1,4 @@
--- Networks: document 01, "Rows, nodes, levels", "Records", and refusals 2 to 7.
+-- Networks: document 01, "Rows, nodes, levels", "Records", and refusals 2 to 7; document 02, point 1.
 use mathlib.Core.Bool.{Bool, true, false, not, _&&_, cond}
 use mathlib.Core.List.{List, [], _∷_, _++_}
 use mathlib.Core.Path.{_≡_}
@@ -7,7 +7,7 @@ use lib.Dec.{leb, ltb, eqb}
 use lib.ListN.{getD, length, set, take}
 use Rattle.model.specs.Row.{Relation, maxWidth, maxNodes, allOf, isEmpty, place}
 use Rattle.model.specs.Algebra.{Operand, constant, column, Pair, selectRows, projectRows, joinRows, unionRows}
-use Rattle.model.specs.Algebra.{differenceRows, intersectRows}
+use Rattle.model.specs.Algebra.{differenceRows, intersectRows, unmatchedRows}
 use Rattle.model.specs.Record.{Bytes, u32, lengthAt, kindAt, fieldAt, fieldsAt, isBroken, offsets, Verdict}
 use Rattle.model.specs.Record.{accepted, refused, rule}
 use Rattle.model.specs.Record.{firstBroken}
@@ -27,6 +27,7 @@ pub data Node : Type 0 where
   project : ℕ → List ℕ → Node  -- input, columns
   join : ℕ → ℕ → List Pair → List ℕ → Node  -- left, right, pairs, columns
   setOperation : SetOperation → ℕ → ℕ → Node  -- left, right
+  noMatch : ℕ → ℕ → List Pair → Node  -- left, right, pairs
 
 -- "Kind 9 is a watch: node, sign (1 gained, 2 lost, 3 both)"
 pub record Watch : Type 0 where
@@ -54,6 +55,7 @@ kindOf (join l r pairs columns) = 5
 kindOf (setOperation union l r) = 6
 kindOf (setOperation difference l r) = 7
 kindOf (setOperation intersection l r) = 8
+kindOf (noMatch l r pairs) = 10
 
 -- the nodes that a node uses: none, one, or a left and a right one
 pub data Inputs : Type 0 where
@@ -68,6 +70,7 @@ usesOf (select i c k o) = oneInput i
 usesOf (project i columns) = oneInput i
 usesOf (join l r pairs columns) = twoInputs l r
 usesOf (setOperation o l r) = twoInputs l r
+usesOf (noMatch l r pairs) = twoInputs l r
 
 -- how many fields a node's rows have, given the width of its first input
 abbrev pub widthOn : ℕ → Node → ℕ
@@ -76,6 +79,7 @@ widthOn v (select i c k o) = v
 widthOn v (project i columns) = length columns
 widthOn v (join l r pairs columns) = length columns
 widthOn v (setOperation o l r) = v
+widthOn v (noMatch l r pairs) = v
 
 -- every column is below a width
 abbrev pub columnsBelow : ℕ → List ℕ → Bool
@@ -101,6 +105,7 @@ fitsOn v w (select i c k o) = ltb c v && ltb k 6 && operandBelow v o
 fitsOn v w (project i columns) = columnsBelow v columns
 fitsOn v w (join l r pairs columns) = pairsBelow v w pairs && columnsBelow (v + w) columns
 fitsOn v w (setOperation o l r) = eqb v w
+fitsOn v w (noMatch l r pairs) = pairsBelow v w pairs
 
 -- kinds 6, 7, 8
 unfoldable pub evaluateSet : SetOperation → Relation → Relation → Relation
@@ -111,12 +116,13 @@ evaluateSet intersection l r = intersectRows l r
 
 -- what a node's kind gives from the rows of its first and its last input; a table's kind gives none
 unfoldable pub evaluateOn : Node → Relation → Relation → Relation
-unfolding selectRows projectRows joinRows evaluateSet
+unfolding selectRows projectRows joinRows evaluateSet unmatchedRows
 evaluateOn (table w) l r = []
 evaluateOn (select i c k o) l r = selectRows c k o l
 evaluateOn (project i columns) l r = projectRows columns l
 evaluateOn (join i j pairs columns) l r = joinRows pairs columns l r
 evaluateOn (setOperation o i j) l r = evaluateSet o l r
+evaluateOn (noMatch i j pairs) l r = unmatchedRows pairs l r
 
 -- ---- a node's inputs
 
@@ -208,7 +214,7 @@ countedShape k most each bs at =
     && within 1 most (fieldAt bs at k)
     && eqb (lengthAt bs at) (6 + 2 * (k + each * fieldAt bs at k))
 
--- the most pairs of a join: "p 0..2"
+-- the most pairs: "p 0..2" of a join, "p 1 or 2" of kind 10
 abbrev pub maxPairs : ℕ
 maxPairs = 2
 
@@ -221,7 +227,7 @@ joinShape bs at =
     && within 1 maxWidth (fieldAt bs at (3 + 2 * fieldAt bs at 2))
     && eqb (lengthAt bs at) (12 + 4 * fieldAt bs at 2 + 2 * fieldAt bs at (3 + 2 * fieldAt bs at 2))
 
--- n pairs of a join, from field k of the body on
+-- n pairs of columns, from field k of the body on
 abbrev pub pairsAt : Bytes → ℕ → ℕ → ℕ → List Pair
 pairsAt bs at k zero = []
 pairsAt bs at k (suc n) = record { left = fieldAt bs at k; right = fieldAt bs at (k + 1) } ∷ pairsAt bs at (k + 2) n
@@ -261,6 +267,10 @@ setAt o bs at = nodeItem (setOperation o (fieldAt bs at 0) (fieldAt bs at 1))
 abbrev pub watchAt : Bytes → ℕ → Item
 watchAt bs at = watchItem (record { node = fieldAt bs at 0; sign = fieldAt bs at 1 })
 
+-- kind 10: "left, right, p 1 or 2, p pairs"
+abbrev pub noMatchAt : Bytes → ℕ → Item
+noMatchAt bs at = nodeItem (noMatch (fieldAt bs at 0) (fieldAt bs at 1) (pairsAt bs at 3 (fieldAt bs at 2)))
+
 -- a kind: rule 6, and the column "body" of the table of kinds
 pub record Kind : Type 0 where
   pub shape : Bytes → ℕ → Bool
@@ -278,13 +288,14 @@ kinds =
     ∷ record { shape = hasLength 8; item = setAt difference }  -- 7
     ∷ record { shape = hasLength 8; item = setAt intersection }  -- 8
     ∷ record { shape = hasLength 8; item = watchAt }  -- 9
+    ∷ record { shape = countedShape 2 maxPairs 2; item = noMatchAt }  -- 10: 10 + 4p bytes
     ∷ []
 
 -- what stands for a number outside the table
 abbrev pub noKind : Kind
 noKind = record { shape = λ bs at. false; item = λ bs at. nodeItem (table 0) }
 
--- rule 4: "a kind outside 1 to 9"
+-- rule 4: "Refusal 4 now means a kind outside 1 to 10"
 unfoldable pub isUnknown : ℕ → Bool
 isUnknown number = not (within 1 (length kinds) number)
 

@@ -5,14 +5,14 @@ use mathlib.Core.List.{List, [], _∷_}
 use Prim.Native.Nat.{ℕ, zero, suc}
 use lib.ListN.{getD, take, drop, length}
 use Rattle.model.specs.Algebra.{Pair, constant, column}
-use Rattle.model.specs.Network.{table, select, project, join, setOperation, union, difference, intersection}
+use Rattle.model.specs.Network.{table, select, project, join, setOperation, noMatch, union, difference, intersection}
 use Rattle.model.specs.Network.{kindOf, leftOf, rightOf, isTable, widthOn}
 use Rattle.nodes.specs.declared.Operand.{Operand}
 use Rattle.nodes.specs.declared.Operand.the-variants.{Constant, Column}
 use Rattle.nodes.specs.declared.SetOperation.{SetOperation}
 use Rattle.nodes.specs.declared.SetOperation.the-variants.{Union, Difference, Intersection}
 use Rattle.nodes.specs.declared.Node.{Node}
-use Rattle.nodes.specs.declared.Node.the-variants.{Table, Select, Project, Join, Set}
+use Rattle.nodes.specs.declared.Node.the-variants.{Table, Select, Project, Join, Set, NoMatch}
 use Rattle.nodes.specs.declared.Parts.{Parts}
 use Rattle.nodes.specs.declared.Record.{Record}
 use Rattle.nodes.specs.declared.Record.the-variants.{Item as Brought, Refused}
@@ -58,6 +58,7 @@ listsOf (Select i c k o) = record { pairs = 0; columns = 0; from = 0 }
 listsOf (Project i n) = record { pairs = 0; columns = n; from = 2 }
 listsOf (Join l r p n) = record { pairs = p; columns = n; from = 4 }
 listsOf (Set o l r) = record { pairs = 0; columns = 0; from = 0 }
+listsOf (NoMatch l r p) = record { pairs = p; columns = 0; from = 0 }
 
 -- a node with its lists
 abbrev pub withLists : Node → List ℕ → List Pair → model.Node
@@ -66,6 +67,7 @@ withLists (Select i c k o) columns pairs = select i c k (operandOf o)
 withLists (Project i n) columns pairs = project i columns
 withLists (Join l r p n) columns pairs = join l r pairs columns
 withLists (Set o l r) columns pairs = setOperation (operationOf o) l r
+withLists (NoMatch l r p) columns pairs = noMatch l r pairs
 
 -- a node, with its columns and pairs in arrays beside it
 abbrev pub nodeOf : Node → List ℕ → List ℕ → model.Node

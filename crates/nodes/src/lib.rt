@@ -3,7 +3,7 @@ ghost use mathlib.Core.Path.{_≡_};
 ghost use mathlib.Core.Bool.{true};
 ghost use Rattle.nodes.specs.Nodes.{selectKind, setKind, PartsAre, numberOf};
 
-// The most pairs of a join.
+// The most pairs of a join and of a no match.
 pub const MAX_PAIRS: usize = 2;
 
 // What a select compares its column with.
@@ -44,6 +44,11 @@ pub enum Node {
         operation: SetOperation,
         left: usize,
         right: usize,
+    },
+    NoMatch {
+        left: usize,
+        right: usize,
+        pairs: usize,
     },
 }
 
@@ -167,6 +172,7 @@ pub fn parts_of(node: Node) -> Parts
             left,
             right,
         } => derived(set_kind(operation), left, right, true, 0, 0, 0),
+        Node::NoMatch { left, right, pairs } => derived(10, left, right, true, pairs, 0, 0),
     }
 }
 

@@ -13,7 +13,7 @@ const WORKED: usize = 129;
 /// A node of a network, as the reader answers it.
 #[derive(Clone, Copy, Debug, PartialEq, Eq, Hash)]
 pub struct NodeShape {
-    /// 1 table, 2 and 3 select, 4 project, 5 join, 6 union, 7 left without right, 8 intersection.
+    /// 1 table, 2 and 3 select, 4 project, 5 join, 6 union, 7 left without right, 8 intersection, 10 no match.
     pub kind: u32,
     /// Fields of a row: 1 to 4.
     pub width: u32,

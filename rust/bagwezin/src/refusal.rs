@@ -22,7 +22,7 @@ impl Refusal {
             1 => "an area is shorter than stated",
             2 => "the network has no bytes",
             3 => "a network record's length is broken",
-            4 => "the network record has a kind outside 1 to 9",
+            4 => "the network record has a kind outside 1 to 10",
             5 => "it would be the 33rd node",
             6 => "the record's length is not its kind's, or a count is out of range",
             7 => "a field of the record breaks a rule",

@@ -55,7 +55,7 @@ fn network(r: &mut Random) -> Vec<u8> {
         }
         let (left, right) = (r.below(n), r.below(n));
         let column = |r: &mut Random, w: usize| r.below(w);
-        match 2 + r.below(7) {
+        match [2, 3, 4, 5, 6, 7, 8, 10][r.below(8)] {
             2 => {
                 let (c, k, v) = (column(r, widths[left]), r.below(6), r.below(4));
                 net.extend(record(2, &[left, c, k, v, 0]));
@@ -81,6 +81,13 @@ fn network(r: &mut Random) -> Vec<u8> {
                 (0..c).for_each(|_| fields.push(r.below(widths[left] + widths[right])));
                 net.extend(record(5, &fields));
                 widths.push(c);
+            }
+            10 => {
+                let p = 1 + r.below(2);
+                let mut fields = vec![left, right, p];
+                (0..p).for_each(|_| fields.extend([r.below(widths[left]), r.below(widths[right])]));
+                net.extend(record(10, &fields));
+                widths.push(widths[left]);
             }
             kind => {
                 let twins: Vec<usize> = (0..n).filter(|&j| widths[j] == widths[left]).collect();
@@ -119,7 +126,7 @@ fn damage(r: &mut Random, bytes: &mut Vec<u8>) {
         1 => bytes.extend((0..1 + r.below(5)).map(|_| r.next() as u8).collect::<Vec<u8>>()),
         _ if !bytes.is_empty() => {
             let at = r.below(bytes.len());
-            bytes[at] = if r.one_in(2) { r.next() as u8 } else { r.below(10) as u8 };
+            bytes[at] = if r.one_in(2) { r.next() as u8 } else { r.below(12) as u8 };
         }
         _ => {}
     }
@@ -311,6 +318,18 @@ fn the_last_batch_number_is_refused_by_9() {
     steps(&bytes, &mut station, &[], 10);
     steps(&bytes, &mut station, &[1], 10);
     assert_eq!(station.number, u32::MAX);
+}
+
+#[test]
+fn a_no_match_has_1_or_2_pairs_and_their_length_or_is_refused_by_6() {
+    for (p, size) in (0..5).flat_map(|p| (4..=30).map(move |size| (p, size))) {
+        let mut bytes = [record(1, &[1]), record(10, &[&[0, 0, p][..], &[0; 10]].concat())].concat();
+        bytes.truncate(6 + size);
+        bytes[6] = size as u8;
+        let fits = (1..=2).contains(&p) && size == 10 + 4 * p;
+        assert_eq!(Network::read(&bytes).err(), if fits { None } else { Some((6, 6)) }, "p {p}, {size} bytes");
+        assert_eq!(reads(&bytes).is_some(), fits);
+    }
 }
 
 #[test]

@@ -70,6 +70,31 @@ fn a_batch_shows_what_the_order_shows() {
 }
 
 #[test]
+fn a_no_match_gains_a_row_when_the_last_agreeing_one_is_lost() {
+    const NETWORK: &[u8] = &[
+        6, 0, 1, 0, 1, 0, // node 0: table of width 1 (block)
+        6, 0, 1, 0, 2, 0, // node 1: table of width 2 (week, sprayed block)
+        14, 0, 10, 0, 0, 0, 1, 0, 1, 0, 0, 0, 1, 0, // node 2: rows of 0 whose field 0 is no row's field 1 in 1
+    ];
+    let mut monitor = Monitor::open(NETWORK).unwrap();
+    assert_eq!(monitor.node(2), Some(NodeShape { kind: 10, width: 1, level: 1 }));
+    let mut changes = |batch: &[u8]| {
+        monitor.apply(batch).unwrap();
+        assert_eq!((monitor.worked().collect::<Vec<_>>(), monitor.check()), (vec![2], Ok(true)));
+        (
+            monitor.gained(2).flatten().copied().collect::<Vec<_>>(),
+            monitor.lost(2).flatten().copied().collect::<Vec<_>>(),
+        )
+    };
+    assert_eq!(changes(&put(0, &[5])), (vec![5], vec![]));
+    assert_eq!(changes(&[put(1, &[21, 5]), put(1, &[22, 5])].concat()), (vec![], vec![5]));
+    assert_eq!(changes(&event(33, 1, &[21, 5])), (vec![], vec![]));
+    assert_eq!(changes(&event(33, 1, &[22, 5])), (vec![5], vec![]));
+    // a block and its entry in one batch
+    assert_eq!(changes(&[put(0, &[6]), put(1, &[22, 6])].concat()), (vec![], vec![]));
+}
+
+#[test]
 fn refusals_carry_number_place_and_words() {
     let mut monitor = first();
     let before = monitor.clone();
@@ -86,6 +111,10 @@ fn refusals_carry_number_place_and_words() {
         "refused 14 at node 0: after the batch a node has more than 64 rows"
     );
     assert_eq!(Monitor::open(&[6, 0, 1, 0, 5, 0]).unwrap_err(), Refusal { number: 7, place: 0 });
+    assert_eq!(
+        said(Monitor::open(&[4, 0, 11, 0]).unwrap_err()),
+        "refused 4 at byte 0: the network record has a kind outside 1 to 10"
+    );
     assert_eq!(monitor, before, "a refusal changed something");
 }
 
@@ -285,5 +314,5 @@ fn the_wrapper_gives_what_the_outside_vectors_have() {
         assert!(given.as_bytes() == expected, "{}", folder.display());
         count += 1;
     }
-    assert!(count >= 177, "{count} vectors");
+    assert!(count >= 180, "{count} vectors");
 }

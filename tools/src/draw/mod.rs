@@ -107,16 +107,21 @@ fn says(net: &Network, i: usize) -> String {
         Op::Project { input, .. } => format!("columns of {}", name(*input)),
         Op::Join { left, right, .. } => match net.pairs(i) {
             on if on.is_empty() => format!("each {} with each {}", name(*left), name(*right)),
-            on => {
-                let pairs: Vec<String> = on.split(" and ").map(whole).collect();
-                let on = pairs.join(" and\u{a0}");
-                format!("{} with {} on\u{a0}{on}", name(*left), name(*right))
-            }
+            on => format!("{} with {} {}", name(*left), name(*right), whole_pairs(&on)),
         },
         Op::Set { set, left, right } => {
             format!("{} {} {}", name(*left), set.word(), name(*right))
         }
+        Op::NoMatch { left, right, .. } => {
+            format!("{} nomatch {} {}", name(*left), name(*right), whole_pairs(&net.pairs(i)))
+        }
     }
+}
+
+/// Pairs of columns after their `on`, each better not broken.
+fn whole_pairs(pairs: &str) -> String {
+    let each: Vec<String> = pairs.split(" and ").map(whole).collect();
+    format!("on\u{a0}{}", each.join(" and\u{a0}"))
 }
 
 /// A text that is better not broken.

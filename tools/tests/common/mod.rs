@@ -2,6 +2,8 @@
 #![allow(dead_code)]
 use std::path::{Path, PathBuf};
 
+use bagwezin_tools::Network;
+
 /// The papers' network N.
 pub const N: &str = "table catches block count   # node 0
 select heavy = catches where count >= 8
@@ -10,6 +12,29 @@ table sprays block
 minus advice = blocks sprays
 watch advice both
 ";
+
+/// The networks of the examples: text and picture, without their endings.
+pub const EXAMPLES: [&str; 5] = [
+    "orchard/network",
+    "orchard/no-match",
+    "pictures/32-nodes/network",
+    "pictures/self-join/network",
+    "pictures/no-match/network",
+];
+
+/// A file of the examples as bytes, and as text.
+pub fn example_bytes(path: &str) -> Vec<u8> {
+    std::fs::read(root().join("examples").join(path)).unwrap()
+}
+
+pub fn example(path: &str) -> String {
+    String::from_utf8(example_bytes(path)).unwrap()
+}
+
+/// A network of the examples, from its text.
+pub fn example_network(path: &str) -> Network {
+    Network::assemble(&example(&format!("{path}.txt"))).unwrap()
+}
 
 /// Numbers by xorshift.
 pub struct Random(u64);
@@ -70,6 +95,12 @@ pub fn network(r: &mut Random) -> Made {
     m
 }
 
+/// The fields of two nodes and of some pairs of their columns.
+fn paired(r: &mut Random, m: &Made, left: usize, right: usize, pairs: usize) -> Vec<usize> {
+    let columns = (0..pairs).flat_map(|_| [r.below(m.widths[left]), r.below(m.widths[right])]);
+    [left, right, pairs].into_iter().chain(columns).collect()
+}
+
 /// One more node.
 fn node(r: &mut Random, m: &mut Made) {
     let n = m.widths.len();
@@ -81,7 +112,7 @@ fn node(r: &mut Random, m: &mut Made) {
         return;
     }
     let (left, mut right) = (r.below(n), r.below(n));
-    let (w, kind) = (m.widths[left], 2 + r.below(7));
+    let (w, kind) = (m.widths[left], r.of(&[2, 3, 4, 5, 6, 7, 8, 10]));
     let width = match kind {
         2 => {
             let (column, code, v) = (r.below(w), r.below(6), r.field() as usize);
@@ -102,12 +133,17 @@ fn node(r: &mut Random, m: &mut Made) {
         }
         5 => {
             let (p, c, v) = (r.below(3), 1 + r.below(4), m.widths[right]);
-            let mut fields = vec![left, right, p];
-            fields.extend((0..p).flat_map(|_| [r.below(w), r.below(v)]));
+            let mut fields = paired(r, m, left, right, p);
             fields.push(c);
             fields.extend((0..c).map(|_| r.below(w + v)));
             push(&mut m.bytes, 5, &fields);
             c
+        }
+        10 => {
+            let p = 1 + r.below(2);
+            let fields = paired(r, m, left, right, p);
+            push(&mut m.bytes, 10, &fields);
+            w
         }
         set => {
             if m.widths[right] != w {

@@ -4,8 +4,9 @@ use borrow.Author.Needs.{needs}
 use Rattle.evaluation.proofs.evaluate.Statement.{statement}
 use Rattle.columns.proofs.Rows.{columns-more}
 use Rattle.model.specs.Network.{evaluateOn, evaluateSet}
-use Rattle.evaluation.proofs.Inside.{fills-none, join-fits, join-inside, operand-narrow, project-inside, select-inside, set-inside}
-use Rattle.model.specs.Algebra.{joinRows, projectRows}
+use Rattle.evaluation.proofs.Inside.{fills-none, join-fits, join-inside, no-match-inside, operand-narrow, pairs-more, project-inside, select-inside}
+use Rattle.evaluation.proofs.Inside.{set-inside}
+use Rattle.model.specs.Algebra.{joinRows, projectRows, unmatchedRows}
 use Rattle.model.specs.Areas.{stride}
 use Rattle.nodes.specs.Nodes.{operationOf, pairsOf}
 use Rattle.places.proofs.Places.{place-few}
@@ -97,6 +98,29 @@ set-rows-requires c κs =
     let same = set-inside (a .l .width) (a .r .width) (g .0 .1 .0) (g .0 .1 .1 .0) (operationOf (g .0 .0)) (rw (g .1) at (s .pre .3)) in
     (s .pre .1, rw (← same) at (s .pre .2), s .pre .4)
 
+enum-known-node-5 : tie.Need-enum-known-node-5
+enum-known-node-5 c = search needs
+
+unmatched-rows-requires : tie.Need-unmatched-rows-requires
+unmatched-rows-requires c κs =
+    let s = c .before .before .before .before .before .before .before .before .before .before in
+    let a = s .args in
+    let g = c .before .before .before .before .before .node5 .given in
+    let pairs = pairsOf (g .0 .1 .1 .0) (a .t1 .pairs) in
+    let below = no-match-inside (a .l .width) (a .r .width) (g .0 .0) (g .0 .1 .0) pairs (rw (g .1) at (s .pre .3)) in
+    let counts = rw (g .1) at (s .pre .0 .counts) in
+    let few = place-few (a .l .width) (a .left .now) (a .l .count) (s .pre .1) in
+    let others = place-few (a .r .width) (a .right .now) (a .r .count) (s .pre .2) in (
+      few,
+      omega (arith, s .pre .1 .long, few),
+      others,
+      omega (arith, s .pre .2 .long, others),
+      omega (arith, s .pre .0 .pairs-length, counts .0),
+      counts .0,
+      pairs-more (a .l .width) (a .r .width) pairs (s .pre .1 .narrow) (s .pre .2 .narrow) below,
+      s .pre .4,
+    )
+
 returns : tie.Need-returns
 unfolding evaluateOn
 returns c = let a = c .before .before .before .before .before .args in rw (c .enum-told .given .1) (fills-none (a .out .now) (c .before .before .before .before .before .pre .4))
@@ -158,6 +182,18 @@ returns-5 c =
     let same = set-inside (a .l .width) (a .r .width) (g .0 .1 .0) (g .0 .1 .1 .0) (operationOf (g .0 .0)) (rw (g .1) at (s .pre .3)) in
     rw (g .1) (rw (← same) (c .before .before .set-rows .ensures))
 
+same-length-5 : tie.Need-same-length-5
+same-length-5 c = search needs
+
+returns-6 : tie.Need-returns-6
+unfolding evaluateOn unmatchedRows
+returns-6 c =
+    let s = c .before .before .before .before .before .before .before .before .before .before .before .before .before in
+    let a = s .args in
+    let g = c .before .before .before .before .before .before .before .before .node5 .given in
+    let below = no-match-inside (a .l .width) (a .r .width) (g .0 .0) (g .0 .1 .0) (pairsOf (g .0 .1 .1 .0) (a .t1 .pairs)) (rw (g .1) at (s .pre .3)) in
+    rw (g .1) (c .before .before .unmatched-rows .ensures (a .l .width) (a .r .width) (s .pre .1) (s .pre .2) below)
+
 pub evaluate-spec : {M : Type 1} → statement M
 evaluate-spec =
     tie.close
@@ -171,6 +207,8 @@ evaluate-spec =
     join-rows-requires
     enum-known-node-4
     set-rows-requires
+    enum-known-node-5
+    unmatched-rows-requires
     returns
     same-length
     returns-2
@@ -179,4 +217,6 @@ evaluate-spec =
     same-length-3
     returns-4
     same-length-4
-    returns-5)
+    returns-5
+    same-length-5
+    returns-6)

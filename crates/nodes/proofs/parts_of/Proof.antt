@@ -58,6 +58,12 @@ set-kind-requires c κs = search needs
 derived-requires-4 : tie.Need-derived-requires-4
 derived-requires-4 c κs = search needs
 
+enum-known-node-6 : tie.Need-enum-known-node-6
+enum-known-node-6 c = search needs
+
+derived-requires-5 : tie.Need-derived-requires-5
+derived-requires-5 c κs = search needs
+
 returns : tie.Need-returns
 returns c = let g = c .before .node .given in
     rw (g .1)
@@ -132,6 +138,21 @@ returns-5 c =
       from = refl;
     })
 
+returns-6 : tie.Need-returns-6
+returns-6 c =
+    let g = c .before .before .node6 .given in
+    rw (g .1, c .derived5 .ensures)
+    (record {
+      kind = λ columns pairs. refl;
+      derived = λ columns pairs. refl;
+      left = λ columns pairs. refl;
+      right = λ columns pairs. refl;
+      width = λ columns pairs v e. refl;
+      pairs = refl;
+      columns = refl;
+      from = refl;
+    })
+
 pub parts-of-spec : {M : Type 1} → statement M
 parts-of-spec =
     tie.close
@@ -147,8 +168,11 @@ parts-of-spec =
     enum-known-node-5
     set-kind-requires
     derived-requires-4
+    enum-known-node-6
+    derived-requires-5
     returns
     returns-2
     returns-3
     returns-4
-    returns-5)
+    returns-5
+    returns-6)

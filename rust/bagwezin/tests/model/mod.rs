@@ -18,6 +18,7 @@ pub enum Node {
     Project { input: usize, columns: Vec<usize> },
     Join { left: usize, right: usize, pairs: Vec<(usize, usize)>, columns: Vec<usize> },
     Set { kind: usize, left: usize, right: usize },
+    NoMatch { left: usize, right: usize, pairs: Vec<(usize, usize)> },
 }
 
 /// A network: nodes with widths and levels, and each node's watch sign (0: none).
@@ -50,7 +51,9 @@ impl Node {
             Node::SelectConstant { input, .. } | Node::SelectColumn { input, .. } | Node::Project { input, .. } => {
                 vec![*input]
             }
-            Node::Join { left, right, .. } | Node::Set { left, right, .. } => vec![*left, *right],
+            Node::Join { left, right, .. } | Node::Set { left, right, .. } | Node::NoMatch { left, right, .. } => {
+                vec![*left, *right]
+            }
         }
     }
 
@@ -62,6 +65,7 @@ impl Node {
             Node::Project { .. } => 4,
             Node::Join { .. } => 5,
             Node::Set { kind, .. } => *kind as u32,
+            Node::NoMatch { .. } => 10,
         }
     }
 }
@@ -75,6 +79,11 @@ fn holds(code: usize, left: u32, right: u32) -> bool {
         4 => left > right,
         _ => left >= right,
     }
+}
+
+/// Whether a left and a right row agree on all pairs of columns.
+fn agree(pairs: &[(usize, usize)], left: &Row, right: &Row) -> bool {
+    pairs.iter().all(|&(x, y)| left[x] == right[y])
 }
 
 impl Network {
@@ -92,7 +101,7 @@ impl Network {
             }
             let size = u16_at(bytes, at);
             let kind = u16_at(bytes, at + 2);
-            if !(1..=9).contains(&kind) {
+            if !(1..=10).contains(&kind) {
                 return refuse(4);
             }
             if kind != 9 && net.nodes.len() == 32 {
@@ -110,6 +119,7 @@ impl Network {
                         (1..=4).contains(&c) && size == 12 + 4 * field(2) + 2 * c
                     }
                 }
+                10 => size >= 10 && (1..=2).contains(&field(2)) && size == 10 + 4 * field(2),
                 _ => size == 8,
             };
             if !shape {
@@ -117,6 +127,8 @@ impl Network {
             }
             let n = net.nodes.len();
             let width = |i: usize| net.widths[i];
+            let pairs =
+                |p: usize| -> Vec<(usize, usize)> { (0..p).map(|k| (field(3 + 2 * k), field(4 + 2 * k))).collect() };
             if kind == 9 {
                 if field(0) >= n || !(1..=3).contains(&field(1)) || net.signs[field(0)] != 0 {
                     return refuse(7);
@@ -154,7 +166,7 @@ impl Network {
                 }
                 5 => {
                     let (left, right, p) = (field(0), field(1), field(2));
-                    let pairs: Vec<(usize, usize)> = (0..p).map(|k| (field(3 + 2 * k), field(4 + 2 * k))).collect();
+                    let pairs = pairs(p);
                     let columns: Vec<usize> = (0..field(3 + 2 * p)).map(|k| field(4 + 2 * p + k)).collect();
                     if left >= n
                         || right >= n
@@ -165,6 +177,14 @@ impl Network {
                     }
                     let w = columns.len();
                     (Node::Join { left, right, pairs, columns }, w)
+                }
+                10 => {
+                    let (left, right, pairs) = (field(0), field(1), pairs(field(2)));
+                    if left >= n || right >= n || pairs.iter().any(|&(l, r)| l >= width(left) || r >= width(right)) {
+                        return refuse(7);
+                    }
+                    let w = width(left);
+                    (Node::NoMatch { left, right, pairs }, w)
                 }
                 _ => {
                     let (left, right) = (field(0), field(1));
@@ -203,7 +223,7 @@ impl Network {
                 Node::Join { left, right, pairs, columns } => {
                     let mut out = Relation::new();
                     for l in &rels[*left] {
-                        for r in rels[*right].iter().filter(|r| pairs.iter().all(|&(x, y)| l[x] == r[y])) {
+                        for r in rels[*right].iter().filter(|r| agree(pairs, l, r)) {
                             out.insert(
                                 columns.iter().map(|&c| if c < l.len() { l[c] } else { r[c - l.len()] }).collect(),
                             );
@@ -214,6 +234,9 @@ impl Network {
                 Node::Set { kind: 6, left, right } => &rels[*left] | &rels[*right],
                 Node::Set { kind: 7, left, right } => &rels[*left] - &rels[*right],
                 Node::Set { left, right, .. } => &rels[*left] & &rels[*right],
+                Node::NoMatch { left, right, pairs } => {
+                    rels[*left].iter().filter(|l| !rels[*right].iter().any(|r| agree(pairs, l, r))).cloned().collect()
+                }
             };
             rels.push(rows);
         }
