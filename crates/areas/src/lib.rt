@@ -85,7 +85,7 @@ fn empty_place(area: &[u32], i: usize, count: usize) -> bool
 // Whether the place with number i is of good form, in a network of n nodes.
 fn good_node(area: &[u32], widths: &[usize], n: usize, head: &[u32], first: usize, i: usize) -> bool
     requires { ⌜ (i < maxNodes) × (areaSize ≤ length (now area)) × (n ≤ length (now widths)) × Narrow (now widths)
-        × (headWords ≤ length (now head)) × (first ≤ headWords - maxNodes) ⌝ }
+        × (first + maxNodes ≤ length (now head)) ⌝ }
     ensures { λ r. ⌜ r ≡ cond (ltb i n)
         (goodPlace layout (getD (now (widths .entry)) i 0) (countsFrom (now (head .entry)) first i)
         (now (area .entry)) i)
@@ -98,11 +98,11 @@ fn good_node(area: &[u32], widths: &[usize], n: usize, head: &[u32], first: usiz
     empty_place(area, i, count)
 }
 
-// Whether every place of an area is of good form, in a network of n nodes, the counts standing in the head from a word
-// on.
-fn good_area(area: &[u32], widths: &[usize], n: usize, head: &[u32], first: usize) -> bool
+// Whether every place of an area is of good form, in a network of n nodes, the counts standing in the head, or in other
+// words that are lent as such, from a word on.
+pub fn good_area(area: &[u32], widths: &[usize], n: usize, head: &[u32], first: usize) -> bool
     requires { ⌜ (areaSize ≤ length (now area)) × (n ≤ length (now widths)) × Narrow (now widths)
-        × (headWords ≤ length (now head)) × (first ≤ headWords - maxNodes) ⌝ }
+        × (first + maxNodes ≤ length (now head)) ⌝ }
     ensures { λ r. ⌜ r ≡ goodArea layout (take n (now (widths .entry))) (countsFrom (now (head .entry)) first)
         (now (area .entry)) ⌝ }
 {

@@ -1,24 +1,24 @@
 -- One node written: what writing it asks, and what it leaves. Assumes nothing.
-use Prim.Native.Nat.{ℕ, _+_, _-_, _*_, _≤_, _<_}
+use Prim.Native.Nat.{ℕ, _+_, _-_, _*_, _≤_}
 use native.Mathlib.Omega.{arith}
 use mathlib.Core.Bool.{Bool, true, false, cond}
 use mathlib.Core.List.{List}
 use mathlib.Core.Path.{_≡_, ap, sym, _∙_}
 use lib.ListN.{length, getD, take, drop, length-drop}
 use lib.Seq.{length-take-le, paste}
-use Rattle.model.specs.Row.{Row, Relation, Wide, maxNodes, maxRows}
+use Rattle.model.specs.Row.{Row, Relation, Wide, maxRows}
 use Rattle.model.specs.Algebra.{differenceRows}
 use Rattle.model.specs.Areas.{layout, placeOf, rowCount, gainedCount, lostCount, placeSize, stride}
 use Rattle.rows.specs.Rows.{words}
 use Rattle.areas.specs.Lent.{placeAt}
 use Rattle.places.specs.Places.{Place, relationIn}
-use Rattle.places.proofs.Places.{place-few, place-count, place-is, place-rows, place-wide}
+use Rattle.places.proofs.Places.{place-few, place-count, place-is, place-wide}
 use Rattle.states.proofs.Changes.{less-wide, less-short}
-use Rattle.new_rows.proofs.Folding.{front-words}
 use Rattle.differences.specs.Differences.{chosen, picksSize}
 use Rattle.working.specs.Worked.{told, picksAt, gainsAt, lossesAt, Picked}
-use Rattle.changes.specs.Written.{placed, clearedRest, Writable, WritesNode}
-use Rattle.changes.proofs.Filled.{placed-same, placed-words, placed-over}
+use Rattle.placing.specs.Placing.{placed, clearedRest}
+use Rattle.placing.proofs.Placing.{placed-same, placed-words}
+use Rattle.changes.specs.Written.{Writable, WritesNode}
 
 -- ---- one place
 
@@ -27,13 +27,6 @@ pub picked-over : (area : List ℕ) (i n m w : ℕ) (rel : Relation) → i * pla
     Picked rel src numbers n → (part : List ℕ) → part ≡ paste area (i * placeSize) (words (chosen src (take n numbers))) (n * stride) → clearedRest part i n m ≡ placed area i rel
 picked-over area i n m w rel fits p wide few src numbers k part e =
     placed-words area i n m w rel fits p wide (k .count) few part (e ∙ ap (λ (l : List Row). paste area (i * placeSize) (words l) (n * stride)) (k .rows))
-
--- rows of another area's place over a place
-pub rows-over : (area work : List ℕ) (i n m w : ℕ) → i * placeSize + placeSize ≤ length area → Place w (placeAt area i) m → Place w (placeAt work i) n → (part : List ℕ) →
-    part ≡ paste area (i * placeSize) (drop (i * placeSize) work) (n * stride) → clearedRest part i n m ≡ placed area i (relationIn w (placeAt work i) n)
-rows-over area work i n m w fits p q part e =
-    placed-over area i n m w (relationIn w (placeAt work i) n) fits p (place-wide w (placeAt work i) n q) (sym (place-count w (placeAt work i) n q)) (place-few w (placeAt work i) n q)
-    (drop (i * placeSize) work) part e (front-words w work i n q ∙ ap words (place-rows w (placeAt work i) n q))
 
 -- ---- one node
 

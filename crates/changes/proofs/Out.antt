@@ -10,7 +10,8 @@ use Rattle.model.specs.Row.{Relation, sameRows, maxNodes, maxWidth}
 use Rattle.model.specs.Areas.{Areas, rowsIn, layout, goodArea, rowCount, gainedCount, lostCount, goodStamps, goodWorked, heldIn, areaSize, headWords}
 use Rattle.model.specs.Network.{widths}
 use Rattle.network.specs.declared.Network.{Network}
-use Rattle.changes.specs.Written.{WorkedOut, Writable, gainedOf, lostOf, WritesNodes, filled, WritesNode, placed}
+use Rattle.placing.specs.Placing.{placed}
+use Rattle.changes.specs.Written.{WorkedOut, Writable, gainedOf, lostOf, WritesNodes, filled, WritesNode}
 use Rattle.areas.specs.Lent.{lent, placeAt}
 use Rattle.network.specs.Reading.{nodesOf, Built}
 use Rattle.areas.proofs.Good.{long-parts}

@@ -2,38 +2,22 @@
 use mathlib.Core.Path.{_≡_}
 use mathlib.Core.Bool.{Bool, true, false, cond}
 use mathlib.Core.List.{List, _++_, map, flatMap}
-use Prim.Native.Nat.{ℕ, _+_, _-_, _*_, _≤_, _<_}
-use lib.Dec.{ltb}
-use lib.ListN.{length, getD, take, drop, replicate}
-use lib.Seq.{paste}
+use Prim.Native.Nat.{ℕ, _*_, _≤_, _<_}
+use lib.ListN.{length, getD, take, drop}
 use Rattle.model.specs.Row.{Relation, maxNodes}
 use Rattle.model.specs.Algebra.{differenceRows}
 use Rattle.model.specs.Network.{Node, widths}
 use Rattle.model.specs.Delta.{netChanges}
 use Rattle.model.specs.Areas.{layout, placeOf, goodForm, longEnough, rowsIn, rowCount, gainedCount, lostCount}
-use Rattle.model.specs.Areas.{areaSize, headWords, placeSize, stride}
+use Rattle.model.specs.Areas.{areaSize, headWords, placeSize}
 use Rattle.network.specs.declared.Network.{Network}
 use Rattle.network.specs.Reading.{nodesOf, Built}
 use Rattle.areas.specs.Lent.{lent, placeAt}
 use Rattle.places.specs.Places.{Place, relationIn}
+use Rattle.placing.specs.Placing.{placed}
 use Rattle.states.specs.Fitting.{Fitting}
 use Rattle.new_rows.specs.Working.{working}
 use Rattle.working.specs.Worked.{told, SizedChanges, Tells, WorkedTo}
-
--- ---- one place
-
--- the area with other rows in node i's place
-abbrev pub placed : List ℕ → ℕ → Relation → List ℕ
-placed area i rel = paste area (i * placeSize) (placeOf layout rel) placeSize
-
--- where row j of node i's place begins
-abbrev pub rowFrom : ℕ → ℕ → ℕ
-rowFrom i j = i * placeSize + j * stride
-
--- the area with zeros behind n rows of node i's place, up to row m
-abbrev pub clearedRest : List ℕ → ℕ → ℕ → ℕ → List ℕ
-clearedRest area i n m =
-    cond (ltb n m) (paste area (rowFrom i n) (replicate (rowFrom i m - rowFrom i n) 0) (rowFrom i m - rowFrom i n)) area
 
 -- ---- one node
 

@@ -10,7 +10,8 @@ ghost use Rattle.areas.specs.Lent.{placeAt};
 ghost use Rattle.places.specs.Places.{Place, relationIn};
 ghost use Rattle.differences.specs.Differences.{Within};
 ghost use Rattle.working.specs.Worked.{Picked};
-ghost use Rattle.changes.specs.Written.{placed, clearedRest, Writable, WritesNode, Writing, WritesNodes};
+ghost use Rattle.placing.specs.Placing.{placed};
+ghost use Rattle.changes.specs.Written.{Writable, WritesNode, Writing, WritesNodes};
 use areas::GAINED_COUNTS;
 use areas::LOST_COUNTS;
 use areas::PLACE;
@@ -18,17 +19,6 @@ use areas::ROW_COUNTS;
 use differences::PICKS;
 use rows::MAX_NODES;
 use rows::MAX_ROWS;
-use rows::STRIDE;
-
-// What stands behind n rows of node i's place, of m that stood there, cleared.
-fn clear_rest(area: &mut [u32], i: usize, n: usize, m: usize)
-    requires { ⌜ (i < maxNodes) × (areaSize ≤ length (now area)) × (n ≤ maxRows) × (m ≤ maxRows) ⌝ }
-    ensures { λ _. ⌜ now (area .exit) ≡ clearedRest (now (area .entry)) i n m ⌝ }
-{
-    if n < m {
-        words::clear_run(area, i * PLACE + n * STRIDE, i * PLACE + m * STRIDE);
-    }
-}
 
 // Rows of src by count numbers from an index on, written over node i's place of an area, which has m rows.
 fn write_picked(
@@ -47,18 +37,7 @@ fn write_picked(
         now (area .exit) ≡ placed (now (area .entry)) i rel) ⌝ }
 {
     differences::copy_picked(src, picks, from, count, area, i * PLACE);
-    clear_rest(area, i, count, m);
-}
-
-// Node i's n rows in the working rows written over its place of the rows area, which has m rows.
-fn write_rows(work: &[u32], i: usize, n: usize, rows: &mut [u32], m: usize)
-    requires { ⌜ (i < maxNodes) × (areaSize ≤ length (now work)) × (areaSize ≤ length (now rows)) × (n ≤ maxRows)
-        × (m ≤ maxRows) ⌝ }
-    ensures { λ _. ⌜ ((w : ℕ) → Place w (placeAt (now (work .entry)) i) n → Place w (placeAt (now (rows .entry)) i) m →
-        now (rows .exit) ≡ placed (now (rows .entry)) i (relationIn w (placeAt (now (work .entry)) i) n)) ⌝ }
-{
-    words::copy_run(work, i * PLACE, rows, i * PLACE, n * STRIDE);
-    clear_rest(rows, i, n, m);
+    placing::clear_rest(area, i, count, m);
 }
 
 // Node i's change written, and if there is one its new rows.
@@ -95,11 +74,11 @@ fn write_node(
     let went = head[LOST_COUNTS + i] as usize;
     write_picked(&rows[at..at + PLACE], numbers, MAX_ROWS, l, lost, i, went);
     if changed[i] {
-        write_rows(
-            work,
-            i,
+        placing::write_place(
+            &work[at..at + PLACE],
             counts[i] as usize,
             rows,
+            i,
             head[ROW_COUNTS + i] as usize,
         );
     }

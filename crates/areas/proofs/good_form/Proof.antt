@@ -13,7 +13,7 @@ good-area-requires c κs =
     let s = c .before .before .before .before .before in
     let a = s .args in
     let long = long-parts (a .rows .now) (a .gained .now) (a .lost .now) (a .head .now) (s .pre .2) in
-    (long .0, s .pre .0, s .pre .1, long .3, omega arith)
+    (long .0, s .pre .0, s .pre .1, omega (arith, long .3))
 
 returns : tie.Need-returns
 returns c =
@@ -27,7 +27,7 @@ good-area-requires-2 c κs =
     let s = c .before .before .before .before .before .before .before in
     let a = s .args in
     let long = long-parts (a .rows .now) (a .gained .now) (a .lost .now) (a .head .now) (s .pre .2) in
-    (long .1, s .pre .0, s .pre .1, long .3, omega arith)
+    (long .1, s .pre .0, s .pre .1, omega (arith, long .3))
 
 returns-2 : tie.Need-returns-2
 returns-2 c =
@@ -42,7 +42,7 @@ good-area-requires-3 c κs =
     let s = c .before .before .before .before .before .before .before .before .before in
     let a = s .args in
     let long = long-parts (a .rows .now) (a .gained .now) (a .lost .now) (a .head .now) (s .pre .2) in
-    (long .2, s .pre .0, s .pre .1, long .3, omega arith)
+    (long .2, s .pre .0, s .pre .1, omega (arith, long .3))
 
 returns-3 : tie.Need-returns-3
 returns-3 c =

@@ -1,13 +1,14 @@
 use native.Mathlib.Omega.{arith}
 use Prim.Native.Nat.{_+_}
 use Rattle.changes.proofs.Node.{came-few, gone-few, gained-few, lost-few, new-few, old-few, numbers-long, node-changed, node-kept}
+use Rattle.areas.proofs.Pasted.{place-long}
 use borrow.Author.Needs.{needs}
 use Rattle.changes.proofs.write_node.Statement.{statement}
 use Rattle.changes.proofs.write_node.Tie as tie
 use Rattle.changes.proofs.write_node.Reads as reads
 use Rattle.changes.proofs.write_node.Lts as lts
 use Rattle.changes.proofs.write_picked.Reads as write-picked-reads
-use Rattle.changes.proofs.write_rows.Reads as write-rows-reads
+use Rattle.placing.proofs.write_place.Reads as write-place-reads
 
 mul-at : tie.Need-mul-at
 mul-at c = search needs
@@ -152,47 +153,71 @@ write-picked-requires-2 c κs =
 shared-slice-read-if1 : tie.Need-shared-slice-read-if1
 shared-slice-read-if1 c = search needs
 
-mul-write-rows : tie.Need-mul-write-rows
-mul-write-rows c = search needs
+add-write-place : tie.Need-add-write-place
+add-write-place c = search needs
 
-shared-slice-read-write-rows : tie.Need-shared-slice-read-write-rows
-shared-slice-read-write-rows c = search needs
+mul-write-place : tie.Need-mul-write-place
+mul-write-place c = search needs
 
-cast-write-rows : tie.Need-cast-write-rows
-cast-write-rows c = omega (
+sub-write-place : tie.Need-sub-write-place
+sub-write-place c = search needs
+
+part-write-place-start : tie.Need-part-write-place-start
+part-write-place-start c = search needs
+
+part-write-place-end : tie.Need-part-write-place-end
+part-write-place-end c = search needs
+
+mul-write-place-2 : tie.Need-mul-write-place-2
+mul-write-place-2 c = search needs
+
+shared-slice-read-write-place : tie.Need-shared-slice-read-write-place
+shared-slice-read-write-place c = let o = c .before .before .before .before .before .before .before .before .before .before .before .before .before .before .before .before .before .before .before
+    .before .before .before .before .before .before .before .before .before .before .pre in omega (arith, o .inside, o .counts-long)
+
+cast-write-place : tie.Need-cast-write-place
+cast-write-place c = omega (
   arith,
-  c .shared-slice-known12 .given (c .before .before .before .before .before .before .before .before .before .before .before .before .before .before .before
+  c .shared-slice-known12 .given (c .before .before .before .before .before .before .before .before .before .before .before .before .before .before .before .before
       .before .before .before .before .before .before .before .before .before .before .before .before .before .args .i),
 )
 
-add-write-rows : tie.Need-add-write-rows
-add-write-rows c = search needs
-
-mul-write-rows-2 : tie.Need-mul-write-rows-2
-mul-write-rows-2 c = search needs
-
-shared-slice-read-write-rows-2 : tie.Need-shared-slice-read-write-rows-2
-shared-slice-read-write-rows-2 c = search needs
-
-cast-write-rows-2 : tie.Need-cast-write-rows-2
-cast-write-rows-2 c = omega (
+add-write-place-2 : tie.Need-add-write-place-2
+add-write-place-2 c = omega (
   arith,
-  c .shared-slice-known13 .given (1 + c .before .before .before .before .before .before .before .before .before .before .before .before .before .before
+  c .before .before .before .before .before .before .before .before .before .before .before .before .before .before .before .before .before .before .before
+      .before .before .before .before .before .before .before .before .before .before .before .pre .inside,
+)
+
+mul-write-place-3 : tie.Need-mul-write-place-3
+mul-write-place-3 c = omega (
+  arith,
+  c .before .before .before .before .before .before .before .before .before .before .before .before .before .before .before .before .before .before .before
+      .before .before .before .before .before .before .before .before .before .before .before .pre .inside,
+)
+
+shared-slice-read-write-place-2 : tie.Need-shared-slice-read-write-place-2
+shared-slice-read-write-place-2 c = let o = c .before .before .before .before .before .before .before .before .before .before .before .before .before .before .before .before .before .before
+    .before .before .before .before .before .before .before .before .before .before .before .before .before .pre in omega (arith, o .inside, o .head-long)
+
+cast-write-place-2 : tie.Need-cast-write-place-2
+cast-write-place-2 c = omega (
+  arith,
+  c .shared-slice-known13 .given (1 + c .before .before .before .before .before .before .before .before .before .before .before .before .before .before .before
       .before .before .before .before .before .before .before .before .before .before .before .before .before .before .before .before .args .i),
 )
 
-write-rows-requires : tie.Need-write-rows-requires
-write-rows-requires c κs =
+write-place-requires : tie.Need-write-place-requires
+write-place-requires c κs =
     let s = c .before .before .before .before .before .before .before .before .before .before .before .before .before .before .before .before .before .before .before .before .before .before
-    .before .before .before .before .before .before .before .before in
+    .before .before .before .before .before .before .before .before .before in
     let a = s .args in
     let o = s .pre in (
       o .inside,
-      o .work-long,
       o .rows-long,
-      new-few (a .rows .now) (a .gained .now) (a .lost .now) (a .head .now) (a .work .now) (a .counts .now) (a .changed .now) (a .picks .now) (a .sizes
-          .now) (a .i) o,
+      new-few (a .rows .now) (a .gained .now) (a .lost .now) (a .head .now) (a .work .now) (a .counts .now) (a .changed .now) (a .picks .now) (a .sizes .now) (a .i) o,
       old-few (a .rows .now) (a .gained .now) (a .lost .now) (a .head .now) (a .work .now) (a .counts .now) (a .changed .now) (a .picks .now) (a .sizes .now) (a .i) o,
+      place-long (a .work .now) (a .i) (o .inside) (o .work-long),
     )
 
 same-length : tie.Need-same-length
@@ -207,13 +232,13 @@ same-length-3 c = search needs
 returns : tie.Need-returns
 returns c =
     let a = c .before .before .before .before .before .before .before .before .before .before .before .before .before .before .before .before .before .before .before .before .before .before
-    .before .before .before .before .before .before .before .before .before .before .before .args in
-    let g = c .before .before .before .before .before .before .before .before .before .before .before .before .before .before .before .before .before .write-picked in
-    let l = c .before .before .before .before .before .before .before .before .before .before .write-picked2 in
-    let r = c .before .before .write-rows in
+    .before .before .before .before .before .before .before .before .before .before .before .before .args in
+    let g = c .before .before .before .before .before .before .before .before .before .before .before .before .before .before .before .before .before .before .write-picked in
+    let l = c .before .before .before .before .before .before .before .before .before .before .before .write-picked2 in
+    let r = c .before .before .write-place in
     λ o. node-changed (a .rows .now) (a .gained .now) (a .lost .now) (a .head .now) (a .work .now) (a .counts .now) (a .changed .now) (a .picks .now) (a .sizes .now) (a .i) o (g .last .1 .1
     .1 .1 .0)
-    (l .last .1 .1 .1 .1 .0) (g .ensures) (l .ensures) (c .before .before .before .before .before .before .if1 .taken) (r .last .1 .1 .1 .0) (r .ensures)
+    (l .last .1 .1 .1 .1 .0) (g .ensures) (l .ensures) (c .before .before .before .before .before .before .before .if1 .taken) (r .last .1 .1 .0) (r .ensures)
 
 same-length-4 : tie.Need-same-length-4
 same-length-4 c = search needs
@@ -272,14 +297,19 @@ write-node-spec =
     part-write-picked-end-2
     write-picked-requires-2
     shared-slice-read-if1
-    mul-write-rows
-    shared-slice-read-write-rows
-    cast-write-rows
-    add-write-rows
-    mul-write-rows-2
-    shared-slice-read-write-rows-2
-    cast-write-rows-2
-    write-rows-requires
+    add-write-place
+    mul-write-place
+    sub-write-place
+    part-write-place-start
+    part-write-place-end
+    mul-write-place-2
+    shared-slice-read-write-place
+    cast-write-place
+    add-write-place-2
+    mul-write-place-3
+    shared-slice-read-write-place-2
+    cast-write-place-2
+    write-place-requires
     same-length
     same-length-2
     same-length-3

@@ -7,7 +7,7 @@ use Rattle.changes.proofs.write_picked.Statement.{statement}
 use Rattle.changes.proofs.write_picked.Tie as tie
 use Rattle.changes.proofs.write_picked.Reads as reads
 use Rattle.changes.proofs.write_picked.Lts as lts
-use Rattle.changes.proofs.clear_rest.Reads as clear-rest-reads
+use Rattle.placing.proofs.clear_rest.Reads as clear-rest-reads
 use Rattle.differences.proofs.copy_picked.Reads as copy-picked-reads
 
 mul-copy-picked : tie.Need-mul-copy-picked

@@ -1,12 +1,12 @@
 use native.Mathlib.Omega.{arith}
 use mathlib.Core.Path.{_∙_}
-use Rattle.changes.proofs.Node.{rows-over}
+use Rattle.placing.proofs.Placing.{rows-over}
 use borrow.Author.Needs.{needs}
-use Rattle.changes.proofs.write_rows.Statement.{statement}
-use Rattle.changes.proofs.write_rows.Tie as tie
-use Rattle.changes.proofs.write_rows.Reads as reads
-use Rattle.changes.proofs.write_rows.Lts as lts
-use Rattle.changes.proofs.clear_rest.Reads as clear-rest-reads
+use Rattle.placing.proofs.write_place.Statement.{statement}
+use Rattle.placing.proofs.write_place.Tie as tie
+use Rattle.placing.proofs.write_place.Reads as reads
+use Rattle.placing.proofs.write_place.Lts as lts
+use Rattle.placing.proofs.clear_rest.Reads as clear-rest-reads
 use Rattle.words.proofs.copy_run.Reads as copy-run-reads
 
 mul-copy-run : tie.Need-mul-copy-run
@@ -14,9 +14,6 @@ mul-copy-run c = search needs
 
 mul-copy-run-2 : tie.Need-mul-copy-run-2
 mul-copy-run-2 c = search needs
-
-mul-copy-run-3 : tie.Need-mul-copy-run-3
-mul-copy-run-3 c = search needs
 
 copy-run-requires : tie.Need-copy-run-requires
 copy-run-requires c κs = search needs
@@ -33,15 +30,14 @@ returns c =
     let a = s .args in
     let k = c .before .before .before .before .before .before .copy-run in
     λ w p q. c .before .before .clear-rest .ensures
-    ∙ rows-over (a .rows .now) (a .work .now) (a .i) (a .n) (a .m) w (omega (arith, s .pre .0, s .pre .2)) q p (k .last .1 .1 .0) (k .ensures)
+    ∙ rows-over (a .area .now) (a .src .now) (a .i) (a .n) (a .m) w (omega (arith, s .pre .0, s .pre .1)) q p (k .last .1 .1 .0) (k .ensures)
 
-pub write-rows-spec : {M : Type 1} → statement M
-write-rows-spec =
+pub write-place-spec : {M : Type 1} → statement M
+write-place-spec =
     tie.close
     (tie.spec
     mul-copy-run
     mul-copy-run-2
-    mul-copy-run-3
     copy-run-requires
     clear-rest-requires
     same-length

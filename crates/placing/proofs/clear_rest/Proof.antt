@@ -1,10 +1,10 @@
 use mathlib.Core.Path.{refl}
 use borrow.Author.Tests.{lt-ltb, le-ltb}
 use borrow.Author.Needs.{needs}
-use Rattle.changes.proofs.clear_rest.Statement.{statement}
-use Rattle.changes.proofs.clear_rest.Tie as tie
-use Rattle.changes.proofs.clear_rest.Reads as reads
-use Rattle.changes.proofs.clear_rest.Lts as lts
+use Rattle.placing.proofs.clear_rest.Statement.{statement}
+use Rattle.placing.proofs.clear_rest.Tie as tie
+use Rattle.placing.proofs.clear_rest.Reads as reads
+use Rattle.placing.proofs.clear_rest.Lts as lts
 use Rattle.words.proofs.clear_run.Reads as clear-run-reads
 
 mul-clear-run : tie.Need-mul-clear-run
