@@ -1,4 +1,5 @@
-/* What the header promises beside the rules: null pointers with a count of 0, names and layout, the largest report, calls on several threads. */
+/* What the header promises beside the rules: null pointers with a count of 0, names and layout, lent words past the named ones, the largest report,
+ * calls on several threads. */
 #define _GNU_SOURCE
 #include <pthread.h>
 #include <stdio.h>
@@ -61,19 +62,31 @@ static void nothing_is_looked_at(void *at)
     EXPECT(bagwezin_apply(N, sizeof N, at, 0, LENT(&a)) == 0 && a.head[BAGWEZIN_HEAD_NUMBER] == 2);
     EXPECT(bagwezin_report(N, sizeof N, 4, LENT(&a), at, 0) == 0);
     EXPECT(bagwezin_check(N, sizeof N, LENT(&a)) == 1);
-    /* an area that is not lent at all */
+    /* no pending area, and no words for a row: 17 comes after 8, the row's 1 before anything else */
+    static uint32_t pending[BAGWEZIN_PENDING], row[BAGWEZIN_FIELDS];
     memcpy(&before, &a, sizeof a);
+    EXPECT(bagwezin_fold(N, sizeof N, LENT(&a), at, 0) == refusal(BAGWEZIN_PENDING_FORM));
+    EXPECT(bagwezin_fold(at, 0, LENT(&a), at, 0) == refusal(BAGWEZIN_NO_NETWORK));
+    EXPECT(bagwezin_take(N, sizeof N, LENT(&a), at, 0, row, BAGWEZIN_FIELDS) == refusal(BAGWEZIN_PENDING_FORM));
+    EXPECT(bagwezin_take(at, 0, LENT(&a), at, 0, row, BAGWEZIN_FIELDS) == refusal(BAGWEZIN_NO_NETWORK));
+    EXPECT(bagwezin_take(N, sizeof N, LENT(&a), pending, BAGWEZIN_PENDING, at, 0) == refusal(BAGWEZIN_SHORT_AREA));
+    EXPECT(bagwezin_take(at, 0, LENT(&a), at, 0, at, 0) == refusal(BAGWEZIN_SHORT_AREA));
+    /* an area that is not lent at all */
     for (int k = 0; k < 4; k += 1) {
         uint64_t short_area = refusal(BAGWEZIN_SHORT_AREA);
         EXPECT(bagwezin_open(N, sizeof N, SHORT(&a, k, at)) == short_area);
         EXPECT(bagwezin_apply(N, sizeof N, at, 0, SHORT(&a, k, at)) == short_area);
         EXPECT(bagwezin_check(N, sizeof N, SHORT(&a, k, at)) == short_area);
         EXPECT(bagwezin_report(N, sizeof N, 4, SHORT(&a, k, at), at, 0) == short_area);
+        EXPECT(bagwezin_fold(N, sizeof N, SHORT(&a, k, at), pending, BAGWEZIN_PENDING) == short_area);
+        EXPECT(bagwezin_take(N, sizeof N, SHORT(&a, k, at), pending, BAGWEZIN_PENDING, row, BAGWEZIN_FIELDS) == short_area);
     }
     EXPECT(bagwezin_open(at, 0, at, 0, at, 0, at, 0, at, 0) == refusal(BAGWEZIN_SHORT_AREA));
     EXPECT(bagwezin_apply(at, 0, at, 0, at, 0, at, 0, at, 0, at, 0) == refusal(BAGWEZIN_SHORT_AREA));
     EXPECT(bagwezin_check(at, 0, at, 0, at, 0, at, 0, at, 0) == refusal(BAGWEZIN_SHORT_AREA));
     EXPECT(bagwezin_report(at, 0, 0, at, 0, at, 0, at, 0, at, 0, at, 0) == refusal(BAGWEZIN_SHORT_AREA));
+    EXPECT(bagwezin_fold(at, 0, at, 0, at, 0, at, 0, at, 0, at, 0) == refusal(BAGWEZIN_SHORT_AREA));
+    EXPECT(bagwezin_take(at, 0, at, 0, at, 0, at, 0, at, 0, at, 0, at, 0) == refusal(BAGWEZIN_SHORT_AREA));
     EXPECT(memcmp(&before, &a, sizeof a) == 0);
 }
 
@@ -128,6 +141,83 @@ static void no_match(void)
     EXPECT(bagwezin_check(UNSPRAYED, sizeof UNSPRAYED, LENT(&a)) == 1);
 }
 
+/* Three tables, watched: 0 gained, without a priority; 1 lost, where the priority has no effect; 2 gained and lost, with priority 1. */
+static const uint8_t WATCHED[] = {
+    6, 0, BAGWEZIN_TABLE, 0, 2, 0,
+    6, 0, BAGWEZIN_TABLE, 0, 1, 0,
+    6, 0, BAGWEZIN_TABLE, 0, 1, 0,
+    8, 0, BAGWEZIN_WATCH, 0, 0, 0, 1, 0,
+    10, 0, BAGWEZIN_WATCH, 0, 1, 0, 2, 0, BAGWEZIN_PRIORITY, 0,
+    10, 0, BAGWEZIN_WATCH, 0, 2, 0, 3, 0, 1, 0,
+};
+
+/* A pending area and a row's words, each with a word more than is named. */
+struct alerts { uint32_t pending[BAGWEZIN_PENDING + 1], row[BAGWEZIN_FIELDS + 1]; };
+
+#define FOLD(words) bagwezin_fold(WATCHED, sizeof WATCHED, LENT(&a), w.pending, words)
+#define TAKE(words, fields) bagwezin_take(WATCHED, sizeof WATCHED, LENT(&a), w.pending, words, w.row, fields)
+
+static void alerts(void)
+{
+    enum { PAST = 0x7fffffff };
+    static struct areas a, unread;
+    static struct alerts zero, w, kept;
+    uint8_t puts[] = {
+        14, 0, BAGWEZIN_PUT, 0, 0, 0, 3, 0, 0, 0, 9, 0, 0, 0, 14, 0, BAGWEZIN_PUT, 0, 0, 0, 3, 0, 0, 0, 8, 0, 0, 0,
+        10, 0, BAGWEZIN_PUT, 0, 1, 0, 4, 0, 0, 0, 10, 0, BAGWEZIN_PUT, 0, 2, 0, 5, 0, 0, 0,
+    };
+    uint8_t loses[] = {14, 0, BAGWEZIN_REMOVE, 0, 0, 0, 3, 0, 0, 0, 8, 0, 0, 0};
+    EXPECT(bagwezin_word(BAGWEZIN_NODES, 0, 0) == BAGWEZIN_PENDING_COUNTS && BAGWEZIN_PENDING_COUNTS + BAGWEZIN_NODES == BAGWEZIN_PENDING);
+    EXPECT(bagwezin_open(WATCHED, sizeof WATCHED, LENT(&a)) == 0);
+    EXPECT(bagwezin_apply(WATCHED, sizeof WATCHED, puts, sizeof puts, LENT(&a)) == 0);
+    memcpy(&unread, &a, sizeof a);
+    zero.pending[BAGWEZIN_PENDING] = zero.row[BAGWEZIN_FIELDS] = PAST;
+    memcpy(&w, &zero, sizeof w);
+    for (size_t k = 0; k < BAGWEZIN_FIELDS; k += 1) {
+        w.row[k] = 7;
+    }
+
+    /* nothing pending, a pending area of a word too few, three words for a row: nothing is written */
+    memcpy(&kept, &w, sizeof w);
+    EXPECT(TAKE(BAGWEZIN_PENDING + 1, BAGWEZIN_FIELDS + 1) == refusal(BAGWEZIN_NOTHING_PENDING));
+    EXPECT(TAKE(BAGWEZIN_PENDING - 1, BAGWEZIN_FIELDS) == refusal(BAGWEZIN_PENDING_FORM));
+    EXPECT(FOLD(BAGWEZIN_PENDING - 1) == refusal(BAGWEZIN_PENDING_FORM));
+    EXPECT(TAKE(BAGWEZIN_PENDING, BAGWEZIN_FIELDS - 1) == refusal(BAGWEZIN_SHORT_AREA));
+    EXPECT(memcmp(&kept, &w, sizeof w) == 0);
+
+    /* the gained rows of the nodes watched with sign 1 and 3 */
+    EXPECT(FOLD(BAGWEZIN_PENDING + 1) == 0);
+    memcpy(&kept, &zero, sizeof kept);
+    memcpy(kept.row, w.row, sizeof kept.row);
+    kept.pending[bagwezin_word(0, 0, 0)] = 3, kept.pending[bagwezin_word(0, 0, 1)] = 8;
+    kept.pending[bagwezin_word(0, 1, 0)] = 3, kept.pending[bagwezin_word(0, 1, 1)] = 9;
+    kept.pending[bagwezin_word(2, 0, 0)] = 5;
+    kept.pending[BAGWEZIN_PENDING_COUNTS] = 2, kept.pending[BAGWEZIN_PENDING_COUNTS + 2] = 1;
+    EXPECT(memcmp(&kept, &w, sizeof w) == 0);
+
+    /* the higher priority first: node 2, and its row with zeros past its width */
+    EXPECT(TAKE(BAGWEZIN_PENDING + 1, BAGWEZIN_FIELDS + 1) == 2);
+    kept.row[0] = 5, kept.row[1] = kept.row[2] = kept.row[3] = 0;
+    kept.pending[bagwezin_word(2, 0, 0)] = kept.pending[BAGWEZIN_PENDING_COUNTS + 2] = 0;
+    EXPECT(memcmp(&kept, &w, sizeof w) == 0);
+    EXPECT(memcmp(&unread, &a, sizeof a) == 0);
+
+    /* a lost row is pending no longer; the other is taken, and its place is 0 */
+    EXPECT(bagwezin_apply(WATCHED, sizeof WATCHED, loses, sizeof loses, LENT(&a)) == 0);
+    EXPECT(FOLD(BAGWEZIN_PENDING) == 0);
+    EXPECT(TAKE(BAGWEZIN_PENDING, BAGWEZIN_FIELDS) == 0);
+    memcpy(&kept, &zero, sizeof kept);
+    kept.row[0] = 3, kept.row[1] = 9;
+    EXPECT(memcmp(&kept, &w, sizeof w) == 0);
+    uint64_t none = TAKE(BAGWEZIN_PENDING, BAGWEZIN_FIELDS);
+    EXPECT(bagwezin_number(none) == BAGWEZIN_NOTHING_PENDING && bagwezin_value(none) == 0);
+
+    /* rows of a node watched with sign 2 */
+    w.pending[BAGWEZIN_PENDING_COUNTS + 1] = 1;
+    EXPECT(FOLD(BAGWEZIN_PENDING) == refusal(BAGWEZIN_PENDING_FORM));
+    EXPECT(TAKE(BAGWEZIN_PENDING, BAGWEZIN_FIELDS) == refusal(BAGWEZIN_PENDING_FORM));
+}
+
 /* 64 rows of width 3 beside the one row of another table: when that row is exchanged, the product loses and gains 64 rows of width 4. */
 static const uint8_t PRODUCT[] = {
     6, 0, BAGWEZIN_TABLE, 0, 3, 0,
@@ -157,7 +247,7 @@ static void the_largest_report(void)
 }
 
 enum { THREADS = 4, BATCHES = 3000 };
-static struct areas own[THREADS], shared;
+static struct areas own[THREADS], shared, kept;
 
 static void *writes(void *mine)
 {
@@ -169,12 +259,16 @@ static void *writes(void *mine)
     return bad == 0 && a->head[BAGWEZIN_HEAD_NUMBER] == BATCHES + 1 ? mine : NULL;
 }
 
+/* Checks, reports, folds and takings on the same areas, with a pending area of its own. */
 static void *reads(void *mine)
 {
     int good = 1;
     uint8_t out[BAGWEZIN_REPORT];
+    uint32_t pending[BAGWEZIN_PENDING] = {0}, row[BAGWEZIN_FIELDS];
     for (int i = 0; i < BATCHES; i += 1) {
         good &= bagwezin_check(N, sizeof N, LENT(&shared)) == 1 && bagwezin_report(N, sizeof N, 4, LENT(&shared), out, sizeof out) == 10 && out[6] == 5;
+        good &= bagwezin_fold(N, sizeof N, LENT(&shared), pending, BAGWEZIN_PENDING) == 0 && pending[BAGWEZIN_PENDING_COUNTS + 4] == 1;
+        good &= bagwezin_take(N, sizeof N, LENT(&shared), pending, BAGWEZIN_PENDING, row, BAGWEZIN_FIELDS) == 4 && row[0] == 5;
     }
     return good ? mine : NULL;
 }
@@ -184,6 +278,7 @@ static void threads(void)
     pthread_t writing[THREADS], reading[THREADS];
     EXPECT(bagwezin_open(N, sizeof N, LENT(&shared)) == 0);
     EXPECT(bagwezin_apply(N, sizeof N, CATCH, sizeof CATCH, LENT(&shared)) == 0);
+    memcpy(&kept, &shared, sizeof shared);
     for (int i = 0; i < THREADS; i += 1) {
         EXPECT(pthread_create(&writing[i], NULL, writes, &own[i]) == 0 && pthread_create(&reading[i], NULL, reads, &own[i]) == 0);
     }
@@ -193,6 +288,7 @@ static void threads(void)
         EXPECT(pthread_join(reading[i], &read) == 0 && read != NULL);
         EXPECT(memcmp(&own[i], &own[0], sizeof own[0]) == 0);
     }
+    EXPECT(memcmp(&kept, &shared, sizeof shared) == 0);
 }
 
 int main(void)
@@ -203,6 +299,7 @@ int main(void)
     nothing_is_looked_at(page);
     names_and_layout();
     no_match();
+    alerts();
     the_largest_report();
     threads();
     printf("edges: %d passed, %d failed\n", passed, failed);

@@ -18,7 +18,7 @@ static const uint64_t PAINT = 0x9e3779b97f4a7c15;
 
 static uint64_t stack[ROOM / 8];
 static uint32_t rows[BAGWEZIN_AREA], gained[BAGWEZIN_AREA], lost[BAGWEZIN_AREA], head[BAGWEZIN_HEAD];
-static uint32_t answer[BAGWEZIN_ANSWER];
+static uint32_t answer[BAGWEZIN_ANSWER], pending[BAGWEZIN_PENDING], row[BAGWEZIN_FIELDS];
 static uint8_t report[BAGWEZIN_REPORT];
 static uint8_t network[FILE_MOST], file[FILE_MOST];
 static const uint8_t *batch;
@@ -26,14 +26,16 @@ static size_t network_size, batch_size;
 static uint32_t node;
 
 #define AREAS rows, BAGWEZIN_AREA, gained, BAGWEZIN_AREA, lost, BAGWEZIN_AREA, head, BAGWEZIN_HEAD
+#define PENDING pending, BAGWEZIN_PENDING
 
 /* The calls: their names, what the header states, how often they ran, and the most that they took. */
-enum { READ, OPEN, APPLY, CHECK, REPORT, CALLS };
+enum { READ, OPEN, APPLY, CHECK, REPORT, FOLD, TAKE, CALLS };
 
 static struct { const char *name; size_t stated, runs, most; } calls[CALLS] = {
     {"bagwezin_read", BAGWEZIN_STACK_READ, 0, 0},     {"bagwezin_open", BAGWEZIN_STACK_OPEN, 0, 0},
     {"bagwezin_apply", BAGWEZIN_STACK_APPLY, 0, 0},   {"bagwezin_check", BAGWEZIN_STACK_CHECK, 0, 0},
-    {"bagwezin_report", BAGWEZIN_STACK_REPORT, 0, 0},
+    {"bagwezin_report", BAGWEZIN_STACK_REPORT, 0, 0}, {"bagwezin_fold", BAGWEZIN_STACK_FOLD, 0, 0},
+    {"bagwezin_take", BAGWEZIN_STACK_TAKE, 0, 0},
 };
 
 /* Called in place of each call to learn its caller's stack pointer: the frame pointer and the return address stand below it. */
@@ -66,7 +68,9 @@ static void on_painted_stack(void)
     case OPEN: TWICE(bagwezin_open, network, network_size, AREAS); break;
     case APPLY: TWICE(bagwezin_apply, network, network_size, batch, batch_size, AREAS); break;
     case CHECK: TWICE(bagwezin_check, network, network_size, AREAS); break;
-    default: TWICE(bagwezin_report, network, network_size, node, AREAS, report, sizeof report); break;
+    case REPORT: TWICE(bagwezin_report, network, network_size, node, AREAS, report, sizeof report); break;
+    case FOLD: TWICE(bagwezin_fold, network, network_size, AREAS, PENDING); break;
+    default: TWICE(bagwezin_take, network, network_size, AREAS, PENDING, row, BAGWEZIN_FIELDS); break;
     }
 }
 
@@ -112,7 +116,10 @@ static void apply_and_look(const uint8_t *bytes, size_t size)
 {
     batch = bytes;
     batch_size = size;
-    run(APPLY);
+    if (run(APPLY) == 0) {
+        run(FOLD);
+        run(TAKE);
+    }
     run(CHECK);
     for (node = 0; node <= BAGWEZIN_NODES; node += 1) {
         run(REPORT);
@@ -124,6 +131,7 @@ static void folder(const char *path)
 {
     network_size = load(path, "network.bin", network);
     size_t size = load(path, "batch.bin", file), start = 0, at = 0, count = 0;
+    memset(pending, 0, sizeof pending);
     run(READ);
     run(OPEN);
     while (at + 4 <= size) {
@@ -135,16 +143,23 @@ static void folder(const char *path)
             count += 1;
             if (count < 40 || count % 40 == 0) {
                 apply_and_look(file + start, at - start);
-            } else {
-                bagwezin_apply(network, network_size, file + start, at - start, AREAS);
+            } else if (bagwezin_apply(network, network_size, file + start, at - start, AREAS) == 0) {
+                bagwezin_fold(network, network_size, AREAS, PENDING);
             }
             start = at + 4;
         }
         at += length;
     }
     apply_and_look(file + start, size - start);
+    while (run(TAKE) >> 32 == 0) { /* all that is pending */
+    }
+    pending[BAGWEZIN_PENDING_COUNTS] = BAGWEZIN_ROWS + 1; /* not of good form */
+    run(FOLD);
+    run(TAKE);
     head[BAGWEZIN_HEAD_ROWS] = BAGWEZIN_ROWS + 1; /* not of good form */
     apply_and_look(file, 0);
+    run(FOLD);
+    run(TAKE);
 }
 
 /* The bound of a function in a file of bounds, or 0. */

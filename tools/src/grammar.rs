@@ -25,7 +25,7 @@ pub const RECORDS: [Form; 9] = [
     form("union", "union NAME = LEFT RIGHT", "union known = sprayed exempt"),
     form("minus", "minus NAME = LEFT RIGHT", "minus unsprayed = reached sprays"),
     form("intersect", "intersect NAME = LEFT RIGHT", "intersect again = reached sprays"),
-    form("watch", "watch NODE SIGN", "watch advice both"),
+    form("watch", "watch NODE SIGN [priority NUMBER]", "watch advice both priority 3"),
     form(
         "nomatch",
         "nomatch NAME = LEFT RIGHT on COLUMN = COLUMN [and COLUMN = COLUMN]",
@@ -42,7 +42,7 @@ pub const EVENTS: [Form; 4] = [
 ];
 
 /// Words that stand inside lines.
-const INNER: [&str; 10] = ["where", "on", "and", "give", "as", "left", "right", "gained", "lost", "both"];
+const INNER: [&str; 11] = ["where", "on", "and", "give", "as", "left", "right", "gained", "lost", "both", "priority"];
 
 /// Comparisons by their codes.
 pub const COMPARISONS: [&str; 6] = ["=", "!=", "<", "<=", ">", ">="];

@@ -1,5 +1,5 @@
 //! Networks, to and from bytes.
-use bagwezin::{outcome, raw, Refusal, ANSWER};
+use bagwezin::{outcome, raw, Refusal, ANSWER, PRIORITY};
 
 use crate::grammar::{counted, COMPARISONS, SIGNS};
 use crate::refused;
@@ -106,11 +106,11 @@ pub struct Node {
     pub level: usize,
 }
 
-/// One record of a network: the next node, or a watch with its sign.
+/// One record of a network: the next node, or a watch with its sign, and with its priority if it has 10 bytes.
 #[derive(Clone, Copy, Debug, PartialEq, Eq)]
 pub enum Record {
     Node(usize),
-    Watch { node: usize, sign: usize },
+    Watch { node: usize, sign: usize, priority: Option<usize> },
 }
 
 /// A network with names; its records are in their order.
@@ -154,16 +154,24 @@ impl Network {
                 let (kind, fields) = self.nodes[i].op.fields();
                 record(kind, &fields)
             }
-            Record::Watch { node, sign } => record(9, &[node, sign]),
+            Record::Watch { node, sign, priority } => {
+                let fields: Vec<usize> = [node, sign].into_iter().chain(priority).collect();
+                record(9, &fields)
+            }
         }
+    }
+
+    /// The sign of a node's watch, and its priority if the record has one.
+    pub fn watched(&self, node: usize) -> Option<(usize, Option<usize>)> {
+        self.records.iter().find_map(|r| match *r {
+            Record::Watch { node: n, sign, priority } if n == node => Some((sign, priority)),
+            _ => None,
+        })
     }
 
     /// A node's watch sign.
     pub fn sign(&self, node: usize) -> Option<usize> {
-        self.records.iter().find_map(|r| match *r {
-            Record::Watch { node: n, sign } if n == node => Some(sign),
-            _ => None,
-        })
+        self.watched(node).map(|(sign, _)| sign)
     }
 
     pub fn is_table(&self, node: usize) -> bool {
@@ -211,7 +219,7 @@ impl Network {
         let record = fits(bytes)?;
         let (kind, fields) = (record[1], &record[2..]);
         if kind == 9 {
-            let watch = self.watch(fields[0], fields[1])?;
+            let watch = self.watch(fields)?;
             self.records.push(watch);
             return Ok(());
         }
@@ -232,15 +240,19 @@ impl Network {
         }
     }
 
-    /// A watch from its fields.
-    pub fn watch(&self, node: usize, sign: usize) -> Result<Record, String> {
+    /// A watch from its fields: node, sign, and a priority or none.
+    fn watch(&self, f: &[usize]) -> Result<Record, String> {
+        let (node, sign, priority) = (f[0], f[1], f.get(2).copied());
         self.earlier("node", node)?;
         if !(1..=SIGNS.len()).contains(&sign) {
             return Err(format!("its sign is {sign}, not 1 (gained), 2 (lost) or 3 (both)"));
         }
+        if let Some(p) = priority.filter(|&p| p > PRIORITY) {
+            return Err(format!("its priority is {p}, not 0 to {PRIORITY}"));
+        }
         match self.sign(node) {
             Some(_) => Err(format!("node {node} has a watch already")),
-            None => Ok(Record::Watch { node, sign }),
+            None => Ok(Record::Watch { node, sign, priority }),
         }
     }
 
@@ -376,6 +388,8 @@ pub fn fits(bytes: &[u8]) -> Result<Vec<usize>, String> {
             let pairs = count("pairs", 4, 0, 2)?;
             12 + 4 * pairs + 2 * count("columns", 5 + 2 * pairs, 1, FIELDS)?
         }
+        9 if size == 8 || size == 10 => size,
+        9 => return Err(format!("it has {size} bytes, and a watch takes 8, or 10 with a priority")),
         10 => 10 + 4 * count("pairs", 4, 1, 2)?,
         _ => 8,
     };

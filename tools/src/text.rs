@@ -1,4 +1,6 @@
 //! Networks to and from text.
+use bagwezin::PRIORITY;
+
 use crate::grammar::{lines, Checked, Line, Problem, COMPARISONS, RECORDS, SIGNS};
 use crate::network::{judged, Op, Operand, Record, Set, FIELDS, NODES};
 use crate::{grammar, refused, Network};
@@ -191,11 +193,15 @@ impl Network {
     fn read_watch(&mut self, line: &mut Line) -> Checked<()> {
         let node = line.node(self)?;
         let sign = line.one_of("sign", &SIGNS)? + 1;
+        let priority = match line.accept("priority") {
+            true => Some(read_priority(line)?),
+            false => None,
+        };
         line.done()?;
         if self.sign(node).is_some() {
             return line.fail(format!("'{}' has a watch already", self.nodes[node].name));
         }
-        self.records.push(Record::Watch { node, sign });
+        self.records.push(Record::Watch { node, sign, priority });
         Ok(())
     }
 
@@ -218,7 +224,10 @@ impl Network {
     fn line(&self, record: Record) -> String {
         let name = |i: usize| &self.nodes[i].name;
         let i = match record {
-            Record::Watch { node, sign } => return format!("watch {} {}", name(node), SIGNS[sign - 1]),
+            Record::Watch { node, sign, priority } => {
+                let priority = priority.map_or(String::new(), |p| format!(" priority {p}"));
+                return format!("watch {} {}{priority}", name(node), SIGNS[sign - 1]);
+            }
             Record::Node(i) => i,
         };
         match &self.nodes[i].op {
@@ -290,6 +299,15 @@ impl Network {
         let (l, r) = (&self.nodes[left].columns, &self.nodes[right].columns);
         let each = pairs.iter().map(|&(a, b)| format!("{} = {}", l[a], r[b]));
         each.collect::<Vec<_>>().join(" and ")
+    }
+}
+
+/// The number after `priority`.
+fn read_priority(line: &mut Line) -> Checked<usize> {
+    let word = line.next("a number")?;
+    match grammar::number(word) {
+        Ok(p) if p as usize <= PRIORITY => Ok(p as usize),
+        _ => line.fail(format!("'{word}' is no priority: a priority is 0 to {PRIORITY}")),
     }
 }
 

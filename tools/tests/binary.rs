@@ -44,6 +44,7 @@ const NETWORK: &str = "examples/orchard/network.txt";
 const NETWORK_BIN: &str = "examples/orchard/network.bin";
 const NO_MATCH: &str = "examples/orchard/no-match.txt";
 const NO_MATCH_BIN: &str = "examples/orchard/no-match.bin";
+const PRIORITIES: &str = "examples/pictures/priorities/network.txt";
 const BATCHES: &str = "examples/orchard/batches.txt";
 const BATCHES_BIN: &str = "examples/orchard/batch.bin";
 const NAMES: [&str; 8] = ["network", "text", "batches", "events", "check", "run", "why", "draw"];
@@ -113,8 +114,10 @@ fn bad_input_exits_1_with_file_and_line() {
     let short = made("short.bin", [6, 0, 1]);
     let pairless = made("pairless.bin", [6, 0, 1, 0, 1, 0, 10, 0, 10, 0, 0, 0, 0, 0, 0, 0]);
     let onless = made("onless.txt", "table a x\nnomatch b = a a\n");
+    let above = made("above.bin", [6, 0, 1, 0, 1, 0, 10, 0, 9, 0, 0, 0, 1, 0, 10, 0]);
+    let too_high = made("too-high.txt", "table a x\nwatch a both priority 10\n");
     let over = made("over.txt", "put sprays 5 22\nput sprays 5\nend\n");
-    let list: [(&[&str], String); 14] = [
+    let list: [(&[&str], String); 16] = [
         (&["text", NETWORK], format!("{NETWORK}: this is text already")),
         (&["events", NETWORK, BATCHES], format!("{BATCHES}: this is text already")),
         (&["network", &wrong, "/dev/null"], format!("{wrong}:2: 'a' has no column 'y' (it has x)\n")),
@@ -125,6 +128,8 @@ fn bad_input_exits_1_with_file_and_line() {
         (&["check", &short], format!("{short}: refused 3 at byte 0")),
         (&["text", &pairless], format!("{pairless}: refused 6 at byte 6: ")),
         (&["network", &onless, "/dev/null"], format!("{onless}:2: 'on' is missing at the end\n")),
+        (&["text", &above], format!("{above}: refused 7 at byte 6: ")),
+        (&["network", &too_high, "/dev/null"], format!("{too_high}:2: '10' is no priority: a priority is 0 to 9\n")),
         (&["batches", NETWORK, &over, "/dev/null"], format!("{over}:2: 1 number, and a row of 'sprays' has 2 (block, week)\n")),
         (&["run", NETWORK, &over], format!("{over}:2: ")),
         (&["why", NETWORK, BATCHES, "advise", "1"], format!("{NETWORK}: there is no node 'advise'")),
@@ -221,6 +226,22 @@ fn the_orchard_with_a_no_match() {
     let t = tool(&["why", NO_MATCH, BATCHES, "advice", "70", "5", "22", "--after", "5"]);
     let kept = "\n    unsprayed (block 5, week 22): not there: kept out by 1 row of sprays with block = block and week = week\n";
     assert!(t.status == 0 && t.out.contains(kept), "{}", t.out);
+}
+
+/// The example with priorities: its bytes come back with them, and its picture is the stored one.
+#[test]
+fn watches_with_a_priority() {
+    let [network, again, picture] = ["priorities.bin", "priorities-again.bin", "priorities.svg"].map(|n| made(n, ""));
+    assert_eq!(tool(&["network", PRIORITIES, &network]).status, 0);
+    let t = tool(&["text", &network]);
+    let watches = "\nwatch n5 both priority 9\nwatch n7 gained priority 4\nwatch n4 gained\nwatch n1 lost\n";
+    assert!(t.status == 0 && t.out.ends_with(watches), "{}", t.out);
+    assert_eq!(tool(&["network", &made("priorities.txt", &t.out), &again]).status, 0);
+    assert_eq!(bytes(&again), bytes(&network));
+    let t = tool(&["check", &network]);
+    assert_eq!((t.status, t.out), (0, format!("{network}: accepted: 8 nodes, 4 watches, levels 0 to 3\n")));
+    assert_eq!(tool(&["draw", PRIORITIES, &picture]).status, 0);
+    assert!(bytes(&picture) == bytes("examples/pictures/priorities/network.svg"));
 }
 
 #[test]

@@ -92,6 +92,12 @@ fn numbers_and_counts() {
                 "3: the rows of 'a' have 1 field, those of 'b' have 2: they must be of one width",
             ),
             ("table a x\nwatch a both\nwatch a lost\n", "3: 'a' has a watch already"),
+            ("table a x\nwatch a both priority 3\nwatch a both priority 4\n", "3: 'a' has a watch already"),
+            ("table a x\nwatch a both priority 10\n", "2: '10' is no priority: a priority is 0 to 9"),
+            ("table a x\nwatch a lost priority 65536\n", "2: '65536' is no priority: a priority is 0 to 9"),
+            ("table a x\nwatch a both priority 4294967296\n", "2: '4294967296' is no priority"),
+            ("table a x\nwatch a both priority -1\n", "2: '-1' is no priority: a priority is 0 to 9"),
+            ("table a x\nwatch a both priority high\n", "2: 'high' is no priority: a priority is 0 to 9"),
             ("table a x\njoin b = a a on x = x and x = x and x = x give left.x\n", "2: a join has at most two pairs"),
             ("table a x\nnomatch b = a a on x = x and x = x and x = x\n", "2: a nomatch has at most two pairs"),
             ("# nothing\n", "1: there is no node: a network has at least one table"),
@@ -129,6 +135,12 @@ fn a_wrong_line_says_how_it_should_look() {
     assert_eq!(told("nomatch b = a a on x x"), format!("2: after 'x' comes '=', not 'x'{form}"));
     assert_eq!(told("nomatch b = a a on x = x and"), format!("2: a column is missing at the end{form}"));
     assert_eq!(told("nomatch b = a a on x = x give left.x"), format!("2: 'give' is one word too many{form}"));
+    let form = "\n    the line is written  watch NODE SIGN [priority NUMBER]\n    for example          watch advice both priority 3";
+    assert_eq!(told("watch a both priority"), format!("2: a number is missing at the end{form}"));
+    assert_eq!(told("watch a priority 3"), format!("2: 'priority' is no sign (gained lost both){form}"));
+    assert_eq!(told("watch priority 3"), format!("2: a node is missing before 'priority'{form}"));
+    assert_eq!(told("watch a both 3"), format!("2: '3' is one word too many{form}"));
+    assert_eq!(told("watch a both priority 3 4"), format!("2: '4' is one word too many{form}"));
     let lines = told("tabel b x");
     assert!(lines.starts_with("2: no line begins with 'tabel'; the lines are\n    table NAME COLUMN ...\n    select "));
     assert!(events("putt catches 1 2\n")
@@ -228,6 +240,37 @@ fn refused_no_matches_are_told_with_the_field_at_fault() {
     assert!(first.ends_with("(no match: its left is node 0, and there is none yet)"), "{first}");
     let late = Network::from_bytes(&[tables.repeat(16), whole].concat()).unwrap_err().1;
     assert_eq!(late, "refused 5 at byte 192: it would be the 33rd node");
+}
+
+#[test]
+fn refused_watches_are_told_with_the_field_at_fault() {
+    let table = [6, 0, 1, 0, 2, 0];
+    let lengths = "a watch takes 8, or 10 with a priority";
+    let nine = vec![9, 0, 9, 0, 0, 0, 1, 0, 3];
+    let list = [
+        (record(9, &[]), 6, format!("it has 4 bytes, and {lengths}")),
+        (record(9, &[0]), 6, format!("it has 6 bytes, and {lengths}")),
+        (nine, 6, format!("it has 9 bytes, and {lengths}")),
+        (record(9, &[7, 4, 10, 0]), 6, format!("it has 12 bytes, and {lengths}")),
+        (record(9, &[0, 1, 10]), 7, "its priority is 10, not 0 to 9".into()),
+        (record(9, &[0, 2, 65535]), 7, "its priority is 65535, not 0 to 9".into()),
+        (record(9, &[0, 3, 256]), 7, "its priority is 256, not 0 to 9".into()),
+        (record(9, &[0, 0, 9]), 7, "its sign is 0, not 1 (gained), 2 (lost) or 3 (both)".into()),
+        (record(9, &[1, 1, 9]), 7, "its node is node 1, and the nodes before it are 0 to 0".into()),
+    ];
+    for (watch, number, fault) in list {
+        let (refusal, text) = Network::from_bytes(&[&table[..], &watch].concat()).unwrap_err();
+        assert_eq!((refusal.number, refusal.place), (number, 6), "{watch:?}");
+        assert_eq!(text, format!("{refusal} (watch: {fault})"));
+    }
+    let told = |more: &[u8]| Network::from_bytes(&[&table[..], more].concat()).unwrap_err().1;
+    let watch = record(9, &[0, 1, 9]);
+    let second = told(&watch.repeat(2));
+    assert!(second.starts_with("refused 7 at byte 16: ") && second.ends_with("(watch: node 0 has a watch already)"));
+    let cut = told(&watch[..9]);
+    assert!(
+        cut.starts_with("refused 3 at byte 6: ") && cut.ends_with("(it says that it has 10 bytes, and 9 are left)")
+    );
 }
 
 #[test]

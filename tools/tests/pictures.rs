@@ -48,6 +48,16 @@ fn every_node_edge_and_watch_is_drawn() {
     assert_eq!(twice.matches("<title>twice to pairs</title>").count(), 2);
 }
 
+/// A node's box has these lines, from its title on.
+fn has_lines(picture: &str, lines: &[&str]) {
+    let texts: Vec<&str> = picture.lines().filter(|l| l.starts_with("<text ")).collect();
+    let at = texts.iter().position(|l| l.contains(lines[0])).unwrap();
+    assert!(texts[at..].len() >= lines.len(), "{lines:?}");
+    for (text, line) in texts[at..].iter().zip(lines) {
+        assert!(text.contains(line), "{text}, not {line}");
+    }
+}
+
 #[test]
 fn a_no_match_is_drawn_with_its_pairs() {
     let picture = drawn("orchard/no-match");
@@ -59,17 +69,39 @@ fn a_no_match_is_drawn_with_its_pairs() {
         ">and\u{a0}week\u{a0}=\u{a0}week<",
         ">watched: gained<",
     ];
-    let texts: Vec<&str> = picture.lines().filter(|l| l.starts_with("<text ")).collect();
-    let at = texts.iter().position(|l| l.contains(lines[0])).unwrap();
-    for (text, line) in texts[at..].iter().zip(lines) {
-        assert!(text.contains(line), "{text}, not {line}");
-    }
+    has_lines(&picture, &lines);
     for from in ["reached", "sprays"] {
         assert_eq!(picture.matches(&format!("<title>{from} to unsprayed</title>")).count(), 1);
     }
     let graph = draw::dot(&example_network("orchard/no-match"), None);
     assert!(graph.contains("n7 -> n8 ") && graph.contains("n3 -> n8 "));
     assert!(graph.contains("\\lreached nomatch sprays\\lon\u{a0}block\u{a0}=\u{a0}block\\l"));
+}
+
+#[test]
+fn a_priority_is_drawn_beside_its_sign() {
+    let picture = drawn("pictures/priorities/network");
+    let pairs = [">on\u{a0}block\u{a0}=\u{a0}block<", ">and\u{a0}week\u{a0}=\u{a0}week<"];
+    let watched = [">watched: gained and lost,<", ">priority\u{a0}9<"];
+    let start = [">5 unsprayed<", ">block, week<", ">reached nomatch sprays<"];
+    has_lines(&picture, &[&start[..], &pairs, &watched].concat());
+    let on = ">on\u{a0}trap\u{a0}=\u{a0}trap<";
+    let watched = ">watched: gained, priority\u{a0}4<";
+    has_lines(&picture, &[">7 unlured<", ">trap, block<", ">standing nomatch lures<", on, watched]);
+    has_lines(&picture, &[">1 lures<", ">trap, species<", ">watched: lost<"]);
+    has_lines(&picture, &[">4 reached<", ">block, week<", ">columns of heavy<", ">watched: gained<"]);
+    assert_eq!(picture.matches("priority").count(), 2);
+    let graph = draw::dot(&example_network("pictures/priorities/network"), None);
+    assert!(graph.contains("\\lwatched: gained, priority\u{a0}4\\l") && graph.contains("\\lwatched: lost\\l"));
+}
+
+/// A watch of priority 0 shows it where its record has it.
+#[test]
+fn a_priority_of_0_is_drawn_if_it_is_there() {
+    let text = "table a x\ntable b x\nwatch a lost priority 0\nwatch b lost\n";
+    let picture = draw::svg(&Network::assemble(text).unwrap(), None);
+    has_lines(&picture, &[">0 a<", ">x<", ">watched: lost, priority\u{a0}0<"]);
+    has_lines(&picture, &[">1 b<", ">x<", ">watched: lost<"]);
 }
 
 type Frame = (f64, f64, f64, f64);

@@ -4,6 +4,7 @@ mod common;
 use std::ops::Range;
 
 use bagwezin_tools::batches::Rest;
+use bagwezin_tools::network::Record;
 use bagwezin_tools::{batches, network, Network};
 use common::Random;
 
@@ -34,7 +35,7 @@ fn batches_around(net: &Network, file: &[u8]) -> Result<(), String> {
 
 #[test]
 fn random_networks_and_batches() {
-    let mut kinds = [0; 11];
+    let (mut kinds, mut priorities) = ([0; 11], [0; 10]);
     for seed in 0..20_000 {
         let mut r = Random::new(seed);
         let made = common::network(&mut r);
@@ -42,10 +43,16 @@ fn random_networks_and_batches() {
         let file = common::batches(&mut r, &made);
         batches_around(&net, &file).unwrap_or_else(|e| panic!("seed {seed}: {e}"));
         for at in network::offsets(&made.bytes) {
-            kinds[network::two(&made.bytes, at + 2).unwrap()] += 1;
+            let field = |k: usize| network::two(&made.bytes, at + 2 * k).unwrap();
+            kinds[field(1)] += 1;
+            if (field(0), field(1)) == (10, 9) {
+                priorities[field(4)] += 1;
+            }
         }
     }
     assert!(kinds[1..].iter().all(|&n| n > 5000), "{kinds:?}");
+    assert!(priorities.iter().all(|&n| n > 500), "{priorities:?}");
+    assert!(kinds[9] > priorities.iter().sum::<usize>() + 5000);
 }
 
 #[test]
@@ -117,15 +124,19 @@ fn damaged_files_of_batches_are_refused_by_the_library_or_come_back() {
 /// A text with some words or letters changed gives a network or a problem with a line of the text.
 #[test]
 fn damaged_texts_are_read_or_told() {
-    let words =
-        ["=", "where", "give", "as", "left.x", ".9", "@40", "@", ".", "4294967296", "-1", "both", "#", "é", "!"];
-    let texts = [common::N.into(), common::example("orchard/network.txt"), common::example("orchard/no-match.txt")];
+    let words: Vec<&str> = "= where give as left.x .9 @40 @ . 4294967296 -1 both priority # é !".split(' ').collect();
+    let texts = [
+        common::N.into(),
+        common::example("orchard/network.txt"),
+        common::example("orchard/no-match.txt"),
+        common::example("pictures/priorities/network.txt"),
+    ];
     let events = common::example("orchard/batches.txt");
     let orchard = common::example_network("orchard/network");
     let mut read = 0;
     for seed in 0..20_000 {
         let mut r = Random::new(seed + 3_000_000);
-        let whole = [&texts[0], &texts[1], &texts[2], &events][r.below(4)];
+        let whole = [&texts[0], &texts[1], &texts[2], &texts[3], &events][r.below(5)];
         let mut pieces: Vec<&str> = whole.split_inclusive([' ', '\n']).collect();
         for _ in 0..1 + r.below(3) {
             let at = r.below(pieces.len());
@@ -200,6 +211,8 @@ fn odd_but_legal_networks() {
         "watch n7 gained",
         "nomatch n8 = n1 n7 on c1_3 = c1",
         "nomatch n9 = n7 n1 on c1 = c1_3 and c0 = c1",
+        "watch n9 both priority 9",
+        "watch n8 lost priority 0",
     ];
     let text = lines.join("\n") + "\n";
     let net = Network::assemble(&text).unwrap();
@@ -217,6 +230,7 @@ fn names_and_positions_give_the_same_bytes() {
         ("join j = a b on x = x give left.y right.x", "join j = @0 @1 on .0=.0 give left.1 right.0"),
         ("watch j both", "watch @5 both"),
         ("nomatch k = a b on y = x and x = x", "nomatch k=@0 @1 on .1=.0 and .0=.0"),
+        ("watch k gained priority 7", "watch @6 gained priority 7"),
     ];
     let (named, placed): (Vec<&str>, Vec<&str>) = lines.into_iter().unzip();
     let read = |lines: Vec<&str>| Network::assemble(&lines.join("\n")).unwrap();
@@ -255,6 +269,23 @@ fn a_no_match_has_its_kinds_bytes() {
     let shapes: Vec<(usize, usize)> = net.nodes.iter().map(|n| (n.columns.len(), n.level)).collect();
     assert_eq!(shapes, [(2, 0), (3, 0), (2, 1), (2, 2)]);
     assert_eq!(net.nodes[3].columns, ["v", "w"]);
+}
+
+/// A watch has 8 bytes, or 10 with a priority, be it 0.
+#[test]
+fn a_watch_has_8_bytes_or_10() {
+    let text = "table a x\nwatch a both\ntable b x\nwatch b gained priority 0\ntable c x\nwatch c lost priority 9\n";
+    let net = Network::assemble(text).unwrap();
+    let bytes: &[u8] = &[
+        6, 0, 1, 0, 1, 0, 8, 0, 9, 0, 0, 0, 3, 0, 6, 0, 1, 0, 1, 0, 10, 0, 9, 0, 1, 0, 1, 0, 0, 0, 6, 0, 1, 0, 1, 0,
+        10, 0, 9, 0, 2, 0, 2, 0, 9, 0,
+    ];
+    assert_eq!(net.bytes(), bytes);
+    assert_eq!(net.text(), text);
+    let again = around(bytes).unwrap();
+    assert_eq!(again.records, net.records);
+    assert_eq!(again.records[3], Record::Watch { node: 1, sign: 1, priority: Some(0) });
+    assert_eq!([0, 1, 2].map(|i| again.watched(i)), [Some((3, None)), Some((1, Some(0))), Some((2, Some(9)))]);
 }
 
 #[test]

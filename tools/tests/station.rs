@@ -2,7 +2,7 @@
 mod common;
 
 use bagwezin_tools::batches::{self, Assembled};
-use bagwezin_tools::network::Op;
+use bagwezin_tools::network::{Op, Record};
 use bagwezin_tools::station::{run, Station};
 use bagwezin_tools::why::{row, why};
 use bagwezin_tools::{Network, Row};
@@ -193,6 +193,74 @@ batch 4
     blocks (block 5, owner 70): put in batch 1
 ";
     assert_eq!(never(4), there);
+}
+
+/// A network with its watches' priorities left out, and how many there were.
+fn without_priorities(net: &Network) -> (Network, usize) {
+    let (mut plain, mut count) = (net.clone(), 0);
+    for record in &mut plain.records {
+        if let Record::Watch { priority, .. } = record {
+            count += usize::from(priority.take().is_some());
+        }
+    }
+    assert_eq!(net.bytes().len(), plain.bytes().len() + 2 * count);
+    (plain, count)
+}
+
+#[test]
+fn a_day_with_priorities() {
+    let net = example_network("pictures/priorities/network");
+    let events = "put lures 1 1
+put catches 5 1 22 9
+put catches 6 2 22 3
+end
+put sprays 5 22
+remove lures 1 1
+put lures 2 1
+end
+remove catches 5 1 22 9
+end
+";
+    let file = batches::assemble(&net, events).unwrap();
+    let day = "batch 1
++ reached block=5 week=22
++ unsprayed block=5 week=22
++ unlured trap=2 block=6
+batch 2
+- lures trap=1 species=1
+- unsprayed block=5 week=22
++ unlured trap=1 block=5
+batch 3
+";
+    let (plain, count) = without_priorities(&net);
+    assert_eq!(count, 2);
+    for net in [&net, &plain] {
+        assert_eq!(run(net, "events", &file).unwrap(), (day.into(), true));
+    }
+    let unlured = "after batch 2, unlured (trap 1, block 5) is there
+  unlured (trap 1, block 5): in standing, and no row of lures agrees on trap = trap
+    standing (trap 1, block 5): from 1 row of catches
+      catches (block 5, trap 1, week 22, count 9): put in batch 1
+";
+    assert_eq!(answer(&net, events, 2, "unlured", &["1", "5"]), unlured);
+}
+
+/// Priorities change no line of the station.
+#[test]
+fn random_networks_run_alike_without_their_priorities() {
+    let (mut left_out, mut changes) = (0, 0);
+    for seed in 0..400 {
+        let mut r = Random::new(seed + 5_000_000);
+        let made = common::network(&mut r);
+        let net = Network::from_bytes(&made.bytes).unwrap();
+        let file = Assembled { bytes: common::batches(&mut r, &made), ends: vec![] };
+        let (plain, count) = without_priorities(&net);
+        let told = run(&net, "batch.bin", &file).unwrap();
+        assert_eq!(told, run(&plain, "batch.bin", &file).unwrap(), "seed {seed}");
+        left_out += count;
+        changes += told.0.lines().filter(|l| l.starts_with(['+', '-'])).count();
+    }
+    assert!(left_out > 200 && changes > 200, "{left_out} {changes}");
 }
 
 #[test]

@@ -8,9 +8,9 @@ use Rattle.model.specs.Areas.{Areas, placeSize}
 abbrev pub lent : List ℕ → List ℕ → List ℕ → List ℕ → Areas
 lent rows gained lost head = record { rows = rows; gained = gained; lost = lost; head = head }
 
--- the counts of the head from a word on, by node number
+-- the counts from a word on, by node number
 abbrev pub countsFrom : List ℕ → ℕ → ℕ → ℕ
-countsFrom head first i = getD head (first + i) 0
+countsFrom words first i = getD words (first + i) 0
 
 -- the part of an area that is lent as a node's place
 abbrev pub placeAt : List ℕ → ℕ → List ℕ

@@ -83,32 +83,39 @@ fn empty_place(area: &[u32], i: usize, count: usize) -> bool
 }
 
 // Whether the place with number i is of good form, in a network of n nodes.
-fn good_node(area: &[u32], widths: &[usize], n: usize, head: &[u32], first: usize, i: usize) -> bool
+fn good_node(
+    area: &[u32],
+    widths: &[usize],
+    n: usize,
+    words: &[u32],
+    first: usize,
+    i: usize,
+) -> bool
     requires { ⌜ (i < maxNodes) × (areaSize ≤ length (now area)) × (n ≤ length (now widths)) × Narrow (now widths)
-        × (first + maxNodes ≤ length (now head)) ⌝ }
+        × (first + maxNodes ≤ length (now words)) ⌝ }
     ensures { λ r. ⌜ r ≡ cond (ltb i n)
-        (goodPlace layout (getD (now (widths .entry)) i 0) (countsFrom (now (head .entry)) first i)
+        (goodPlace layout (getD (now (widths .entry)) i 0) (countsFrom (now (words .entry)) first i)
         (now (area .entry)) i)
-        (emptyPlace layout (countsFrom (now (head .entry)) first i) (now (area .entry)) i) ⌝ }
+        (emptyPlace layout (countsFrom (now (words .entry)) first i) (now (area .entry)) i) ⌝ }
 {
-    let count = head[first + i] as usize;
+    let count = words[first + i] as usize;
     if i < n {
         return good_place(area, i, widths[i], count);
     }
     empty_place(area, i, count)
 }
 
-// Whether every place of an area is of good form, in a network of n nodes, the counts standing in the head, or in other
-// words that are lent as such, from a word on.
-pub fn good_area(area: &[u32], widths: &[usize], n: usize, head: &[u32], first: usize) -> bool
+// Whether every place of an area is of good form, in a network of n nodes, the counts standing in words of the
+// head, or of another area, from one on.
+pub fn good_area(area: &[u32], widths: &[usize], n: usize, words: &[u32], first: usize) -> bool
     requires { ⌜ (areaSize ≤ length (now area)) × (n ≤ length (now widths)) × Narrow (now widths)
-        × (first + maxNodes ≤ length (now head)) ⌝ }
-    ensures { λ r. ⌜ r ≡ goodArea layout (take n (now (widths .entry))) (countsFrom (now (head .entry)) first)
+        × (first + maxNodes ≤ length (now words)) ⌝ }
+    ensures { λ r. ⌜ r ≡ goodArea layout (take n (now (widths .entry))) (countsFrom (now (words .entry)) first)
         (now (area .entry)) ⌝ }
 {
     let mut i = 0;
     while i < MAX_NODES {
-        if !good_node(area, widths, n, head, first, i) {
+        if !good_node(area, widths, n, words, first, i) {
             return false;
         }
         i += 1;

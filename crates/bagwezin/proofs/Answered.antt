@@ -3,19 +3,24 @@ use Prim.Native.Nat.{ℕ, _<_, _≤_}
 use mathlib.Core.Path.{_≡_, sym, refl, _∙_, ap, subst}
 use mathlib.Core.List.{List, _++_, map}
 use mathlib.Core.Bool.{false, true, Bool, cond}
+use native.Mathlib.Nat.{le-refl}
 use native.Mathlib.Omega.{arith}
+use lib.Dec.{eqb}
 use lib.ListN.{length, length-map, drop}
+use lib.Seq.{paste, take-all}
 use borrow.Author.Tests.{ne-eqb, lt-ltb, le-ltb, eq-eqb}
-use Rattle.model.specs.Areas.{Areas}
+use Rattle.model.specs.Areas.{Areas, over, padded, stride}
 use Rattle.model.specs.Record.{Bytes, SmallVerdict, accepted, refused, isAccepted, Verdict}
-use Rattle.model.specs.Calls.{Result, checkCall, openCall, readCall, reportCall, CheckAnswer, ReadAnswer, ReportAnswer, longestReport}
+use Rattle.model.specs.Calls.{Result, checkCall, foldCall, openCall, readCall, reportCall, takeCall, CheckAnswer, FoldAnswer, ReadAnswer, ReportAnswer, TakeAnswer, longestReport, refusedTaking}
 use Rattle.model.specs.Network.{Node, levels, nodesIn, kindOf, widths, levelOf}
-use Rattle.laws.proofs.Bounds.{ByteList, count-most, form-small, kinds-read, levels-read, network-small, open-small, report-small, widths-read}
+use Rattle.laws.proofs.Bounds.{ByteList, count-most, fold-small, form-small, take-small, kinds-read, levels-read, network-small, open-small, report-small, widths-read}
 use Rattle.laws.proofs.Fits.{read-accepted, read-small, length-widths}
 use Rattle.laws.proofs.Build.{length-build}
 use Rattle.rows.proofs.Place.{length-padded}
 use Rattle.packing.specs.Packing.{Answers, ReadFits, half, readWords}
-use Rattle.bagwezin.specs.Answers.{bit, readVerdict, readAfter}
+use Rattle.bagwezin.specs.Answers.{bit, readVerdict, readAfter, rowAfter, takeLent}
+use Rattle.taking.specs.declared.TakeAnswer as taken
+use Rattle.taking.specs.Taking.{Takes}
 use Rattle.reporting.proofs.Sizes.{size-most}
 
 -- ---- every verdict is small
@@ -34,6 +39,14 @@ module _ (net : Bytes) (b : ByteList net) (a : Areas) where
   report-fits node out x e =
       let short : x .size ≤ longestReport = subst (λ (y : ReportAnswer). y .size ≤ longestReport) (sym e) (size-most net a node out) in
       (subst (λ (y : ReportAnswer). SmallVerdict (y .verdict)) (sym e) (report-small net b a node out), omega arith)
+
+  pub fold-fits : (p : List ℕ) (x : FoldAnswer) → x ≡ foldCall net a p → SmallVerdict (x .verdict)
+  fold-fits p x e = subst (λ (y : FoldAnswer). SmallVerdict (y .verdict)) (sym e) (fold-small net b a p)
+
+  pub take-fits : (p : List ℕ) (r : taken.TakeAnswer) (after : List ℕ) → Takes (takeCall net a p) r after → SmallVerdict (refused (r .number) (r .place)) × (r .node < half)
+  take-fits p r after t =
+      let s : SmallVerdict (takeCall net a p .verdict) × (takeCall net a p .node < 32) = take-small net b a p in
+      (record { number = rw (t .number) (s .0 .number); place = rw (t .place) (s .0 .place) }, omega (arith, t .node, s .1))
 
 pub reader-fits : (net : Bytes) → ByteList net → (x : ReadAnswer) → x ≡ readCall net → SmallVerdict (x .verdict)
 unfolding readCall
@@ -94,3 +107,39 @@ module _ (net : Bytes) (answer : List ℕ) (x : ReadAnswer) (is : x ≡ readCall
         answered r (subst (λ (v : Verdict). Answers v 0 r) (sym (verdict-accepted z)) e),
         w ∙ ap (λ (y : ReadAnswer). readWords y ++ drop 97 answer) is ∙ sym (after-is true yes),
       )
+
+-- ---- a taking
+
+-- fewer than 4 lent words
+pub take-short : (net : Bytes) (a : Areas) (p answer : List ℕ) (r : ℕ) → length answer < stride → Answers (refused 1 0) 0 r →
+    Answers (takeLent net a p answer .verdict) (takeLent net a p answer .node) r × (p ≡ takeLent net a p answer .pending) × (answer ≡ rowAfter (takeLent net a p answer) answer)
+take-short net a p answer r h e = rw (lt-ltb (length answer) stride h) (e, refl, refl)
+
+module _ (net : Bytes) (a : Areas) (p answer : List ℕ) (t : taken.TakeAnswer) (after : List ℕ) (k : Takes (takeCall net a p) t after) (h : stride ≤ length answer) where
+  lent-is : takeLent net a p answer ≡ takeCall net a p
+  lent-is = ap (λ (u : Bool). cond u (refusedTaking (refused 1 0) p) (takeCall net a p)) (le-ltb (length answer) stride h)
+
+  row-after : (u : Bool) → eqb (t .number) 0 ≡ u → rowAfter (takeLent net a p answer) answer ≡ cond u (over (padded stride (takeCall net a p .row)) answer) answer
+  row-after u e =
+      ap (λ (x : TakeAnswer). rowAfter x answer) lent-is
+      ∙ ap (λ (w : Bool). cond w (over (padded stride (takeCall net a p .row)) answer) answer) (ap (λ (n : ℕ). eqb n 0) (sym (k .number)) ∙ e)
+
+  module _ (r : ℕ) (e : Answers (refused (t .number) (t .place)) (t .node) r) where
+    answered-take : Answers (takeLent net a p answer .verdict) (takeLent net a p answer .node) r
+    answered-take =
+        let v : refused (t .number) (t .place) ≡ takeCall net a p .verdict = λ i. record { number = k .number i; place = k .place i } in
+        subst (λ (y : TakeAnswer). Answers (y .verdict) (y .node) r) (sym lent-is)
+        (subst (λ (x : Verdict). Answers x (takeCall net a p .node) r) v (subst (λ (n : ℕ). Answers (refused (t .number) (t .place)) n r) (k .node) e))
+
+    pub take-refused : (t .number ≡ 0 → ⊥) →
+        Answers (takeLent net a p answer .verdict) (takeLent net a p answer .node) r × (after ≡ takeLent net a p answer .pending) × (answer ≡ rowAfter (takeLent net a p answer) answer)
+    take-refused n = (answered-take, rw lent-is (k .pending), sym (row-after false (ne-eqb (t .number) 0 n)))
+
+    pub take-written : t .number ≡ 0 → (written : List ℕ) → written ≡ paste answer 0 (t .row) stride →
+        Answers (takeLent net a p answer .verdict) (takeLent net a p answer .node) r × (after ≡ takeLent net a p answer .pending) × (written ≡ rowAfter (takeLent net a p answer) answer)
+    take-written z written w =
+        let size : length (t .row) ≡ stride = k .row-long in
+        let whole : paste answer 0 (t .row) stride ≡ over (padded stride (takeCall net a p .row)) answer =
+        ap (λ (l : List ℕ). l ++ drop stride answer) (take-all stride (t .row) (rw size (le-refl stride)))
+        ∙ ap (λ (n : ℕ). t .row ++ drop n answer) (sym size) ∙ ap (λ (l : List ℕ). over l answer) (k .row) in
+        (answered-take, rw lent-is (k .pending), w ∙ whole ∙ sym (row-after true (eq-eqb (t .number) 0 z)))

@@ -6,8 +6,8 @@ use Prim.Native.Nat.{ℕ}
 use lib.Dec.{ltb}
 use lib.ListN.{length, drop}
 use Rattle.model.specs.Record.{Bytes, Verdict, refused, isAccepted}
-use Rattle.model.specs.Areas.{Areas}
-use Rattle.model.specs.Calls.{Result, CheckAnswer, ReportAnswer, Applied, readCall}
+use Rattle.model.specs.Areas.{Areas, stride, padded, over}
+use Rattle.model.specs.Calls.{Result, CheckAnswer, ReportAnswer, TakeAnswer, Applied, readCall, takeCall, refusedTaking}
 use Rattle.packing.specs.Packing.{Answers, readWords}
 
 -- yes is 1
@@ -37,3 +37,12 @@ pub record Applies (net batch : Bytes) (a after : Areas) (answer : ℕ) : Type 0
   pub applied : Applied net batch a result
   pub areas : after ≡ result .areas
   pub answers : Answers (result .verdict) 0 answer
+
+-- a taking: fewer than 4 lent words are refused by 1 before anything else
+abbrev pub takeLent : Bytes → Areas → List ℕ → List ℕ → TakeAnswer
+takeLent net a pending answer =
+    cond (ltb (length answer) stride) (refusedTaking (refused 1 0) pending) (takeCall net a pending)
+
+-- the lent words afterwards: the row, zeros past its width; a refusal writes nothing, and words past the 4th stay
+abbrev pub rowAfter : TakeAnswer → List ℕ → List ℕ
+rowAfter t answer = cond (isAccepted (t .verdict)) (over (padded stride (t .row)) answer) answer

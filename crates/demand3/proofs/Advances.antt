@@ -9,7 +9,7 @@ use lib.Dec.{ltb}
 use lib.ListN.{getD, length, take, List·getD-eq-default}
 use lib.Seq.{getD-take, length-take-le}
 use borrow.Author.Tests.{ltb-true, ltb-false}
-use Rattle.model.specs.Network.{Node, AllFit, nodeAt, isTable, inputsOf, build, table, levelOf, levels}
+use Rattle.model.specs.Network.{Node, AllFit, nodeAt, isTable, inputsOf, build, levelOf, levels}
 use Rattle.model.specs.Areas.{Areas, batchNumber, changesIn, holding, layout, rowsIn, stampAt, stateIn, tablesOf}
 use Rattle.model.specs.Batch.{Event, actAll, foldChanges}
 use Rattle.model.specs.Delta.{Change, changeAt, isChanged, netChange, netChanges, noChange}
@@ -25,9 +25,10 @@ use Rattle.model.specs.Network.{Inputs, evaluateOn, firstOf, lastOf, leftOf, li
 use Rattle.laws.proofs.Inputs.{inputs-high}
 use Rattle.laws.proofs.Fresh.{fresh-derived, fresh-table, inputs-before}
 use Rattle.states.proofs.Changes.{changed-is, changes-at, changes-length, no-change, stamps-at}
+use Rattle.states.proofs.Head.{padded-at}
 use Rattle.states.proofs.Worked.{isOn, worked-is}
 use Rattle.demand3.specs.Demand3.{Advances, changeOf, freshOf, isUntouched, rowsOf, workedOf}
-use Rattle.demand3.proofs.Holds.{Proper, holding-changes, holding-rows, holding-state, number-is, padded-at, stamp-word}
+use Rattle.demand3.proofs.Holds.{Proper, holding-changes, holding-rows, holding-state, number-is, stamp-word}
 
 -- ---- a node built only on tables without net change
 

@@ -3,10 +3,10 @@
 use mathlib.Core.Bool.{Bool, cond, false, true}
 use mathlib.Core.List.{List, [], map, zipWith, _∷_, _++_}
 use mathlib.Core.Path.{ap, ap₂, refl, sym, _∙_, _≡_}
-use Prim.Native.Nat.{_+_, _-_, _<_, suc, suc-le-suc, zero-le, ℕ, _≤_}
+use Prim.Native.Nat.{_+_, _<_, suc, suc-le-suc, zero-le, ℕ, _≤_}
 use native.Mathlib.Nat.{add-zero, zero-add}
 use native.Mathlib.Omega.{arith}
-use lib.ListN.{List·getD-append, drop, getD, length, length-append, replicate, length-map}
+use lib.ListN.{drop, getD, length, length-append, length-map}
 use lib.Dec.{eqb, leb, ltb}
 use lib.Seq.{ext-getD, drop-at}
 use borrow.Author.Tests.{le-leb, lt-ltb, ltb-false, ltb-true}
@@ -22,7 +22,7 @@ use Rattle.model.specs.Station.{State}
 use Rattle.laws.proofs.Sets.{and-both}
 use Rattle.model.specs.Evaluation.{evaluate, rowsAt}
 use Rattle.areas.proofs.Good.{form-last, long-last}
-use Rattle.states.proofs.Head.{head-length, padded-length, padded-zero, word-b, word-first, word-p, word-q, word-r, word-s, word-t, head-size}
+use Rattle.states.proofs.Head.{head-length, padded-at, padded-length, padded-zero, word-b, word-first, word-p, word-q, word-r, word-s, word-t, head-size}
 use Rattle.laws.proofs.Fits.{length-widths}
 use Rattle.laws.proofs.Fresh.{fresh-table, same-refl, tables-at}
 use Rattle.laws.proofs.Build.{length-evaluate}
@@ -54,10 +54,6 @@ map-getD f from [] h = refl
 map-getD f from (x ∷ l) h =
     ap₂ {A = ℕ} {B = List ℕ} {C = List ℕ} (λ y m. y ∷ m) (ap f (sym (add-zero from)) ∙ h 0 (suc-le-suc zero-le))
     (map-getD f (suc from) l (λ k g. let e : suc from + k ≡ from + suc k = omega arith in ap f e ∙ h (suc k) (suc-le-suc g)))
-
--- a list padded to 32 numbers, each number or 0
-pub padded-at : (l : List ℕ) (i : ℕ) → i < length l → getD (padded maxNodes l) i 0 ≡ getD l i 0
-padded-at l i h = List·getD-append l (replicate (maxNodes - length l) 0) 0 i h
 
 -- evaluation leaves the tables as they are
 pub tables-back : (nodes : List Node) (tables : List Relation) → length tables ≡ length nodes → tablesOf nodes tables ≡ tables → AllFit nodes →

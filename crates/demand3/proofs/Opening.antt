@@ -1,19 +1,19 @@
 -- Opening: the areas hold the opened plain station's state. Assumes nothing.
-use mathlib.Core.List.{_++_, List, [], map, zipWith, _∷_}
+use mathlib.Core.List.{List, [], map, zipWith, _∷_}
 use mathlib.Core.Bool.{Bool, cond, false, true}
 use mathlib.Core.Path.{ap, ap₂, refl, sym, _∙_, _≡_}
-use Prim.Native.Nat.{_*_, _+_, _-_, _<_, suc, zero, zero-le, ℕ, _≤_}
+use Prim.Native.Nat.{_<_, suc, zero, zero-le, ℕ, _≤_}
 use native.Mathlib.Omega.{arith}
 use native.Mathlib.Nat.{le-refl, not-suc-le-zero}
 use lib.Seq.{ext-getD}
-use lib.ListN.{getD, length, length-replicate, replicate, replicate-append-replicate}
+use lib.ListN.{length, length-replicate, replicate}
 use Rattle.model.specs.Network.{Node, AllFit, widths, nodeAt, isTable, evaluateOn, leftOf, rightOf}
-use Rattle.model.specs.Areas.{Areas, areaOf, cleared, headOf, holding, layout, over, padded, tablesOf, areaSize, headWords}
+use Rattle.model.specs.Areas.{Areas, areaOf, cleared, headOf, holding, layout, over, tablesOf, areaSize, headWords}
 use Rattle.model.specs.Delta.{Change, noChange}
 use Rattle.states.specs.Fitting.{Fitting}
-use Rattle.states.proofs.Written.{flat-none}
+use Rattle.states.proofs.Zeros.{area-none, lengths-none, none-fits, padded-none}
 use Rattle.demand3.proofs.Holds.{Proper}
-use Rattle.model.specs.Row.{Relation, maxNodes, maxWidth}
+use Rattle.model.specs.Row.{Relation, maxNodes}
 use Rattle.laws.proofs.Fits.{Small, length-widths}
 use Rattle.model.specs.Evaluation.{evaluate, rowsAt}
 use Rattle.laws.proofs.Fresh.{fresh-derived, fresh-table, inputs-before}
@@ -21,7 +21,6 @@ use Rattle.laws.proofs.Build.{length-evaluate}
 use Rattle.laws.proofs.ByKind.{on-none}
 use Rattle.laws.proofs.Parts.{same-at}
 use Rattle.model.specs.Station.{opened}
-use Rattle.model.specs.Areas.{placeSize}
 use Rattle.states.proofs.Worked.{worked-few, worked-low}
 
 -- ---- an evaluation of empty tables is empty
@@ -46,17 +45,6 @@ module _ (nodes : List Node) (fit : AllFit nodes) where
       let size : length (evaluate nodes (replicate (length nodes) [])) ≡ length nodes = length-evaluate nodes (replicate (length nodes) []) in
       ext-getD [] (evaluate nodes (replicate (length nodes) [])) (replicate (length nodes) []) (size ∙ sym (length-replicate {A = Relation} (length nodes) []))
       (λ i h. none-to (length nodes) (le-refl (length nodes)) i (rw size at h) ∙ sym (same-at {A = Relation} [] (length nodes) i))
-
-none-fits : (ws : List ℕ) → length ws ≤ maxNodes → ((i : ℕ) → getD ws i 0 ≤ maxWidth) → Fitting ws (replicate (length ws) [])
-none-fits ws few narrow =
-    record {
-      size = length-replicate {A = Relation} (length ws) [];
-      few = few;
-      narrow = narrow;
-      wide = λ i h. rw (same-at {A = Relation} [] (length ws) i) tt;
-      small = λ i h. rw (same-at {A = Relation} [] (length ws) i) zero-le;
-      asc = λ i h. rw (same-at {A = Relation} [] (length ws) i) refl;
-    }
 
 only-none : (nodes : List Node) → tablesOf nodes (replicate (length nodes) []) ≡ replicate (length nodes) []
 unfolding tablesOf zipWith
@@ -99,25 +87,6 @@ module _ (nodes : List Node) (fit : AllFit nodes) (small : Small nodes) where
 
   -- ---- its words are all 0
 
-  area-none : areaOf layout (replicate (length nodes) []) ≡ replicate areaSize 0
-  unfolding areaOf
-  area-none =
-      let size : placeSize * length nodes + (areaSize - placeSize * length nodes) ≡ areaSize = omega (arith, small .few) in
-      ap₂ {A = List ℕ} {B = ℕ} {C = List ℕ} (λ a n. a ++ replicate (areaSize - n) 0) (flat-none (length nodes))
-      (ap length (flat-none (length nodes)) ∙ length-replicate {A = ℕ} (placeSize * length nodes) 0)
-      ∙ replicate-append-replicate {A = ℕ} (placeSize * length nodes) (areaSize - placeSize * length nodes) 0
-      ∙ ap (λ (k : ℕ). replicate {A = ℕ} k 0) size
-
-  padded-none : (n : ℕ) → n ≤ maxNodes → padded maxNodes (replicate n 0) ≡ replicate maxNodes 0
-  padded-none n h =
-      let size : n + (maxNodes - n) ≡ maxNodes = omega arith in
-      ap (λ (k : ℕ). replicate {A = ℕ} n 0 ++ replicate (maxNodes - k) 0) (length-replicate {A = ℕ} n 0) ∙ replicate-append-replicate {A = ℕ} n (maxNodes - n) 0
-      ∙ ap (λ (k : ℕ). replicate {A = ℕ} k 0) size
-
-  lengths-none : (n : ℕ) → map length (replicate {A = Relation} n []) ≡ replicate n 0
-  lengths-none zero = refl
-  lengths-none (suc n) = ap (λ (l : List ℕ). 0 ∷ l) (lengths-none n)
-
   counts-none : (g : Change → Relation) (n : ℕ) → g noChange ≡ [] → map (λ c. length (g c)) (replicate n noChange) ≡ replicate n 0
   counts-none g zero e = refl
   counts-none g (suc n) e = ap₂ {A = ℕ} {B = List ℕ} {C = List ℕ} (λ a b. a ∷ b) (ap length e) (counts-none g n e)
@@ -132,11 +101,11 @@ module _ (nodes : List Node) (fit : AllFit nodes) (small : Small nodes) where
   pub cleared-holds : (a : Areas) → cleared layout a ≡ holding layout nodes (opened nodes) a
   unfolding cleared holding opened
   cleared-holds a =
-      let rows : areaOf layout (evaluate nodes (replicate (length nodes) [])) ≡ replicate areaSize 0 = ap (areaOf layout) (fresh-none nodes fit) ∙ area-none in
+      let rows : areaOf layout (evaluate nodes (replicate (length nodes) [])) ≡ replicate areaSize 0 = ap (areaOf layout) (fresh-none nodes fit) ∙ area-none (length nodes) (small .few) in
       let gained : areaOf layout (map (λ c. c .gained) (replicate (length nodes) noChange)) ≡ replicate areaSize 0 = ap (areaOf layout) (map-none (λ c. c .gained) (length nodes) refl)
-      ∙ area-none in
+      ∙ area-none (length nodes) (small .few) in
       let lost : areaOf layout (map (λ c. c .lost) (replicate (length nodes) noChange)) ≡ replicate areaSize 0 = ap (areaOf layout) (map-none (λ c. c .lost) (length nodes) refl)
-      ∙ area-none in
+      ∙ area-none (length nodes) (small .few) in
       let head : headOf (evaluate nodes (replicate (length nodes) [])) (opened nodes) ≡ replicate headWords 0 = ap (λ (r : List Relation). headOf r (opened nodes)) (fresh-none nodes fit)
       ∙ head-none in
       λ i. record { rows = over (sym rows i) (a .rows); gained = over (sym gained i) (a .gained); lost = over (sym lost i) (a .lost); head = over (sym head i) (a .head) }

@@ -20,7 +20,7 @@ use Rattle.laws.proofs.Sets.{and-both, and-first}
 use Rattle.laws.proofs.Fresh.{same-refl}
 use Rattle.demand3.specs.Runs.{Meets, Runs, endOf, neverEight}
 use Rattle.demand3.specs.Demand3.{Advances, Answers, eventsOf, Demand3, StartsFrom, Throughout}
-use Rattle.demand3.proofs.Holds.{Proper, holding-again, holding-coherent, holding-long, holding-state, holds-state, tables-back}
+use Rattle.demand3.proofs.Holds.{Proper, holding-again, holding-coherent, holding-good, holding-long, holding-state, holds-state, tables-back}
 use Rattle.demand3.proofs.Steps.{Sound, step-sound}
 use Rattle.demand3.proofs.Opening.{cleared-holds, opened-proper}
 use Rattle.demand3.proofs.Coherence.{state-proper}
@@ -63,6 +63,10 @@ module _ (net : Bytes) (accepts : readNetwork net .verdict .number ≡ 0) where
     long : longEnough layout a ≡ true
     long = rw (h .is) (holding-long (nodesIn net) s (h .proper) before)
 
+    -- 1 to 8 let them pass
+    pub held-passes : formVerdict net a ≡ accepted
+    held-passes = form-passes a long (rw (h .is) (holding-good (nodesIn net) s (h .proper) before))
+
     whole : coherent layout (nodesIn net) a ≡ true
     whole = rw (h .is) (holding-coherent (nodesIn net) s (h .proper) before fit)
 
@@ -94,7 +98,7 @@ module _ (net : Bytes) (accepts : readNetwork net .verdict .number ≡ 0) where
       accepted-is t e = ap isAccepted (sym verdict-is) ∙ e
 
       -- the areas have the next state
-      next-held : Held (nodesIn net) (stepOf (nodesIn net) s c .state) before (r .areas)
+      pub next-held : Held (nodesIn net) (stepOf (nodesIn net) s c .state) before (r .areas)
       next-held = go (isAccepted (stepOf (nodesIn net) s c .verdict)) refl
         where
           go : (t : Bool) → isAccepted (stepOf (nodesIn net) s c .verdict) ≡ t → Held (nodesIn net) (stepOf (nodesIn net) s c .state) before (r .areas)
@@ -121,7 +125,7 @@ module _ (net : Bytes) (accepts : readNetwork net .verdict .number ≡ 0) where
           next-held .is ∙ ap (λ (x : State). holding layout (nodesIn net) x before) next in
           rw (h .is, after) (advances-held (nodesIn net) fit s (eventsOf (nodesIn net) c) (h .proper) proper before before)
 
-      answers : Answers (nodesIn net) s c a r
+      pub answers : Answers (nodesIn net) s c a r
       answers =
           record {
             verdict-is = verdict-is;
@@ -200,7 +204,7 @@ module _ (net : Bytes) (accepts : readNetwork net .verdict .number ≡ 0) where
     unfolding stateIn
     stands-state = λ i. record { tables = tables-held i; number = k .holds .number i; stamps = k .holds .stamps i; changes = k .holds .changes i; worked = k .holds .worked i }
 
-    stands-held : Held (nodesIn net) s a a
+    pub stands-held : Held (nodesIn net) s a a
     stands-held =
         record {
           is = own-words (nodesIn net) (read-small net) a stands-coherent (k .long) ∙ ap (λ (x : State). holding layout (nodesIn net) x a) stands-state;
@@ -285,7 +289,8 @@ keeps-some (free n) a = (
   freelyAccepted refl (record { rows-length = refl; rows = refl; gained-length = refl; gained = refl; lost-length = refl; lost = refl; head-length = refl; head = refl }),
 )
 
-meets-some : (net : Bytes) (c : Call) (a : Areas) → (r : Result) × Meets net c a r
+-- some result meets a call's contract
+pub meets-some : (net : Bytes) (c : Call) (a : Areas) → (r : Result) × Meets net c a r
 meets-some net (apply b) a = keeps-some (applyPromise net b a) a
 
 -- every list of calls has results that meet the contracts

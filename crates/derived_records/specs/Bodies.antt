@@ -32,7 +32,7 @@ NodeRecord n = Brought (NodeBrought n)
 -- the model's item
 abbrev pub broughtBy : declaredItem.Item → Bytes → ℕ → Item
 broughtBy (NodeBrought n) bs at = nodeItem (nodeInRecord n bs at)
-broughtBy (WatchBrought n s) bs at = watchItem (record { node = n; sign = s })
+broughtBy (WatchBrought n s p) bs at = watchItem (record { node = n; sign = s; priority = p })
 
 -- the item of a record reading
 abbrev pub itemOf : Record → Bytes → ℕ → Item
@@ -68,7 +68,7 @@ pub record NodeFits (n : Node) (ws : List ℕ) (bs : Bytes) (at : ℕ) : Type 0 
 -- what a record brings fits what was read before it; a refusal has a number
 abbrev pub Fits : Record → List ℕ → List ℕ → Bytes → ℕ → Type 0
 Fits (Brought (NodeBrought n)) ws signs bs at = NodeFits n ws bs at
-Fits (Brought (WatchBrought n s)) ws signs bs at = n < length signs
+Fits (Brought (WatchBrought n s p)) ws signs bs at = n < length signs
 Fits (Refused k) ws signs bs at = 1 ≤ k
 
 -- a record of a known kind is read: its number, and where that is 0 its item

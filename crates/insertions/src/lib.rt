@@ -35,7 +35,7 @@ fn open_gap(words: &mut [u32], from: usize, to: usize)
 }
 
 // Moves the words from one row past index from up to index to one row down.
-fn close_gap(words: &mut [u32], from: usize, to: usize)
+pub fn close_gap(words: &mut [u32], from: usize, to: usize)
     requires { ⌜ (from + stride ≤ to) × (to ≤ length (now words)) ⌝ }
     ensures { λ _. ⌜ now (words .exit)
         ≡ take from (now (words .entry))

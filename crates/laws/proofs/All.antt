@@ -1,10 +1,12 @@
 -- A test of every number below another: what it says of each, and how it is made one by one. Assumes nothing.
 use mathlib.Core.Path.{_≡_, refl, sym, ap, ap₂, _∙_}
 use mathlib.Core.Bool.{Bool, false, not, true, true≢false, _&&_}
+use mathlib.Core.List.{List, [], _∷_}
 use Prim.Native.Nat.{ℕ, zero, suc, _+_, _<_, _≤_, zero-le, suc-le-suc}
 use native.Mathlib.Nat.{not-suc-le-zero, le-of-suc-le-suc, add-zero, zero-add}
 use native.Mathlib.Omega.{arith}
 use lib.Dec.{ltb}
+use lib.ListN.{getD, length}
 use borrow.Author.Tests.{ltb-false, ltb-true, not-false, not-true}
 use Rattle.model.specs.Row.{allOf, countFrom, numbersBelow}
 use Rattle.laws.proofs.Sets.{and-first, and-second, and-both}
@@ -53,6 +55,11 @@ module _ (p : ℕ → Bool) (n : ℕ) where
       go : (t : Bool) → allOf p (numbersBelow n) ≡ t → t ≡ false
       go false f = refl
       go true f = let holds : p (0 + i) ≡ true = all-below p 0 n f i h in absurd (true≢false (sym holds ∙ ap p (zero-add i) ∙ sym e ∙ not-true r t))
+
+-- a test of every element of a list
+pub all-at : {A : Type 0} (p : A → Bool) (l : List A) (d : A) → ((i : ℕ) → i < length l → p (getD l i d) ≡ true) → allOf p l ≡ true
+all-at p [] d h = refl
+all-at p (x ∷ l) d h = and-both (p x) (allOf p l) (h 0 (suc-le-suc zero-le)) (all-at p l d (λ i k. h (suc i) (suc-le-suc k)))
 
 -- two tests that say the same
 pub all-ext : (p q : ℕ → Bool) (from n : ℕ) → ((i : ℕ) → p i ≡ q i) → allOf p (countFrom from n) ≡ allOf q (countFrom from n)

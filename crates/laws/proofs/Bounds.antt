@@ -8,17 +8,20 @@ use native.Mathlib.Omega.{arith}
 use native.Mathlib.Nat.{le-of-suc-le-suc, not-suc-le-zero, max-le}
 use lib.ListN.{getD, length, length-append, length-set, replicate, set}
 use lib.Dec.{eqb, leb, ltb}
-use borrow.Author.Tests.{eq-eqb, eqb-true, leb-false, leb-true, ltb-true, ne-eqb}
+use borrow.Author.Tests.{eq-eqb, eqb-false, eqb-true, leb-false, leb-true, ltb-true, ne-eqb, not-true}
 use Rattle.model.specs.Row.{Relation, allOf, isEmpty, maxRows}
 use Rattle.model.specs.Record.{Bytes, Rule, SmallVerdict, Verdict, accepted, firstBroken, isAccepted, isBroken, kindAt, lengthAt, offsets, offsetsFrom, refused, rule}
-use Rattle.model.specs.Network.{Item, Network, Node, nodeItem, watchItem, kindOf, build, buildOn, highest, levelOf, levels, inputsOf, isTable, isNode, widths, isUnknown, within}
+use Rattle.model.specs.Network.{Item, Network, Node, nodeItem, watchItem, kindOf, build, buildOn, highest, levelOf, levels, inputsOf, isTable, isNode, widths, isUnknown, within, maxPriority}
 use Rattle.model.specs.Network.{hasShape, itemAt, itemFits, watchFits, recordFault, noNetwork, withItem, readNetwork, nodesIn, readRecords, refusedReading}
 use Rattle.model.specs.Batch.{Event, actAll, eventAt, eventFault, eventFits, readBatch, readEvents}
 use Rattle.model.specs.Evaluation.{evaluate, overfull}
 use Rattle.model.specs.Station.{State, Step, applyEvents, lastNumber, limit, refusedStep, step}
-use Rattle.model.specs.Areas.{Areas, coherent, goodForm, layout, longEnough, stateIn}
+use Rattle.model.specs.Areas.{Areas, changesIn, coherent, goodForm, layout, longEnough, stateIn}
+use Rattle.model.specs.Pending.{foldAll, goodPending, highestRank, nextNode, pendingIn}
 use Rattle.model.specs.Calls.{Applied, Free, Keeps, Result, applyPromise, formVerdict, free, freelyAccepted, freelyRefused, isWatched, openVerdict, orElse, promiseOf, readCall}
-use Rattle.model.specs.Calls.{reportCall, reportIn, reportOf, resultOf, settled, unless}
+use Rattle.model.specs.Calls.{reportCall, reportIn, reportOf, resultOf, settled, unless, foldCall, foldIn, refusedTaking, takeCall, takeIn, takeRule, takenFrom}
+use Rattle.laws.proofs.Alerts.{next-inside}
+use Rattle.laws.proofs.Verdicts.{or-holds, unless-holds}
 use Rattle.laws.proofs.Build.{length-evaluate}
 use Rattle.laws.proofs.ByKind.{kind-most}
 use Rattle.laws.proofs.Fits.{fault-fits, fault-shape, item-room, length-widths, most-more, read-small}
@@ -102,10 +105,11 @@ passed-more net at size (nodeItem n) p s f room =
 passed-more net at size (watchItem w) p s f room =
     let inside? : Bool = ltb (w .node) (length (net .signs)) in
     let none? : Bool = eqb (getD (net .signs) (w .node) 0) 0 in
-    let two : (inside? && within 1 3 (w .sign)) ≡ true = and-first (inside? && within 1 3 (w .sign)) none? f in
+    let three : (inside? && within 1 3 (w .sign) && none?) ≡ true = and-first (inside? && within 1 3 (w .sign) && none?) (leb (w .priority) maxPriority) f in
+    let two : (inside? && within 1 3 (w .sign)) ≡ true = and-first (inside? && within 1 3 (w .sign)) none? three in
     let inside : w .node < length (net .signs) = ltb-true (w .node) (length (net .signs)) (and-first inside? (within 1 3 (w .sign)) two) in
     let sign : leb 1 (w .sign) ≡ true = and-first (leb 1 (w .sign)) (leb (w .sign) 3) (and-second inside? (within 1 3 (w .sign)) two) in
-    let none : getD (net .signs) (w .node) 0 ≡ 0 = eqb-true (getD (net .signs) (w .node) 0) 0 (and-second (inside? && within 1 3 (w .sign)) none? f) in
+    let none : getD (net .signs) (w .node) 0 ≡ 0 = eqb-true (getD (net .signs) (w .node) 0) 0 (and-second (inside? && within 1 3 (w .sign)) none? three) in
     let more : watches (set (net .signs) (w .node) (w .sign)) ≡ watches (net .signs) + 1 = watches-more (net .signs) (w .node) (w .sign) inside none (leb-true 1 (w .sign) sign) in
     record {
       few = p .few;
@@ -316,6 +320,54 @@ module _ (net : Bytes) (b : ByteList net) (a : Areas) where
           let long : Bool = leb (length (reportOf (readNetwork net .network) node a)) (length out) in
           small-or (unless watched 15) (unless long 16) (small-unless watched 15 (omega arith)) (small-unless long 16 (omega arith))
       go false = form-small
+
+  pub fold-small : (p : List ℕ) → SmallVerdict (foldCall net a p .verdict)
+  unfolding foldCall foldIn
+  fold-small p = go (isAccepted (formVerdict net a))
+    where
+      go : (t : Bool) → SmallVerdict (cond t (foldIn layout (readNetwork net .network) a p) (record { verdict = formVerdict net a; pending = p }) .verdict)
+      go true =
+          let after : List Relation = foldAll (readNetwork net .network) (changesIn layout (nodesIn net) a) (pendingIn layout (readNetwork net .network) p) in
+          small-unless (goodPending layout (readNetwork net .network) p && allOf (λ rel. leb (length rel) maxRows) after) 17 (omega arith)
+      go false = form-small
+
+  -- a taking's verdict is small, and its node a node
+  take-in-small : (p : List ℕ) → SmallVerdict (takeIn layout (readNetwork net .network) p .verdict) × (takeIn layout (readNetwork net .network) p .node < 32)
+  unfolding takeIn takenFrom
+  take-in-small p = go (isAccepted rule) refl
+    where
+      n : Network
+      n = readNetwork net .network
+
+      rels : List Relation
+      rels = pendingIn layout n p
+
+      some : Bool
+      some = not (eqb (highestRank n rels) 0)
+
+      rule : Verdict
+      rule = takeRule (goodPending layout n p) (highestRank n rels)
+
+      ruled : SmallVerdict rule
+      ruled = small-or (unless (goodPending layout n p) 17) (unless some 18) (small-unless (goodPending layout n p) 17 (omega arith)) (small-unless some 18 (omega arith))
+
+      go : (t : Bool) → isAccepted rule ≡ t → SmallVerdict (cond t (takenFrom layout rels (nextNode n rels) p) (refusedTaking rule p) .verdict)
+          × (cond t (takenFrom layout rels (nextNode n rels) p) (refusedTaking rule p) .node < 32)
+      go true e =
+          let passed : some ≡ true = unless-holds some 18 refl (or-holds (unless (goodPending layout n p) 17) (unless some 18) e .1) in
+          let none : eqb (highestRank n rels) 0 ≡ false = not-true (eqb (highestRank n rels) 0) passed in
+          let not-zero : highestRank n rels ≡ 0 → ⊥ = eqb-false (highestRank n rels) 0 none in
+          (small-accepted, omega (arith, next-inside n rels (omega arith), read-small net .few))
+      go false e = (ruled, omega arith)
+
+  pub take-small : (p : List ℕ) → SmallVerdict (takeCall net a p .verdict) × (takeCall net a p .node < 32)
+  unfolding takeCall
+  take-small p = go (isAccepted (formVerdict net a))
+    where
+      go : (t : Bool) → SmallVerdict (cond t (takeIn layout (readNetwork net .network) p) (refusedTaking (formVerdict net a) p) .verdict)
+          × (cond t (takeIn layout (readNetwork net .network) p) (refusedTaking (formVerdict net a) p) .node < 32)
+      go true = take-in-small p
+      go false = (form-small, omega arith)
 
   -- what is free is small
   free-small : (n : ℕ) (r : Result) → n ≤ 32 → Free n a r → SmallVerdict (r .verdict)

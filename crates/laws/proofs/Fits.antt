@@ -132,6 +132,10 @@ pub record Small (nodes : List Node) : Type 0 where
   pub few : length nodes ≤ maxNodes
   pub narrow : (i : ℕ) → getD (widths nodes) i 0 ≤ maxWidth
 
+-- as many widths as nodes: at most 32
+pub widths-few : (nodes : List Node) → Small nodes → length (widths nodes) ≤ maxNodes
+widths-few nodes small = omega (arith, small .few, length-widths nodes)
+
 -- rules 5 and 6 of a record that breaks none
 rules-hold : (a b c d e : Bool) → firstBroken (rule 3 a ∷ rule 4 b ∷ rule 5 c ∷ rule 6 (not d) ∷ rule 7 e ∷ []) ≡ 0 → (c ≡ false) × (d ≡ true)
 rules-hold true b c d e h = absurd (omega arith)

@@ -16,3 +16,4 @@ pub mod All
 pub mod Relations
 pub mod Fresh
 pub mod Verdicts
+pub mod Alerts

@@ -3,7 +3,7 @@ use mathlib.Core.Bool.{Bool, true, false}
 use mathlib.Core.List.{_++_, List, append-assoc, append-nil, flatMap, _∷_, map, []}
 use mathlib.Core.Path.{ap, ap₂, refl, sym, _∙_, _≡_}
 use Prim.Native.Nat.{_+_, suc, ℕ, _≤_, zero, _<_}
-use native.Mathlib.Nat.{add-zero, zero-add, not-suc-le-zero, le-of-suc-le-suc}
+use native.Mathlib.Nat.{add-zero, zero-add, le-refl, not-suc-le-zero, le-of-suc-le-suc}
 use native.Mathlib.Omega.{arith}
 use lib.ListN.{drop, length, set, getD, replicate}
 use lib.Seq.{sets, sets-eq}
@@ -65,6 +65,20 @@ count-more from (suc n) =
 
 pub numbers-more : (n : ℕ) → numbersBelow (n + 1) ≡ numbersBelow n ++ (n ∷ [])
 numbers-more n = let e : n + 1 ≡ suc n = omega arith in ap numbersBelow e ∙ count-more 0 n ∙ ap (λ (x : ℕ). numbersBelow n ++ (x ∷ [])) (zero-add n)
+
+-- the first a of them, and those behind
+pub count-split : (from a b : ℕ) → countFrom from (a + b) ≡ countFrom from a ++ countFrom (from + a) b
+count-split from zero b = ap₂ {A = ℕ} {B = ℕ} {C = List ℕ} countFrom (sym (add-zero from)) (zero-add b)
+count-split from (suc a) b =
+    let e : suc a + b ≡ suc (a + b) = omega arith in
+    let f : suc from + a ≡ from + suc a = omega arith in
+    ap (countFrom from) e ∙ ap (λ (l : List ℕ). from ∷ l) (count-split (suc from) a b ∙ ap (λ (k : ℕ). countFrom (suc from) a ++ countFrom k b) f)
+
+-- two tests that agree on them keep the same ones
+pub keep-same : (p q : ℕ → Bool) (from n : ℕ) → ((i : ℕ) → from ≤ i → i < from + n → p i ≡ q i) → keep p (countFrom from n) ≡ keep q (countFrom from n)
+keep-same p q from zero h = refl
+keep-same p q from (suc n) h =
+    ap₂ {A = Bool} {B = List ℕ} {C = List ℕ} (λ t l. keepIf t from l) (h from (le-refl from) (omega arith)) (keep-same p q (suc from) n (λ i a b. h i (omega arith) (omega arith)))
 
 -- a function of counted numbers
 

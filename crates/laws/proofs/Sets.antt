@@ -105,6 +105,15 @@ pub above-not-member : (r : Row) (l : List Row) → Above r l → member r l ≡
 above-not-member r [] a = refl
 above-not-member r (x ∷ l) a = rw (a .0, above-not-member r l (a .1))
 
+-- and every row of the list is above it
+pub above-member : (r s : Row) (l : List Row) → Above r l → member s l ≡ true → isLess (order r s) ≡ true
+above-member r s [] a m = absurd (true≢false (sym m))
+above-member r s (x ∷ l) a m = go (sameRow s x) refl m (above-member r s l (a .1))
+  where
+    go : (t : Bool) → sameRow s x ≡ t → (t || member s l) ≡ true → (member s l ≡ true → isLess (order r s) ≡ true) → isLess (order r s) ≡ true
+    go true e h rest = rw (sameRow-eq s x e, a .0)
+    go false e h rest = rest h
+
 -- ---- a strictly ascending list is known by its members
 
 tail-members : (x : Row) (a b : List Row) → Above x a → Above x b → (r : Row) → (sameRow r x || member r a) ≡ (sameRow r x || member r b) → member r a ≡ member r b

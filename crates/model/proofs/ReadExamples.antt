@@ -23,7 +23,7 @@ in-bytes = refl
 
 -- ---- one node of each kind
 
--- two tables, both selects, a project, a join on two pairs, the three set operations, a no match on two pairs; watches on nodes 7 and 0
+-- two tables, both selects, a project, a join on two pairs, the three set operations, a no match on two pairs; watches on nodes 7, 0 and 5, the last two with priorities
 networkK : Bytes
 unfolding recordBytes
 networkK =
@@ -36,9 +36,10 @@ networkK =
     ++ recordBytes 7 (1 ∷ 0 ∷ [])
     ++ recordBytes 8 (5 ∷ 6 ∷ [])
     ++ recordBytes 9 (7 ∷ 2 ∷ [])
-    ++ recordBytes 9 (0 ∷ 1 ∷ [])
+    ++ recordBytes 9 (0 ∷ 1 ∷ 7 ∷ [])
     ++ recordBytes 1 (1 ∷ [])
     ++ recordBytes 10 (0 ∷ 3 ∷ 2 ∷ 0 ∷ 1 ∷ 1 ∷ 2 ∷ [])
+    ++ recordBytes 9 (5 ∷ 3 ∷ 4 ∷ [])
 
 -- each field where its kind's body says
 read-nodes : readNetwork networkK .network ≡ record {
@@ -54,7 +55,8 @@ read-nodes : readNetwork networkK .network ≡ record {
       ∷ table 1
       ∷ noMatch 0 3 (record { left = 0; right = 1 } ∷ record { left = 1; right = 2 } ∷ [])
       ∷ [];
-  signs = 1 ∷ 0 ∷ 0 ∷ 0 ∷ 0 ∷ 0 ∷ 0 ∷ 2 ∷ 0 ∷ 0 ∷ [];
+  signs = 1 ∷ 0 ∷ 0 ∷ 0 ∷ 0 ∷ 3 ∷ 0 ∷ 2 ∷ 0 ∷ 0 ∷ [];
+  priorities = 7 ∷ 0 ∷ 0 ∷ 0 ∷ 0 ∷ 4 ∷ 0 ∷ 0 ∷ 0 ∷ 0 ∷ [];
 }
 unfolding readNetwork networkK
 read-nodes = refl
@@ -142,7 +144,10 @@ judged-6 :
     ∷ verdict 6 6 (one ++ recordBytes 5 (0 ∷ 0 ∷ 1 ∷ 0 ∷ 0 ∷ []))  -- the count of columns is outside
     ∷ verdict 6 6 (one ++ recordBytes 5 (0 ∷ 0 ∷ 0 ∷ 0 ∷ []))  -- a join of no column
     ∷ verdict 6 6 (one ++ recordBytes 6 (0 ∷ []))  -- a union of 6 bytes
-    ∷ verdict 6 6 (one ++ recordBytes 9 (0 ∷ 1 ∷ 0 ∷ []))  -- a watch of 10 bytes
+    ∷ verdict 6 6 (one ++ recordBytes 9 (0 ∷ []))  -- a watch of 6 bytes
+    ∷ verdict 6 6 (one ++ (9 ∷ 0 ∷ 9 ∷ 0 ∷ 0 ∷ 0 ∷ 1 ∷ 0 ∷ 0 ∷ []))  -- a watch of 9 bytes
+    ∷ verdict 6 6 (one ++ recordBytes 9 (0 ∷ 1 ∷ 0 ∷ 0 ∷ []))  -- a watch of 12 bytes
+    ∷ verdict 6 6 (one ++ recordBytes 6 (0 ∷ 0 ∷ 0 ∷ []))  -- a union of 10 bytes
     ∷ verdict 6 6 (one ++ recordBytes 10 (0 ∷ 0 ∷ []))  -- a no match without its count
     ∷ verdict 6 6 (one ++ recordBytes 10 (0 ∷ 0 ∷ 0 ∷ []))  -- no pair
     ∷ verdict 6 6 (one ++ recordBytes 10 (0 ∷ 0 ∷ 3 ∷ 0 ∷ 0 ∷ 0 ∷ 0 ∷ 0 ∷ 0 ∷ []))  -- three pairs
@@ -184,6 +189,10 @@ judged-7 :
     ∷ verdict 7 6 (one ++ recordBytes 9 (0 ∷ 0 ∷ []))  -- sign 0
     ∷ verdict 7 6 (one ++ recordBytes 9 (0 ∷ 4 ∷ []))  -- sign 4
     ∷ verdict 7 14 (one ++ recordBytes 9 (0 ∷ 1 ∷ []) ++ recordBytes 9 (0 ∷ 2 ∷ []))  -- a second watch
+    ∷ verdict 0 0 (one ++ recordBytes 9 (0 ∷ 2 ∷ 9 ∷ []))  -- priority 9
+    ∷ verdict 7 6 (one ++ recordBytes 9 (0 ∷ 2 ∷ 10 ∷ []))  -- priority 10
+    ∷ verdict 7 6 (one ++ recordBytes 9 (0 ∷ 2 ∷ 256 ∷ []))  -- a priority has two bytes
+    ∷ verdict 7 16 (one ++ recordBytes 9 (0 ∷ 1 ∷ 0 ∷ []) ++ recordBytes 9 (0 ∷ 2 ∷ []))  -- a second watch, the first with a priority
     ∷ verdict 7 0 (recordBytes 1 (9 ∷ []) ++ (1 ∷ []))  -- the first record that fails decides
     ∷ [])
     ≡ true

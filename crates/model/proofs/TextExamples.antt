@@ -46,7 +46,7 @@ moved n = record { gained = (n ∷ []) ∷ []; lost = (0 ∷ []) ∷ [] }
 
 -- the lines of watched changes: "nodes ascending, gained first", each node's as its sign allows
 watched-lines :
-    flatMap changeLine (watchedChanges (record { nodes = table 1 ∷ table 1 ∷ table 1 ∷ []; signs = 3 ∷ 0 ∷ 2 ∷ [] }) (moved 1 ∷ moved 2 ∷ moved 3 ∷ []))
+    flatMap changeLine (watchedChanges (record { nodes = table 1 ∷ table 1 ∷ table 1 ∷ []; signs = 3 ∷ 0 ∷ 2 ∷ []; priorities = 4 ∷ 0 ∷ 9 ∷ [] }) (moved 1 ∷ moved 2 ∷ moved 3 ∷ []))
     ≡ (43 ∷ 32 ∷ 48 ∷ 32 ∷ 49 ∷ 10 ∷ []) ++ (45 ∷ 32 ∷ 48 ∷ 32 ∷ 48 ∷ 10 ∷ []) ++ (45 ∷ 32 ∷ 50 ∷ 32 ∷ 48 ∷ 10 ∷ [])
 unfolding watchedChanges changeLine flatMap
 watched-lines = refl

@@ -1,20 +1,23 @@
 -- What each call promises, for every input: its answer, and all lent memory afterwards. Document 01, "Refused, in this
--- checking order".
+-- checking order"; document 02, point 2.
 use mathlib.Core.Path.{_≡_}
 use mathlib.Core.Bool.{Bool, true, false, not, _&&_, _||_, cond}
 use mathlib.Core.List.{List, [], _++_, map, flatMap}
 use Prim.Native.Nat.{ℕ, _+_, _*_, _<_}
 use lib.Dec.{leb, ltb, eqb}
 use lib.ListN.{length, drop}
-use Rattle.model.specs.Row.{Row, maxNodes, maxRows, maxWidth}
+use Rattle.model.specs.Row.{Row, Relation, maxNodes, maxRows, maxWidth, allOf}
 use Rattle.model.specs.Record.{Bytes, bytes16, bytes32, Verdict, accepted, refused, isAccepted}
 use Rattle.model.specs.Network.{Node, Network, Reading, readNetwork, nodesIn, kindOf, widths, levels, signOf}
 use Rattle.model.specs.Network.{within}
 use Rattle.model.specs.Delta.{Change, changeAt}
 use Rattle.model.specs.Watched.{Direction, wasGained, wasLost, WatchedChange, changesOf}
 use Rattle.model.specs.Station.{Step, step}
+use Rattle.model.specs.Evaluation.{rowsAt}
 use Rattle.model.specs.Areas.{Areas, layout, goodForm, coherent, stateIn, changesIn, holding, cleared, padded}
-use Rattle.model.specs.Areas.{longEnough, KeepsRest}
+use Rattle.model.specs.Areas.{Layout, longEnough, over, KeepsRest}
+use Rattle.model.specs.Pending.{goodPending, pendingIn, pendingOf, foldAll, highestRank, nextNode, lowestRow}
+use Rattle.model.specs.Pending.{withoutLowest}
 
 -- ---- refusals that calls share
 
@@ -204,3 +207,69 @@ unfoldable pub reportCall : Bytes → ℕ → Areas → Bytes → ReportAnswer
 unfolding formVerdict reportIn readNetwork
 reportCall net node a out =
     afterForm net a (λ n. reportIn n node a out) (λ v. record { verdict = v; size = 0; out = out })
+
+-- ---- folding: 1 to 8, 17
+
+-- a verdict, and the pending area afterwards
+pub record FoldAnswer : Type 0 where
+  pub verdict : Verdict
+  pub pending : List ℕ
+
+-- 17: the pending area itself, "or, in the folding call only, one that folding would take above 64 rows at a node"
+abbrev pub foldRule : Layout → Bool → List Relation → Verdict
+foldRule L good after = unless (good && allOf (λ rel. leb (length rel) (L .capacity)) after) 17
+
+-- 17, then every node's folded rows, for a network and areas that 1 to 8 let pass; a refusal writes nothing
+unfoldable pub foldIn : Layout → Network → Areas → List ℕ → FoldAnswer
+unfolding goodPending pendingIn pendingOf foldAll changesIn
+foldIn L net a pending =
+    let after : List Relation = foldAll net (changesIn L (net .nodes) a) (pendingIn L net pending) in
+    let v : Verdict = foldRule L (goodPending L net pending) after in
+    record { verdict = v; pending = cond (isAccepted v) (over (pendingOf L after) pending) pending }
+
+-- "one call folds in the gains and losses": 1 to 8, then 17
+unfoldable pub foldCall : Bytes → Areas → List ℕ → FoldAnswer
+unfolding formVerdict foldIn readNetwork
+foldCall net a pending =
+    afterForm net a (λ n. foldIn layout n a pending) (λ v. record { verdict = v; pending = pending })
+
+-- ---- taking: 1 to 8, 17, 18
+
+-- a verdict, "node and row" (0 and none beside a refusal), and the pending area afterwards
+pub record TakeAnswer : Type 0 where
+  pub verdict : Verdict
+  pub node : ℕ
+  pub row : Row
+  pub pending : List ℕ
+
+-- a refused taking, which writes nothing
+abbrev pub refusedTaking : Verdict → List ℕ → TakeAnswer
+refusedTaking v pending = record { verdict = v; node = 0; row = []; pending = pending }
+
+-- a node's lowest row, and the area without it
+unfoldable pub takenFrom : Layout → List Relation → ℕ → List ℕ → TakeAnswer
+unfolding pendingOf
+takenFrom L rels node pending =
+    record {
+      verdict = accepted;
+      node = node;
+      row = lowestRow (rowsAt rels node);
+      pending = over (pendingOf L (withoutLowest rels node)) pending;
+    }
+
+-- 17, by whether the area is of good form; 18 "is a taking with nothing pending", whose highest rank is 0
+abbrev pub takeRule : Bool → ℕ → Verdict
+takeRule good rank = orElse (unless good 17) (unless (not (eqb rank 0)) 18)
+
+-- 17, then 18, then the next row, for a network and areas that 1 to 8 let pass
+unfoldable pub takeIn : Layout → Network → List ℕ → TakeAnswer
+unfolding goodPending highestRank takenFrom nextNode pendingIn
+takeIn L net pending =
+    let rels : List Relation = pendingIn L net pending in
+    let v : Verdict = takeRule (goodPending L net pending) (highestRank net rels) in
+    cond (isAccepted v) (takenFrom L rels (nextNode net rels) pending) (refusedTaking v pending)
+
+-- "removes its lowest row and returns node and row": 1 to 8, then 17 and 18
+unfoldable pub takeCall : Bytes → Areas → List ℕ → TakeAnswer
+unfolding formVerdict takeIn readNetwork
+takeCall net a pending = afterForm net a (λ n. takeIn layout n pending) (λ v. refusedTaking v pending)

@@ -8,6 +8,7 @@ pub mod Delta
 pub mod Station
 pub mod Areas
 pub mod Watched
+pub mod Pending
 pub mod Calls
 pub mod Text
 pub mod Examples

@@ -1,6 +1,6 @@
--- Networks: document 01, "Rows, nodes, levels", "Records", and refusals 2 to 7; document 02, point 1.
-use mathlib.Core.Bool.{Bool, true, false, not, _&&_, cond}
-use mathlib.Core.List.{List, [], _∷_, _++_}
+-- Networks: document 01, "Rows, nodes, levels", "Records", and refusals 2 to 7; document 02, points 1 and 2.
+use mathlib.Core.Bool.{Bool, true, false, not, _&&_, _||_, cond}
+use mathlib.Core.List.{List, [], _∷_, _++_, map}
 use mathlib.Core.Path.{_≡_}
 use Prim.Native.Nat.{ℕ, zero, suc, _+_, _*_, max, _<_}
 use lib.Dec.{leb, ltb, eqb}
@@ -29,19 +29,21 @@ pub data Node : Type 0 where
   setOperation : SetOperation → ℕ → ℕ → Node  -- left, right
   noMatch : ℕ → ℕ → List Pair → Node  -- left, right, pairs
 
--- "Kind 9 is a watch: node, sign (1 gained, 2 lost, 3 both)"
+-- "Kind 9 is a watch: node, sign (1 gained, 2 lost, 3 both)", and by document 02 "a priority 0 to 9"
 pub record Watch : Type 0 where
   pub node : ℕ
   pub sign : ℕ
+  pub priority : ℕ
 
--- nodes "numbered from 0 in order of their records", and for each node its watch's sign, 0 if it has no watch
+-- nodes "numbered from 0 in order of their records", and for each node its watch's sign and priority, 0 if it has none
 pub record Network : Type 0 where
   pub nodes : List Node
   pub signs : List ℕ
+  pub priorities : List ℕ
 
 -- what stands beside a refusal
 abbrev pub noNetwork : Network
-noNetwork = record { nodes = []; signs = [] }
+noNetwork = record { nodes = []; signs = []; priorities = [] }
 
 -- ---- what goes by a node's kind
 
@@ -183,10 +185,14 @@ unfoldable pub widths : List Node → List ℕ
 unfolding build
 widths nodes = build widthOf nodes
 
+-- the highest of some numbers, 0 of none
+abbrev pub highestOf : List ℕ → ℕ
+highestOf [] = 0
+highestOf (x ∷ l) = max x (highestOf l)
+
 -- the highest of the levels of some nodes
 abbrev pub highest : List ℕ → List ℕ → ℕ
-highest levels [] = 0
-highest levels (i ∷ inputs) = max (getD levels i 0) (highest levels inputs)
+highest levels inputs = highestOf (map (λ i. getD levels i 0) inputs)
 
 -- "Tables have level 0; any other node has 1 more than the highest level among its inputs"
 abbrev pub levelOf : Node → List ℕ → ℕ
@@ -204,6 +210,10 @@ nodeAt nodes i = getD nodes i (table 0)
 -- the sign of a node's watch, 0 if it has none
 abbrev pub signOf : Network → ℕ → ℕ
 signOf net i = getD (net .signs) i 0
+
+-- the priority of a node's watch, 0 if it has none
+abbrev pub priorityOf : Network → ℕ → ℕ
+priorityOf net i = getD (net .priorities) i 0
 
 -- ---- records of a network
 
@@ -263,9 +273,18 @@ joinAt bs at =
 abbrev pub setAt : SetOperation → Bytes → ℕ → Item
 setAt o bs at = nodeItem (setOperation o (fieldAt bs at 0) (fieldAt bs at 1))
 
--- kind 9: "node, sign"
+-- kind 9: "8 bytes"; document 02: "A watch may be 10 bytes long"
+abbrev pub watchShape : Bytes → ℕ → Bool
+watchShape bs at = hasLength 8 bs at || hasLength 10 bs at
+
+-- "with a priority 0 to 9 at its end; without it the priority is 0"
+abbrev pub priorityAt : Bytes → ℕ → ℕ
+priorityAt bs at = cond (hasLength 10 bs at) (fieldAt bs at 2) 0
+
+-- kind 9: "node, sign", and the priority
 abbrev pub watchAt : Bytes → ℕ → Item
-watchAt bs at = watchItem (record { node = fieldAt bs at 0; sign = fieldAt bs at 1 })
+watchAt bs at =
+    watchItem (record { node = fieldAt bs at 0; sign = fieldAt bs at 1; priority = priorityAt bs at })
 
 -- kind 10: "left, right, p 1 or 2, p pairs"
 abbrev pub noMatchAt : Bytes → ℕ → Item
@@ -287,7 +306,7 @@ kinds =
     ∷ record { shape = hasLength 8; item = setAt union }  -- 6
     ∷ record { shape = hasLength 8; item = setAt difference }  -- 7
     ∷ record { shape = hasLength 8; item = setAt intersection }  -- 8
-    ∷ record { shape = hasLength 8; item = watchAt }  -- 9
+    ∷ record { shape = watchShape; item = watchAt }  -- 9: 8 or 10 bytes
     ∷ record { shape = countedShape 2 maxPairs 2; item = noMatchAt }  -- 10: 10 + 4p bytes
     ∷ []
 
@@ -324,9 +343,15 @@ nodeFits ws n = allOf (λ i. ltb i (length ws)) (inputsOf n) && fitsOn (getD ws 
 abbrev pub AllFit : List Node → Type 0
 AllFit nodes = (i : ℕ) → i < length nodes → nodeFits (take i (widths nodes)) (nodeAt nodes i) ≡ true
 
--- "names an earlier node, and a node has at most one"; signs are those of the nodes before it
+-- "a priority 0 to 9"
+abbrev pub maxPriority : ℕ
+maxPriority = 9
+
+-- "names an earlier node, and a node has at most one", signs being those of the nodes before it; "A priority above 9
+-- falls under 7"
 unfoldable pub watchFits : List ℕ → Watch → Bool
 watchFits signs w = ltb (w .node) (length signs) && within 1 3 (w .sign) && eqb (getD signs (w .node) 0) 0
+    && leb (w .priority) maxPriority
 
 -- a record's fields are right, given the widths and the signs of the nodes before it
 unfoldable pub itemFits : List ℕ → List ℕ → Item → Bool
@@ -338,8 +363,18 @@ itemFits ws signs (watchItem w) = watchFits signs w
 
 -- the network with one record more
 abbrev pub withItem : Network → Item → Network
-withItem net (nodeItem n) = record { nodes = net .nodes ++ (n ∷ []); signs = net .signs ++ (0 ∷ []) }
-withItem net (watchItem w) = record { nodes = net .nodes; signs = set (net .signs) (w .node) (w .sign) }
+withItem net (nodeItem n) =
+    record {
+      nodes = net .nodes ++ (n ∷ []);
+      signs = net .signs ++ (0 ∷ []);
+      priorities = net .priorities ++ (0 ∷ []);
+    }
+withItem net (watchItem w) =
+    record {
+      nodes = net .nodes;
+      signs = set (net .signs) (w .node) (w .sign);
+      priorities = set (net .priorities) (w .node) (w .priority);
+    }
 
 -- the lowest number that the record at an offset breaks, 0 if none, given the widths and the signs of the nodes before
 -- it

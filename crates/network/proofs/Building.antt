@@ -7,18 +7,18 @@ use native.Mathlib.Nat.{le-refl}
 use native.Mathlib.Numerals.{add-one}
 use native.Mathlib.Omega.{arith}
 use lib.ListN.{length, getD, set, take, replicate, length-set}
-use lib.Seq.{take-suc, take-suc-set, take-set-lt, getD-take, getD-set-other, getD-set-same, length-take-le}
+use lib.Seq.{take-suc, take-suc-set, take-set-lt, getD-set-other, getD-set-same, length-take-le}
 use lib.Dec.{ltb}
 use borrow.Author.Tests.{ltb-false, ltb-true, not-true, not-false}
 use Rattle.model.specs.Record.{Bytes, fieldsAt}
-use Rattle.model.specs.Network.{nodeItem, watchItem, widthOf, widthOn, levelOf, levels, widths, highest, inputsOf, isTable, leftOf, rightOf, nodeFits, fitsOn, pairsAt}
+use Rattle.model.specs.Network.{nodeItem, watchItem, widthOf, widthOn, levelOf, levels, widths, highest, inputsOf, isTable, leftOf, rightOf, nodeFits, fitsOn, pairsAt, signOf, priorityOf}
 use Rattle.laws.proofs.Build.{build-more}
 use Rattle.laws.proofs.Fits.{widths-more}
 use Rattle.laws.proofs.Inputs.{inputs-below, inputs-fit, inputs-high, inputs-highest}
 use Rattle.nodes.specs.Nodes.{listsOf, withLists, PartsAre}
 use Rattle.derived_records.specs.Bodies.{nodeInRecord, NodeFits}
 use Rattle.nodes.specs.declared.Parts.{Parts}
-use Rattle.network.specs.Reading.{slotNode, nodesOf, Sound, Built, Extends, NextSlot, InputsBelow, WidthIs, LevelIs, Ends, Shaped, noSlot}
+use Rattle.network.specs.Reading.{slotNode, nodesOf, networkOf, Sound, Built, Extends, NextSlot, InputsBelow, WidthIs, LevelIs, Ends, Shaped, noSlot}
 use Rattle.nodes.specs.declared.Node.{Node}
 use Rattle.network.specs.declared.Slot.{Slot}
 use Rattle.network.specs.declared.Network.{Network}
@@ -65,6 +65,7 @@ module _ (net : Network) (slot : Slot) (width level : ℕ) (next : NextSlot net 
     widths = set (net .widths) (net .count) width;
     levels = set (net .levels) (net .count) level;
     signs = net .signs;
+    priorities = net .priorities;
   }
 
   b : Built net
@@ -76,11 +77,12 @@ module _ (net : Network) (slot : Slot) (width level : ℕ) (next : NextSlot net 
       rw add-one (take-suc-set (net .slots) (net .count) slot (omega (arith, next .room, next .built .slots-length))) in
       ap (map slotNode) e ∙ map-append (take (net .count) (net .slots)) (slot ∷ [])
 
-  signs-grown : take (net .count + 1) (net .signs) ≡ take (net .count) (net .signs) ++ (0 ∷ [])
-  signs-grown =
-      ap (λ (n : ℕ). take n (net .signs)) (add-one (net .count))
-      ∙ take-suc (net .signs) (net .count) 0 (omega (arith, next .room, next .built .signs-length))
-      ∙ ap (λ (x : ℕ). take (net .count) (net .signs) ++ (x ∷ [])) (next .built .unwatched (net .count) (le-refl (net .count)))
+  -- an array beside the nodes that has zeros behind them has one zero more
+  ends-grown : (l : List ℕ) → length l ≡ maxNodes → Ends (net .count) l → take (net .count + 1) l ≡ take (net .count) l ++ (0 ∷ [])
+  ends-grown l size ends =
+      ap (λ (n : ℕ). take n l) (add-one (net .count))
+      ∙ take-suc l (net .count) 0 (omega (arith, next .room))
+      ∙ ap (λ (x : ℕ). take (net .count) l ++ (x ∷ [])) (ends (net .count) (le-refl (net .count)))
 
   sound-grown : Sound grown
   sound-grown =
@@ -114,22 +116,34 @@ module _ (net : Network) (slot : Slot) (width level : ℕ) (next : NextSlot net 
           widths-length = length-set (net .widths) (net .count) width ∙ next .built .widths-length;
           levels-length = length-set (net .levels) (net .count) level ∙ next .built .levels-length;
           signs-length = next .built .signs-length;
+          priorities-length = next .built .priorities-length;
           sound = sound-grown;
           shaped = shaped-grown;
           narrow = set-below (λ i. maxWidth) (net .widths) (net .count) width (next .built .narrow) (next .narrow);
           low = set-below (λ i. i) (net .levels) (net .count) level (next .built .low) (next .low);
           unwatched = λ i h. next .built .unwatched i (omega arith);
+          unranked = λ i h. next .built .unranked i (omega arith);
           widths-end = set-ends (net .widths) (net .count) width (next .built .widths-end);
           levels-end = set-ends (net .levels) (net .count) level (next .built .levels-end);
         };
-        is = λ i. record { nodes = nodes-grown i; signs = signs-grown i };
+        is = λ i. record {
+          nodes = nodes-grown i;
+          signs = ends-grown (net .signs) (next .built .signs-length) (next .built .unwatched) i;
+          priorities = ends-grown (net .priorities) (next .built .priorities-length) (next .built .unranked) i;
+        };
       }
 
 -- ---- one watch more
 
-module _ (net : Network) (node sign : ℕ) (b : Built net) (within : node < net .count) where
-  pub extends-watch : Extends net (watchItem (record { node = node; sign = sign }))
-      (record { count = net .count; slots = net .slots; widths = net .widths; levels = net .levels; signs = set (net .signs) node sign })
+module _ (net : Network) (node sign priority : ℕ) (b : Built net) (within : node < net .count) where
+  pub extends-watch : Extends net (watchItem (record { node = node; sign = sign; priority = priority })) (record {
+    count = net .count;
+    slots = net .slots;
+    widths = net .widths;
+    levels = net .levels;
+    signs = set (net .signs) node sign;
+    priorities = set (net .priorities) node priority;
+  })
   extends-watch =
       record {
         built = record {
@@ -137,15 +151,21 @@ module _ (net : Network) (node sign : ℕ) (b : Built net) (within : node < net 
           widths-length = b .widths-length;
           levels-length = b .levels-length;
           signs-length = length-set (net .signs) node sign ∙ b .signs-length;
+          priorities-length = length-set (net .priorities) node priority ∙ b .priorities-length;
           sound = record { few = b .sound .few; widths = b .sound .widths; levels = b .sound .levels };
           shaped = b .shaped;
           narrow = b .narrow;
           low = b .low;
           unwatched = λ i h. getD-set-other (net .signs) node i sign 0 (omega arith) ∙ b .unwatched i h;
+          unranked = λ i h. getD-set-other (net .priorities) node i priority 0 (omega arith) ∙ b .unranked i h;
           widths-end = b .widths-end;
           levels-end = b .levels-end;
         };
-        is = λ i. record { nodes = nodesOf net; signs = take-set-lt (net .count) (net .signs) node sign within i };
+        is = λ i. record {
+          nodes = nodesOf net;
+          signs = take-set-lt (net .count) (net .signs) node sign within i;
+          priorities = take-set-lt (net .count) (net .priorities) node priority within i;
+        };
       }
 
 -- ---- widths and levels from the arrays
@@ -156,6 +176,13 @@ take-ends l zero i h = sym (h i zero-le)
 take-ends [] (suc count) i h = refl
 take-ends (x ∷ l) (suc count) zero h = refl
 take-ends (x ∷ l) (suc count) (suc i) h = take-ends l count i (λ j g. h (suc j) (omega arith))
+
+-- a node's sign and priority, from the arrays
+pub sign-at : (net : Network) → Built net → (i : ℕ) → getD (net .signs) i 0 ≡ signOf (networkOf net) i
+sign-at net b i = sym (take-ends (net .signs) (net .count) i (b .unwatched))
+
+pub priority-at : (net : Network) → Built net → (i : ℕ) → getD (net .priorities) i 0 ≡ priorityOf (networkOf net) i
+priority-at net b i = sym (take-ends (net .priorities) (net .count) i (b .unranked))
 
 highest-same : (a b inputs : List ℕ) → ((i : ℕ) → getD a i 0 ≡ getD b i 0) → highest a inputs ≡ highest b inputs
 highest-same a b [] h = refl

@@ -101,7 +101,7 @@ pub follows : (i : declaredItem.Item) (net : Network) (bs : Bytes) (at : ℕ) �
 follows (NodeBrought n) net bs at b f r =
     let e : length (take (net .count) (net .widths)) ≡ net .count = length-take-le (net .count) (net .widths) (omega (arith, b .sound .few, b .widths-length)) in
     (rw e at r, f)
-follows (WatchBrought n s) net bs at b f r =
+follows (WatchBrought n s p) net bs at b f r =
     let e : length (take (net .count) (net .signs)) ≡ net .count = length-take-le (net .count) (net .signs) (omega (arith, b .sound .few, b .signs-length)) in
     rw e at f
 

@@ -38,7 +38,12 @@ nodesOf net = map slotNode (take (net .count) (net .slots))
 
 -- the model's network
 abbrev pub networkOf : Network → model.Network
-networkOf net = record { nodes = nodesOf net; signs = take (net .count) (net .signs) }
+networkOf net =
+    record {
+      nodes = nodesOf net;
+      signs = take (net .count) (net .signs);
+      priorities = take (net .count) (net .priorities);
+    }
 
 -- a verdict, with the areas that a call leaves
 abbrev pub resultWith : Verdict → Areas → Result
@@ -74,18 +79,20 @@ pub record Built (net : Network) : Type 0 where
   pub widths-length : length (net .widths) ≡ maxNodes
   pub levels-length : length (net .levels) ≡ maxNodes
   pub signs-length : length (net .signs) ≡ maxNodes
+  pub priorities-length : length (net .priorities) ≡ maxNodes
   pub sound : Sound net
   pub shaped : (i : ℕ) → i < net .count → Shaped (getD (net .slots) i noSlot)
   pub narrow : Narrow (net .widths)
   pub low : (i : ℕ) → getD (net .levels) i 0 ≤ i
   pub unwatched : Ends (net .count) (net .signs)
+  pub unranked : Ends (net .count) (net .priorities)
   pub widths-end : Ends (net .count) (net .widths)
   pub levels-end : Ends (net .count) (net .levels)
 
 -- an item that can come next
 abbrev pub Follows : declaredItem.Item → Network → Bytes → ℕ → Type 0
 Follows (NodeBrought n) net bs at = (net .count < maxNodes) × NodeFits n (take (net .count) (net .widths)) bs at
-Follows (WatchBrought n s) net bs at = n < net .count
+Follows (WatchBrought n s p) net bs at = n < net .count
 
 -- a network with one item more
 pub record Extends (net : Network) (item : Item) (r : Network) : Type 0 where

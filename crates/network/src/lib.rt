@@ -25,13 +25,15 @@ pub struct Slot {
     pub pairs: [u16; 2 * MAX_PAIRS],
 }
 
-// The nodes in order of their records, with each node's width, level and watch's sign (0: no watch).
+// The nodes in order of their records, with each node's width and level, and its watch's sign (0: no watch) and
+// priority.
 pub struct Network {
     pub count: usize,
     pub slots: [Slot; MAX_NODES],
     pub widths: [usize; MAX_NODES],
     pub levels: [usize; MAX_NODES],
     pub signs: [u8; MAX_NODES],
+    pub priorities: [u8; MAX_NODES],
 }
 
 // The verdict, and the network where it is accepted.
@@ -100,7 +102,7 @@ fn width_of(node: Node, widths: &[usize]) -> usize
 }
 
 // The greater of two numbers.
-fn greater(a: usize, b: usize) -> usize
+pub fn greater(a: usize, b: usize) -> usize
     ensures { λ r. ⌜ r ≡ max a b ⌝ }
 {
     if a < b { b } else { a }
@@ -137,6 +139,7 @@ fn no_network() -> Network
         widths: [0usize; MAX_NODES],
         levels: [0usize; MAX_NODES],
         signs: [0u8; MAX_NODES],
+        priorities: [0u8; MAX_NODES],
     }
 }
 
@@ -178,8 +181,13 @@ pub fn read_network(bytes: &[u8]) -> Reading
                 net.levels[count] = level;
                 net.count = count + 1;
             }
-            Item::Watch { node, sign } => {
+            Item::Watch {
+                node,
+                sign,
+                priority,
+            } => {
                 net.signs[node] = sign;
+                net.priorities[node] = priority;
             }
         }
     }

@@ -1,13 +1,14 @@
 -- Rules 6 and 7 on the records of tables and watches, by the tests that the readings make. Assumes nothing.
-use mathlib.Core.Path.{_≡_}
-use mathlib.Core.Bool.{true}
+use mathlib.Core.Path.{_≡_, refl}
+use mathlib.Core.Bool.{Bool, true, false}
 use mathlib.Core.List.{List}
 use Prim.Native.Nat.{ℕ, _≤_, _<_}
-use lib.Dec.{leb}
+use native.Mathlib.Omega.{arith}
+use lib.Dec.{leb, eqb}
 use lib.ListN.{length, getD, take}
-use borrow.Author.Tests.{lt-ltb, le-ltb, le-leb, lt-leb, eq-eqb, ne-eqb}
+use borrow.Author.Tests.{lt-ltb, le-ltb, le-leb, lt-leb, eq-eqb, ne-eqb, eqb-true}
 use Rattle.model.specs.Record.{Bytes, lengthAt, fieldAt}
-use Rattle.model.specs.Network.{hasShape, itemAt, itemFits, nodeFits, watchFits, fitsOn, watchItem}
+use Rattle.model.specs.Network.{hasShape, itemAt, itemFits, nodeFits, watchFits, fitsOn, watchItem, watchShape, priorityAt, maxPriority}
 use Rattle.model.specs.Row.{maxWidth}
 use Rattle.derived_records.specs.Bodies.{NodeRecord, bodyFault, ReadsBody}
 use Rattle.nodes.specs.declared.Node.the-variants.{Table}
@@ -17,9 +18,9 @@ use Rattle.node_records.specs.NodeRecords.{WatchRecord}
 
 -- a watch's outcome
 module _ (ws signs : List ℕ) (bs : Bytes) (at : ℕ) (kind : ℕ) (shape : hasShape kind bs at ≡ true) (fits : itemFits ws signs (itemAt kind bs at) ≡ true) where
-  reads-watch : (n s : ℕ) → watchItem (record { node = n; sign = s }) ≡ itemAt kind bs at → n < length signs → ReadsBody ws signs kind bs at (WatchRecord n s)
+  reads-watch : (n s p : ℕ) → watchItem (record { node = n; sign = s; priority = p }) ≡ itemAt kind bs at → n < length signs → ReadsBody ws signs kind bs at (WatchRecord n s p)
   unfolding bodyFault
-  reads-watch n s is below = record { number = rw (shape, fits); item = λ z. is; fits = below }
+  reads-watch n s p is below = record { number = rw (shape, fits); item = λ z. is; fits = below }
 
 -- ---- kind 1
 
@@ -47,15 +48,23 @@ module _ (ws signs : List ℕ) (bs : Bytes) (at size : ℕ) (sized : size ≡ le
 
 -- ---- kind 9
 
-module _ (xs : List ℕ) (count : ℕ) (long : count ≤ length xs) (ws : List ℕ) (bs : Bytes) (at : ℕ) (size : ℕ) (sized : size ≡ lengthAt bs at) where
-  pub watch-size : (size ≡ 8 → ⊥) → ReadsBody ws (take count xs) 9 bs at (Refused 6)
-  unfolding hasShape
-  watch-size h = reads-6 ws (take count xs) bs at 9 (rw (← sized) (ne-eqb size 8 h))
+-- a watch's record has at least 8 bytes
+pub watch-least : (bs : Bytes) (at : ℕ) → watchShape bs at ≡ true → 8 ≤ lengthAt bs at
+watch-least bs at e = go (eqb (lengthAt bs at) 8) refl
+  where
+    go : (t : Bool) → eqb (lengthAt bs at) 8 ≡ t → 8 ≤ lengthAt bs at
+    go true f = omega (arith, eqb-true (lengthAt bs at) 8 f)
+    go false f = omega (arith, eqb-true (lengthAt bs at) 10 (rw f at e))
 
-  module _ (eight : size ≡ 8) (n : ℕ) (is : n ≡ fieldAt bs at 0) where
+module _ (xs : List ℕ) (count : ℕ) (long : count ≤ length xs) (ws : List ℕ) (bs : Bytes) (at : ℕ) where
+  pub watch-size : watchShape bs at ≡ false → ReadsBody ws (take count xs) 9 bs at (Refused 6)
+  unfolding hasShape
+  watch-size e = reads-6 ws (take count xs) bs at 9 e
+
+  module _ (shape : watchShape bs at ≡ true) (n : ℕ) (is : n ≡ fieldAt bs at 0) where
     watch-shaped : hasShape 9 bs at ≡ true
     unfolding hasShape
-    watch-shaped = rw (← sized) (eq-eqb size 8 eight)
+    watch-shaped = shape
 
     pub watch-no-node : count ≤ n → ReadsBody ws (take count xs) 9 bs at (Refused 7)
     unfolding itemFits itemAt watchFits
@@ -75,12 +84,19 @@ module _ (xs : List ℕ) (count : ℕ) (long : count ≤ length xs) (ws : List �
         unfolding itemFits itemAt watchFits
         watch-second h =
             reads-7 ws (take count xs) bs at 9 watch-shaped
-            (rw (← is, ← of, counted xs count long bs at, lt-ltb n count within, le-leb 1 s low, le-leb s 3 high, first-at xs count n within) (ne-eqb (getD xs n 0) 0 h))
+            (rw (← is, ← of, counted xs count long bs at, lt-ltb n count within, le-leb 1 s low, le-leb s 3 high, first-at xs count n within, ne-eqb (getD xs n 0) 0 h))
 
-        pub watch-ok : getD xs n 0 ≡ 0 → ReadsBody ws (take count xs) 9 bs at (WatchRecord n s)
-        unfolding itemFits itemAt watchFits
-        watch-ok h =
-            reads-watch ws (take count xs) bs at 9 watch-shaped
-            (rw (← is, ← of, counted xs count long bs at, lt-ltb n count within, le-leb 1 s low, le-leb s 3 high, first-at xs count n within) (eq-eqb (getD xs n 0) 0 h)) n s
-            (rw (is, of))
-            (rw (counted xs count long bs at) within)
+        module _ (first : getD xs n 0 ≡ 0) (p : ℕ) (ranks : p ≡ priorityAt bs at) where
+          watch-fits : (t : Bool) → leb p maxPriority ≡ t → itemFits ws (take count xs) (itemAt 9 bs at) ≡ t
+          unfolding itemFits itemAt watchFits
+          watch-fits t e = rw (← is, ← of, counted xs count long bs at, lt-ltb n count within, le-leb 1 s low, le-leb s 3 high, first-at xs count n within, eq-eqb (getD xs n 0) 0 first, ← ranks) e
+
+          pub watch-above : maxPriority < p → ReadsBody ws (take count xs) 9 bs at (Refused 7)
+          watch-above h = reads-7 ws (take count xs) bs at 9 watch-shaped (watch-fits false (lt-leb p maxPriority h))
+
+          pub watch-ok : p ≤ maxPriority → ReadsBody ws (take count xs) 9 bs at (WatchRecord n s p)
+          unfolding itemAt
+          watch-ok h =
+              reads-watch ws (take count xs) bs at 9 watch-shaped (watch-fits true (le-leb p maxPriority h)) n s p
+              (rw (is, of, ranks))
+              (rw (counted xs count long bs at) within)

@@ -9,7 +9,7 @@ use lib.ListN.{length}
 use borrow.Author.Tests.{le-leb, lt-leb, ne-eqb}
 use Rattle.model.specs.Row.{allOf, countFrom, maxNodes}
 use Rattle.model.specs.Record.{Bytes, kindAt, fieldAt, isBroken}
-use Rattle.model.specs.Network.{kinds, isUnknown, isNode, recordFault, itemAt, nodeItem, watchItem}
+use Rattle.model.specs.Network.{kinds, isUnknown, isNode, recordFault, itemAt, nodeItem, watchItem, priorityAt}
 use Rattle.laws.proofs.All.{all-below}
 use Rattle.nodes.specs.Nodes.{numberOf}
 use Rattle.derived_records.specs.Bodies.{nodeInRecord, itemOf, bodyFault, ReadsBody}
@@ -53,17 +53,17 @@ module _ (bs : Bytes) (at : ℕ) where
 
 room-of : (ws : List ℕ) (r : Record) → length ws < maxNodes → Room r ws
 room-of ws (Brought (NodeBrought n)) h = h
-room-of ws (Brought (WatchBrought n s)) h = tt
+room-of ws (Brought (WatchBrought n s p)) h = tt
 room-of ws (Refused k) h = tt
 
 -- a watch is no node
 room-watch : (ws : List ℕ) (bs : Bytes) (at : ℕ) (r : Record) → (numberOf r ≡ 0 → itemOf r bs at ≡ itemAt 9 bs at) → Room r ws
 unfolding itemAt
 room-watch ws bs at (Brought (NodeBrought n)) h =
-    let e : nodeItem (nodeInRecord n bs at) ≡ watchItem (record { node = fieldAt bs at 0; sign = fieldAt bs at 1 }) = h refl in
+    let e : nodeItem (nodeInRecord n bs at) ≡ watchItem (record { node = fieldAt bs at 0; sign = fieldAt bs at 1; priority = priorityAt bs at }) = h refl in
     let z : _≡_ {A = ℕ} 0 1 = cc in
     absurd (omega arith)
-room-watch ws bs at (Brought (WatchBrought n s)) h = tt
+room-watch ws bs at (Brought (WatchBrought n s p)) h = tt
 room-watch ws bs at (Refused k) h = tt
 
 module _ (ws signs : List ℕ) (bs : Bytes) (at : ℕ) where

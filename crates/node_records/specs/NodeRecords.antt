@@ -13,13 +13,13 @@ use Rattle.nodes.specs.declared.Record.the-variants.{Item as Brought, Refused}
 use Rattle.derived_records.specs.Bodies.{itemOf, Fits}
 
 -- a record that brings a watch
-abbrev pub WatchRecord : ℕ → ℕ → Record
-WatchRecord n s = Brought (WatchBrought n s)
+abbrev pub WatchRecord : ℕ → ℕ → ℕ → Record
+WatchRecord n s p = Brought (WatchBrought n s p)
 
 -- a node comes after fewer than 32 others
 abbrev pub Room : Record → List ℕ → Type 0
 Room (Brought (NodeBrought n)) ws = length ws < maxNodes
-Room (Brought (WatchBrought n s)) ws = Unit {0}
+Room (Brought (WatchBrought n s p)) ws = Unit {0}
 Room (Refused k) ws = Unit {0}
 
 -- any record is read

@@ -5,6 +5,7 @@ ghost use mathlib.Core.List.{List};
 ghost use Prim.Native.Nat.{ℕ, _≤_};
 ghost use lib.ListN.{length, take};
 ghost use Rattle.model.specs.Record.{isBroken};
+ghost use Rattle.model.specs.Network.{watchShape, priorityAt};
 ghost use Rattle.model.specs.Row.{Narrow};
 ghost use Rattle.derived_records.specs.Bodies.{ReadsBody};
 ghost use Rattle.node_records.specs.NodeRecords.{ReadsRecord};
@@ -14,6 +15,9 @@ use nodes::Node;
 use nodes::Record;
 use rows::MAX_NODES;
 use rows::MAX_WIDTH;
+
+// The highest priority number of a watch.
+const MAX_PRIORITY: usize = 9;
 
 // Kind 1.
 fn read_table(bytes: &[u8], at: usize) -> Record
@@ -33,12 +37,35 @@ fn read_table(bytes: &[u8], at: usize) -> Record
     Record::Item(Item::Node(Node::Table { width }))
 }
 
+// Whether a watch's record has its length, with a priority or without.
+fn watch_shape(bytes: &[u8], at: usize) -> bool
+    requires { ⌜ isBroken (now bytes) at ≡ false ⌝ }
+    ensures { λ r. ⌜ r ≡ watchShape (now (bytes .entry)) at ⌝ }
+{
+    let size = records::u16_at(bytes, at);
+    if size == 8 {
+        return true;
+    }
+    size == 10
+}
+
+// The priority at the end of a watch's record, 0 if it has none.
+fn priority_at(bytes: &[u8], at: usize) -> usize
+    requires { ⌜ isBroken (now bytes) at ≡ false ⌝ }
+    ensures { λ r. ⌜ r ≡ priorityAt (now (bytes .entry)) at ⌝ }
+{
+    if records::u16_at(bytes, at) == 10 {
+        return records::field_at(bytes, at, 2);
+    }
+    0
+}
+
 // Kind 9.
 fn read_watch(bytes: &[u8], at: usize, count: usize, signs: &[u8]) -> Record
     requires { ⌜ (isBroken (now bytes) at ≡ false) × (count ≤ length (now signs)) ⌝ }
     ensures { λ r. ⌜ ((ws : List ℕ) → ReadsBody ws (take count (now (signs .entry))) 9 (now (bytes .entry)) at r) ⌝ }
 {
-    if records::u16_at(bytes, at) != 8 {
+    if !watch_shape(bytes, at) {
         return Record::Refused(6);
     }
     let node = records::field_at(bytes, at, 0);
@@ -55,8 +82,15 @@ fn read_watch(bytes: &[u8], at: usize, count: usize, signs: &[u8]) -> Record
     if signs[node] != 0 {
         return Record::Refused(7);
     }
-    let sign = sign as u8;
-    Record::Item(Item::Watch { node, sign })
+    let priority = priority_at(bytes, at);
+    if MAX_PRIORITY < priority {
+        return Record::Refused(7);
+    }
+    Record::Item(Item::Watch {
+        node,
+        sign: sign as u8,
+        priority: priority as u8,
+    })
 }
 
 // The record at an offset, after so many nodes: rules 3 to 7 in order.

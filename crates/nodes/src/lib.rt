@@ -52,10 +52,10 @@ pub enum Node {
     },
 }
 
-// What a record brings: a node, or a watch's node and sign.
+// What a record brings: a node, or a watch's node, sign and priority.
 pub enum Item {
     Node(Node),
-    Watch { node: usize, sign: u8 },
+    Watch { node: usize, sign: u8, priority: u8 },
 }
 
 // What reading a record gives: what it brings, or the number of the rule that it breaks.

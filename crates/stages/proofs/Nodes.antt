@@ -18,7 +18,7 @@ use Rattle.model.specs.Watched.{changesOf}
 use Rattle.model.specs.Text.{changeLine, nodeLines}
 use Rattle.laws.proofs.Watched.{none-changed}
 use Rattle.laws.proofs.Fits.{length-widths, read-small}
-use Rattle.laws.proofs.Parts.{flat-append}
+use Rattle.laws.proofs.Parts.{count-split, flat-append}
 use Rattle.laws.proofs.Sets.{and-first, and-second}
 use Rattle.laws.proofs.Relations.{relation-at, relations-length}
 use Rattle.stages.specs.Stages.{stateOf}
@@ -89,18 +89,11 @@ module _ (net : Bytes) (a : Areas) where
   nodes-all =
       let n : ℕ = length (nodesIn net) in
       let f : ℕ → Bytes = nodeLines (readNetwork net .network) (stateOf net a .changes) in
+      let all : maxNodes ≡ n + (maxNodes - n) = omega (arith, read-small net .few) in
       let split : countFrom 0 maxNodes ≡ countFrom 0 (length (nodesIn net)) ++ countFrom (length (nodesIn net))
       (maxNodes - length (nodesIn net)) =
-      count-split 0 n maxNodes (read-small net .few) ∙ ap (λ (k : ℕ). countFrom 0 n ++ countFrom k (maxNodes - n)) (zero-add n) in
+      ap (countFrom 0) all ∙ count-split 0 n (maxNodes - n) ∙ ap (λ (k : ℕ). countFrom 0 n ++ countFrom k (maxNodes - n)) (zero-add n) in
       sym (append-nil (flatMap f (countFrom 0 n)))
       ∙ ap (λ (l : List ℕ). flatMap f (countFrom 0 n) ++ l) (sym (none-past n (maxNodes - n) (omega arith)))
       ∙ sym (flat-append f (countFrom 0 n) (countFrom n (maxNodes - n)))
       ∙ ap (flatMap f) (sym split)
-    where
-      count-split : (from n m : ℕ) → n ≤ m → countFrom from m ≡ countFrom from n ++ countFrom (from + n) (m - n)
-      count-split from zero m h = let e : from + 0 ≡ from = omega arith in let z : m - 0 ≡ m = omega arith in rw (e, z)
-      count-split from (suc n) zero h = absurd (omega (arith, h))
-      count-split from (suc n) (suc m) h =
-          let e : from + suc n ≡ suc from + n = omega arith in
-          let z : suc m - suc n ≡ m - n = omega arith in
-          rw (e, z) (ap (λ (l : List ℕ). from ∷ l) (count-split (suc from) n m (omega (arith, h))))

@@ -9,11 +9,16 @@ use Rattle.model.specs.Areas.{padded, headOf, headWords}
 use Rattle.model.specs.Row.{Relation, maxNodes}
 use Rattle.model.specs.Station.{State}
 
-at-right : (x y : List ℕ) (n k : ℕ) → length x ≡ n → getD (x ++ y) (n + k) 0 ≡ getD y k 0
+-- a word of the second of two lists
+pub at-right : (x y : List ℕ) (n k : ℕ) → length x ≡ n → getD (x ++ y) (n + k) 0 ≡ getD y k 0
 at-right x y n k e = ap (λ (m : ℕ). getD (x ++ y) (m + k) 0) (sym e) ∙ getD-append-add x y k 0
 
 pub padded-length : (n : ℕ) (l : List ℕ) → length l ≤ n → length (padded n l) ≡ n
 padded-length n l h = length-append l (replicate (n - length l) 0) ∙ rw length-replicate (omega arith)
+
+-- a list padded to 32 numbers, each number or 0
+pub padded-at : (l : List ℕ) (i : ℕ) → i < length l → getD (padded maxNodes l) i 0 ≡ getD l i 0
+padded-at l i h = List·getD-append l (replicate (maxNodes - length l) 0) 0 i h
 
 pub padded-zero : (n : ℕ) (l : List ℕ) (k : ℕ) → length l ≤ k → k < n → getD (padded n l) k 0 ≡ 0
 padded-zero n l k h g =

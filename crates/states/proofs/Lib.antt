@@ -5,3 +5,7 @@ pub mod Batches
 pub mod Worked
 pub mod Changes
 pub mod Fitted
+pub mod Own
+pub mod Zeros
+pub mod Pending
+pub mod Replaced

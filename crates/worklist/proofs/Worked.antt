@@ -1,15 +1,14 @@
 -- The list that is made is the order's worked list. Assumes nothing.
-use Prim.Native.Nat.{ℕ, zero, suc, _≤_, _<_, _+_, _-_}
+use Prim.Native.Nat.{ℕ, _≤_, _<_, _+_, _-_}
 use mathlib.Core.Bool.{Bool, _||_, false, true, _&&_}
 use mathlib.Core.Path.{_≡_, refl, ap₂, sym, _∙_, ap}
 use mathlib.Core.List.{List, [], flatMap}
-use native.Mathlib.Nat.{le-refl}
 use native.Mathlib.Omega.{arith}
 use lib.ListN.{length, getD}
 use lib.Seq.{getD-take}
 use lib.Dec.{eqb}
 use borrow.Author.Tests.{eqb-true}
-use Rattle.model.specs.Row.{keep, countFrom, keepIf, numbersBelow}
+use Rattle.model.specs.Row.{keep, countFrom, numbersBelow}
 use Rattle.model.specs.Network.{Node, isTable, AllFit, levels, nodeAt, leftOf, rightOf}
 use Rattle.model.specs.Delta.{Change, changeAt, isChanged}
 use Rattle.model.specs.Station.{hasChangedInput, workedList, workedAtLevel}
@@ -19,13 +18,9 @@ use Rattle.coherence.specs.Held.{Derived}
 use Rattle.coherence.proofs.Coherent.{level-table, level-derived}
 use Rattle.network.proofs.Nodes.{nodes-count, slot-node}
 use Rattle.laws.proofs.Inputs.{inputs-none, inputs-some}
+use Rattle.laws.proofs.Parts.{keep-same}
 use Rattle.worklist.specs.Listed.{inputChanged, dueList, levelList, isOfLevel}
 use Rattle.worklist.proofs.Listing.{keep-none, flat-same, flat-first}
-
-keep-same : (p q : ℕ → Bool) (from n : ℕ) → ((i : ℕ) → from ≤ i → i < from + n → p i ≡ q i) → keep p (countFrom from n) ≡ keep q (countFrom from n)
-keep-same p q from zero h = refl
-keep-same p q from (suc n) h =
-    ap₂ {A = Bool} {B = List ℕ} {C = List ℕ} (λ t l. keepIf t from l) (h from (le-refl from) (omega arith)) (keep-same p q (suc from) n (λ i a b. h i (omega arith) (omega arith)))
 
 -- marks that say which nodes' changes are not empty
 module _ (net : Network) (b : Built net) (fit : AllFit (nodesOf net)) (changes : List Change) (changed : List Bool)

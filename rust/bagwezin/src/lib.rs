@@ -1,6 +1,6 @@
 //! A safe wrapper of the proved condition monitor of the trap stations (`include/bagwezin.h`).
 //!
-//! A [`Monitor`] owns a network and the four areas. Batches go in, and the rows that each node gained and lost come out:
+//! A [`Monitor`] owns a network, its four areas and the pending area. Batches go in, and the rows that each node gained and lost come out:
 //!
 //! ```
 //! // blocks (table 0: block, catch) with a catch of at least 8 that are not sprayed (table 3: block)
@@ -26,6 +26,9 @@
 //! # Ok::<(), bagwezin::Refusal>(())
 //! ```
 //!
+//! Alerts wait for the adviser: [`Monitor::fold`], called once after each accepted batch, folds its changes into the pending rows of the nodes
+//! watched with sign 1 or 3, and [`Monitor::take`] takes these out one by one, the highest priority first.
+//!
 //! The calls keep no state, so monitors may run on different threads; each call takes at most [`STACK`] bytes of stack. [`raw`] has the calls on lent
 //! slices.
 
@@ -35,15 +38,23 @@ pub mod raw;
 mod refusal;
 
 pub use file::{batches, cut, End};
-pub use monitor::{read, Monitor, NodeShape, Resumed};
+pub use monitor::{read, Alert, Monitor, NodeShape, Resumed};
 pub use refusal::{outcome, Refusal};
 
 /// The most nodes of a network.
 pub const NODES: usize = 32;
+/// The most fields of a row, and the words of a taking's answer.
+pub const FIELDS: usize = 4;
+/// The highest priority of a watch.
+pub const PRIORITY: usize = 9;
 /// Named words of rows, gained and lost.
 pub const AREA: usize = 8192;
 /// Named words of the head.
 pub const HEAD: usize = 162;
+/// Named words of the pending area: rows as in the areas, then a count for each node.
+pub const PENDING: usize = 8224;
+/// The first of the pending area's counts.
+pub const PENDING_COUNTS: usize = 8192;
 /// Words of the reader's answer.
 pub const ANSWER: usize = 97;
 /// The most bytes of a report: 128 records of 22 bytes.

@@ -167,3 +167,91 @@ pub fn report(net: &[u8], node: u32, rows: &[u32], gained: &[u32], lost: &[u32],
         )
     }
 }
+
+extern "C" {
+    fn bagwezin_fold(
+        net: *const u8,
+        net_len: usize,
+        rows: *const u32,
+        rows_len: usize,
+        gained: *const u32,
+        gained_len: usize,
+        lost: *const u32,
+        lost_len: usize,
+        head: *const u32,
+        head_len: usize,
+        pending: *mut u32,
+        pending_len: usize,
+    ) -> u64;
+}
+
+/// Folds the last batch's changes into the pending area.
+pub fn fold(net: &[u8], rows: &[u32], gained: &[u32], lost: &[u32], head: &[u32], pending: &mut [u32]) -> u64 {
+    // SAFETY: as in `read`.
+    unsafe {
+        bagwezin_fold(
+            net.as_ptr(),
+            net.len(),
+            rows.as_ptr(),
+            rows.len(),
+            gained.as_ptr(),
+            gained.len(),
+            lost.as_ptr(),
+            lost.len(),
+            head.as_ptr(),
+            head.len(),
+            pending.as_mut_ptr(),
+            pending.len(),
+        )
+    }
+}
+
+extern "C" {
+    fn bagwezin_take(
+        net: *const u8,
+        net_len: usize,
+        rows: *const u32,
+        rows_len: usize,
+        gained: *const u32,
+        gained_len: usize,
+        lost: *const u32,
+        lost_len: usize,
+        head: *const u32,
+        head_len: usize,
+        pending: *mut u32,
+        pending_len: usize,
+        answer: *mut u32,
+        answer_len: usize,
+    ) -> u64;
+}
+
+/// Takes the next alert out of the pending area: its row in [`crate::FIELDS`] words.
+pub fn take(
+    net: &[u8],
+    rows: &[u32],
+    gained: &[u32],
+    lost: &[u32],
+    head: &[u32],
+    pending: &mut [u32],
+    answer: &mut [u32],
+) -> u64 {
+    // SAFETY: every pointer and count is that of a slice; the two that are written are `&mut`.
+    unsafe {
+        bagwezin_take(
+            net.as_ptr(),
+            net.len(),
+            rows.as_ptr(),
+            rows.len(),
+            gained.as_ptr(),
+            gained.len(),
+            lost.as_ptr(),
+            lost.len(),
+            head.as_ptr(),
+            head.len(),
+            pending.as_mut_ptr(),
+            pending.len(),
+            answer.as_mut_ptr(),
+            answer.len(),
+        )
+    }
+}

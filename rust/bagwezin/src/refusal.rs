@@ -9,7 +9,7 @@ use std::fmt;
 /// ```
 #[derive(Clone, Copy, Debug, PartialEq, Eq, Hash)]
 pub struct Refusal {
-    /// The rule, 1 to 16.
+    /// The rule, 1 to 18.
     pub number: u32,
     /// The record's offset in bytes for 3 to 7 and 10 to 13, the node for 14, else 0.
     pub place: u32,
@@ -35,6 +35,8 @@ impl Refusal {
             14 => "after the batch a node has more than 64 rows",
             15 => "the node does not exist or has no watch",
             16 => "the report's buffer is too short",
+            17 => "the pending area is too short or not of good form, or folding would take a node above 64 rows",
+            18 => "nothing is pending",
             _ => "not a rule",
         }
     }

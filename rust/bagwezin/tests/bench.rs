@@ -1,4 +1,4 @@
-//! The bench: what it says to wrong words and wrong files, and that it times and counts a small folder.
+//! The bench: what it says to wrong words and wrong files, that it times and counts a small folder, and that it times folding and taking.
 //!
 //! Where programs are compiled for more than SSE2, the bench refuses to measure, and nothing is tested.
 #![cfg(not(target_feature = "avx"))]
@@ -38,7 +38,7 @@ const MARK: [u8; 4] = [4, 0, 34, 0];
 #[test]
 fn help_names_every_option() {
     let help = out(&bench(&["--help"]));
-    for option in ["--count", "--growth", "--apply", "FOLDER"] {
+    for option in ["--count", "--growth", "--alerts", "--apply", "FOLDER"] {
         assert!(help.contains(option), "{help}");
     }
 }
@@ -48,6 +48,8 @@ fn wrong_words_are_told() {
     refuses(&["--grow"], "there is no option --grow: --help lists them");
     refuses(&["--growth", "some"], "leave out some");
     refuses(&["--growth", "no/such/folder/plot.svg"], "there is no folder no/such/folder");
+    refuses(&["--alerts", "some"], "stands alone: bench --alerts");
+    refuses(&["--count", "--alerts"], "stands alone: bench --alerts");
     refuses(&["--apply", "x", "some"], "'x' is not a number of batches");
     refuses(&["--apply", "1"], "--apply 100 FOLDER");
     refuses(&["no/such"], "name folders with network.bin and batch.bin");
@@ -74,6 +76,22 @@ fn a_folder_is_timed() {
     let [batches, library, model, scan, by_scan, ..] = numbers[..] else { panic!("{said}") };
     assert!(batches == 3.0 && library > 0.0 && model > 0.0 && scan > 0.0, "{said}");
     assert!((by_scan - library / scan).abs() < 0.1 + 0.05 * by_scan, "{said}");
+}
+
+#[test]
+fn folding_and_taking_are_timed() {
+    let ran = bench(&["--alerts"]);
+    let said = out(&ran);
+    let lines: Vec<&str> = said.lines().skip(1).collect();
+    assert!(ran.status.success() && lines.len() == 8, "{said}");
+    let states = ["opened", "1 event", "64 events", "64 rows"];
+    let names = ["fold", "take"].iter().flat_map(|call| states.map(|state| format!("{call}  {state} ")));
+    for (line, name) in lines.iter().zip(names) {
+        assert!(line.starts_with(&name), "{said}");
+        let numbers: Vec<f64> = line[name.len()..].split_whitespace().filter_map(|word| word.parse().ok()).collect();
+        let [call, scan, scans] = numbers[..] else { panic!("{said}") };
+        assert!(call > 0.0 && scan > 0.0 && (scans - call / scan).abs() < 0.01 + 0.01 * scans, "{said}");
+    }
 }
 
 #[test]

@@ -1,16 +1,22 @@
-//! The library against the independent model, on random networks and batches, valid and damaged.
+//! The library against the independent model, on random networks and batches, valid and damaged; folding and taking in `alerts`.
 //!
-//! `BAGWEZIN_SECONDS=60 cargo test --release -- --nocapture` runs for that long; `BAGWEZIN_SEED=7` starts from that seed.
+//! `BAGWEZIN_SECONDS=60 cargo test --release -- --nocapture` runs each of the random tests for that long; `BAGWEZIN_SEED=7` starts from that seed.
+use std::panic::{catch_unwind, AssertUnwindSafe};
 use std::time::{Duration, Instant};
 
-use bagwezin::{outcome, raw, Monitor, ANSWER, AREA, HEAD};
-use model::{Areas, Network, Station, Verdict};
+use bagwezin::{outcome, raw, Monitor, ANSWER, AREA, FIELDS, HEAD, PENDING};
+use model::{Areas, Network, Pending, Station, Verdict};
 
+mod alerts;
 mod model;
 
 struct Random(u64);
 
 impl Random {
+    fn new(seed: u64) -> Random {
+        Random(seed.wrapping_mul(0x9e37_79b9_7f4a_7c15) | 1)
+    }
+
     fn next(&mut self) -> u64 {
         self.0 ^= self.0 << 13;
         self.0 ^= self.0 >> 7;
@@ -35,18 +41,35 @@ fn record(kind: usize, fields: &[usize]) -> Vec<u8> {
     out
 }
 
+/// A watch of any sign, half of them with a priority.
+fn watch(r: &mut Random, node: usize) -> Vec<u8> {
+    let sign = 1 + r.below(3);
+    if r.one_in(2) {
+        record(9, &[node, sign])
+    } else {
+        record(9, &[node, sign, r.below(10)])
+    }
+}
+
 /// A network that is accepted, unless it has more than 32 nodes.
 fn network(r: &mut Random) -> Vec<u8> {
     let (mut net, mut widths, mut watched) = (Vec::new(), Vec::<usize>::new(), Vec::new());
-    let most = if r.one_in(8) { 33 } else { 1 + r.below(14) };
-    while widths.len() < most {
+    let most = match r.below(8) {
+        0 => 33,
+        1 => 32,
+        _ => 1 + r.below(14),
+    };
+    loop {
         let n = widths.len();
-        if n > 0 && r.one_in(5) {
+        if n > 0 && r.one_in(3) {
             let node = r.below(n);
             if !watched.contains(&node) {
                 watched.push(node);
-                net.extend(record(9, &[node, 1 + r.below(3)]));
+                net.extend(watch(r, node));
             }
+        }
+        if n == most {
+            return net;
         }
         if n == 0 || r.one_in(4) {
             widths.push(1 + r.below(4));
@@ -96,7 +119,14 @@ fn network(r: &mut Random) -> Vec<u8> {
             }
         }
     }
-    net
+}
+
+/// A put or a remove.
+fn event(put: bool, table: usize, row: &[u32]) -> Vec<u8> {
+    let mut out = record(if put { 32 } else { 33 }, &[table]);
+    out.extend(row.iter().flat_map(|x| x.to_le_bytes()));
+    out[0] = out.len() as u8;
+    out
 }
 
 fn batch(r: &mut Random, net: &Network) -> Vec<u8> {
@@ -104,14 +134,9 @@ fn batch(r: &mut Random, net: &Network) -> Vec<u8> {
     let (most, top) = if r.one_in(6) { (66, 40) } else { (6, 4) };
     let mut out = Vec::new();
     for _ in 0..r.below(most + 1) {
-        let node = tables[r.below(tables.len())];
-        let mut event = record(if r.one_in(3) { 33 } else { 32 }, &[node]);
-        for _ in 0..net.widths[node] {
-            event.extend((r.below(top) as u32).to_le_bytes());
-        }
-        let size = event.len() as u16;
-        event[..2].copy_from_slice(&size.to_le_bytes());
-        out.extend(event);
+        let (node, put) = (tables[r.below(tables.len())], !r.one_in(3));
+        let row: Vec<u32> = (0..net.widths[node]).map(|_| r.below(top) as u32).collect();
+        out.extend(event(put, node, &row));
     }
     out
 }
@@ -268,7 +293,7 @@ fn damaged(r: &mut Random, bytes: &[u8], net: &Network, mut a: Areas, batch: &[u
 }
 
 fn round(seed: u64) {
-    let r = &mut Random(seed.wrapping_mul(0x9e37_79b9_7f4a_7c15) | 1);
+    let r = &mut Random::new(seed);
     let mut bytes = network(r);
     if r.one_in(3) {
         damage(r, &mut bytes);
@@ -287,14 +312,14 @@ fn round(seed: u64) {
     }
 }
 
-#[test]
-fn the_library_gives_what_the_model_gives() {
+/// Rounds from the seed that BAGWEZIN_SEED names on, for BAGWEZIN_SECONDS, and so many at least; one that fails is told by its seed.
+fn seeds(least: u64, mut round: impl FnMut(u64)) {
     let number = |name: &str| std::env::var(name).ok().and_then(|x| x.parse::<u64>().ok());
     let first = number("BAGWEZIN_SEED").unwrap_or(1);
     let end = Instant::now() + Duration::from_secs(number("BAGWEZIN_SECONDS").unwrap_or(5));
     let (mut seed, mut told) = (first, Instant::now());
-    while Instant::now() < end {
-        if std::panic::catch_unwind(|| round(seed)).is_err() {
+    while seed < first + least || Instant::now() < end {
+        if catch_unwind(AssertUnwindSafe(|| round(seed))).is_err() {
             panic!("failed with seed {seed}: repeat with BAGWEZIN_SEED={seed}");
         }
         seed += 1;
@@ -304,7 +329,11 @@ fn the_library_gives_what_the_model_gives() {
         }
     }
     println!("seeds {first} to {} agree", seed - 1);
-    assert!(seed > first + 50, "too few rounds to mean anything");
+}
+
+#[test]
+fn the_library_gives_what_the_model_gives() {
+    seeds(50, round);
 }
 
 #[test]
@@ -333,6 +362,34 @@ fn a_no_match_has_1_or_2_pairs_and_their_length_or_is_refused_by_6() {
 }
 
 #[test]
+fn a_watch_has_8_or_10_bytes_or_is_refused_by_6() {
+    for size in 4..=20 {
+        let mut bytes = [record(1, &[1]), record(9, &[0, 1, 2, 0, 0, 0, 0, 0])].concat();
+        bytes.truncate(6 + size);
+        bytes[6] = size as u8;
+        let fits = size == 8 || size == 10;
+        assert_eq!(Network::read(&bytes).err(), if fits { None } else { Some((6, 6)) }, "{size} bytes");
+        assert_eq!(reads(&bytes).is_some(), fits);
+    }
+}
+
+#[test]
+fn a_watch_with_a_priority_above_9_is_refused_by_7() {
+    for (sign, priority) in (0..5).flat_map(|sign| [0, 1, 8, 9, 10, 11, 255, 256, 0xffff].map(|p| (sign, p))) {
+        let bytes = [record(1, &[1]), record(9, &[0, sign, priority])].concat();
+        let fits = (1..=3).contains(&sign) && priority <= 9;
+        assert_eq!(Network::read(&bytes).err(), if fits { None } else { Some((7, 6)) }, "sign {sign}, {priority}");
+        assert_eq!(reads(&bytes).is_some(), fits);
+    }
+    // a node that is not there, and a second watch
+    for (second, place) in [(record(9, &[1, 1, 0]), 16), (record(9, &[0, 1]), 16), (record(9, &[0, 1, 3]), 16)] {
+        let bytes = [record(1, &[1]), record(9, &[0, 3, 9]), second].concat();
+        assert_eq!(Network::read(&bytes).err(), Some((7, place)));
+        assert!(reads(&bytes).is_none());
+    }
+}
+
+#[test]
 fn an_area_that_is_too_short_is_refused_by_1_before_anything_else() {
     for short in 0..4 {
         let mut sizes = [AREA, AREA, AREA, HEAD];
@@ -345,9 +402,12 @@ fn an_area_that_is_too_short_is_refused_by_1_before_anything_else() {
         assert_eq!(verdict(raw::apply(&[], &[1], &mut a)), (1, 0));
         assert_eq!(verdict(raw::check(&[], a.rows, a.gained, a.lost, a.head)), (1, 0));
         assert_eq!(verdict(raw::report(&[], 0, a.rows, a.gained, a.lost, a.head, &mut [])), (1, 0));
+        assert_eq!(verdict(raw::fold(&[], a.rows, a.gained, a.lost, a.head, &mut [])), (1, 0));
+        assert_eq!(verdict(raw::take(&[], a.rows, a.gained, a.lost, a.head, &mut [], &mut [0; FIELDS])), (1, 0));
         assert_eq!(words, before);
     }
     assert_eq!(verdict(raw::read(&[], &mut [0; ANSWER - 1])), (1, 0));
+    assert_eq!(verdict(raw::take(&[], &[], &[], &[], &[], &mut [], &mut [])), (1, 0));
 }
 
 /// Memory whose last word is followed by a page that stops the test when it is touched.
@@ -392,7 +452,9 @@ fn nothing_past_the_lent_memory_is_touched() {
         let answer = guarded::words(ANSWER);
         assert_eq!(verdict(raw::read(lent, answer)), (0, 0));
         assert_eq!(verdict(raw::open(lent, &mut a)), (0, 0));
-        let mut station = Station::open(&net);
+        let (pending, short) = (guarded::words(PENDING), guarded::words(PENDING - 1));
+        let (row, three) = (guarded::words(FIELDS), guarded::words(FIELDS - 1));
+        let (mut station, mut waiting) = (Station::open(&net), Pending::open(&net));
         for _ in 0..4 {
             let events = batch(r, &net);
             let last = guarded::bytes(events.len());
@@ -416,6 +478,18 @@ fn nothing_past_the_lent_memory_is_touched() {
                     assert_eq!(out, &text[..]);
                 }
             }
+            assert_eq!(outcome(raw::fold(lent, a.rows, a.gained, a.lost, a.head, pending)), Ok(0));
+            waiting = waiting.fold(&net, &station.changes).unwrap();
+            assert!(*pending == waiting.words());
+            let given = outcome(raw::take(lent, a.rows, a.gained, a.lost, a.head, pending, row));
+            match waiting.take(&net) {
+                Some((node, next)) => assert!(given == Ok(node as u32) && row[..next.len()] == next),
+                None => assert_eq!(given, Err(bagwezin::Refusal { number: 18, place: 0 })),
+            }
+            assert!(*pending == waiting.words());
+            assert_eq!(verdict(raw::take(lent, a.rows, a.gained, a.lost, a.head, pending, three)), (1, 0));
+            assert_eq!(verdict(raw::take(lent, a.rows, a.gained, a.lost, a.head, short, row)), (17, 0));
+            assert_eq!(verdict(raw::fold(lent, a.rows, a.gained, a.lost, a.head, short)), (17, 0));
         }
     }
 }

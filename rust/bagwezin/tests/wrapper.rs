@@ -2,7 +2,8 @@
 use std::process::{Command, Output};
 
 use bagwezin::{
-    batches, cut, read, End, Monitor, NodeShape, Refusal, Resumed, ANSWER, AREA, HEAD, NODES, REPORT, STACK,
+    batches, cut, read, Alert, End, Monitor, NodeShape, Refusal, Resumed, ANSWER, AREA, FIELDS, HEAD, NODES, PENDING,
+    PENDING_COUNTS, PRIORITY, REPORT, STACK,
 };
 
 const N: &[u8] = &[
@@ -48,12 +49,15 @@ fn the_constants_are_those_of_the_header() {
     let value = |name: &str| header.iter().find(|c| c.0 == name).unwrap_or_else(|| panic!("no {name}")).1;
     assert_eq!((value("NODES"), value("AREA"), value("HEAD")), (NODES, AREA, HEAD));
     assert_eq!((value("ANSWER"), value("REPORT")), (ANSWER, REPORT));
+    assert_eq!((value("FIELDS"), value("PRIORITY")), (FIELDS, PRIORITY));
+    assert_eq!((value("PENDING"), value("PENDING_COUNTS")), (PENDING, PENDING_COUNTS));
+    assert_eq!((PENDING_COUNTS, PENDING), (AREA, AREA + NODES));
     let stacks: Vec<usize> = header.iter().filter(|c| c.0.starts_with("STACK_")).map(|c| c.1).collect();
-    assert_eq!((stacks.len(), stacks.into_iter().max()), (5, Some(STACK)));
+    assert_eq!((stacks.len(), stacks.into_iter().max()), (7, Some(STACK)));
     // a text for each refusal that the header names
     let text = |number| Refusal { number, place: 0 }.text();
-    assert_eq!((value("SHORT_AREA"), value("SHORT_REPORT"), text(17)), (1, 16, "not a rule"));
-    assert!((1..=16).all(|number| text(number) != "not a rule"));
+    assert_eq!((value("SHORT_AREA"), value("NOTHING_PENDING"), text(19)), (1, 18, "not a rule"));
+    assert!((1..=18).all(|number| text(number) != "not a rule"));
 }
 
 #[test]
@@ -94,6 +98,146 @@ fn a_no_match_gains_a_row_when_the_last_agreeing_one_is_lost() {
     assert_eq!(changes(&[put(0, &[6]), put(1, &[22, 6])].concat()), (vec![], vec![]));
 }
 
+/// Tables of width 2 (node 0) and 1. Watched are 0, gained, without a priority; 1, gained and lost, priority 4; 2, lost, priority 9; 3, gained,
+/// priority 4.
+const ALERTS: &[u8] = &[
+    6, 0, 1, 0, 2, 0, 6, 0, 1, 0, 1, 0, 6, 0, 1, 0, 1, 0, 6, 0, 1, 0, 1, 0, 6, 0, 1, 0, 1, 0, // nodes 0 to 4
+    8, 0, 9, 0, 0, 0, 1, 0, // watch on 0
+    10, 0, 9, 0, 1, 0, 3, 0, 4, 0, // watch on 1
+    10, 0, 9, 0, 2, 0, 2, 0, 9, 0, // watch on 2
+    10, 0, 9, 0, 3, 0, 1, 0, 4, 0, // watch on 3
+];
+
+fn remove(node: u8, row: &[u32]) -> Vec<u8> {
+    event(33, node, row)
+}
+
+fn alert(node: usize, row: &[u32]) -> Result<Option<Alert>, Refusal> {
+    Ok(Some(Alert { node, row: row.to_vec() }))
+}
+
+/// The tables with a row or two each, folded.
+fn alerted() -> Monitor {
+    let mut monitor = Monitor::open(ALERTS).unwrap();
+    let rows: [(u8, &[u32]); 6] = [(0, &[7, 8]), (0, &[7, 1]), (1, &[6]), (2, &[5]), (3, &[9]), (4, &[4])];
+    monitor.apply(&rows.map(|(node, row)| put(node, row)).concat()).unwrap();
+    assert_eq!(monitor.fold(), Ok(()));
+    monitor
+}
+
+#[test]
+fn alerts_are_taken_by_priority_then_node_then_row() {
+    let mut monitor = alerted();
+    let waiting = |monitor: &Monitor| (0..6).map(|i| monitor.pending(i).len()).collect::<Vec<_>>();
+    assert_eq!(waiting(&monitor), [2, 1, 0, 1, 0, 0]);
+    assert_eq!(monitor.pending(0).collect::<Vec<_>>(), [[7, 1], [7, 8]]);
+    assert_eq!(monitor.pending(usize::MAX).len(), 0);
+    assert_eq!(monitor.take(), alert(1, &[6]));
+    assert_eq!(monitor.take(), alert(3, &[9]));
+    assert_eq!(monitor.take(), alert(0, &[7, 1]));
+    assert_eq!(waiting(&monitor), [1, 0, 0, 0, 0, 0]);
+    // a higher priority comes in between
+    monitor.apply(&put(3, &[2])).unwrap();
+    monitor.fold().unwrap();
+    assert_eq!(monitor.take(), alert(3, &[2]));
+    assert_eq!(monitor.take(), alert(0, &[7, 8]));
+    let ended = monitor.clone();
+    assert_eq!((monitor.take(), monitor.take()), (Ok(None), Ok(None)));
+    assert_eq!(monitor, ended);
+    assert_eq!(monitor.pending_area(), [0; PENDING]);
+}
+
+#[test]
+fn lost_rows_are_pending_no_longer_and_taken_ones_only_if_they_are_gained_again() {
+    let mut monitor = alerted();
+    // lost at a node whose losses are not reported, and at one whose losses are
+    monitor.apply(&[remove(0, &[7, 8]), remove(1, &[6])].concat()).unwrap();
+    monitor.fold().unwrap();
+    assert_eq!((monitor.take(), monitor.take(), monitor.take()), (alert(3, &[9]), alert(0, &[7, 1]), Ok(None)));
+    // (9) stays in its table: nothing new to tell. Once it went and came, it is
+    monitor.apply(&put(3, &[9])).unwrap();
+    monitor.fold().unwrap();
+    assert_eq!(monitor.take(), Ok(None));
+    for batch in [remove(3, &[9]), put(3, &[9])] {
+        monitor.apply(&batch).unwrap();
+        monitor.fold().unwrap();
+    }
+    assert_eq!((monitor.take(), monitor.take()), (alert(3, &[9]), Ok(None)));
+}
+
+#[test]
+fn folding_twice_folds_twice() {
+    let mut monitor = alerted();
+    let once = monitor.clone();
+    assert_eq!(monitor.fold(), Ok(()));
+    assert_eq!(monitor, once);
+    // the rows of the last batch that were taken come in again
+    assert_eq!(monitor.take(), alert(1, &[6]));
+    assert_eq!(monitor.fold(), Ok(()));
+    assert_eq!(monitor, once);
+    // a refused batch changes nothing, and a fold after it is one more of the last that was accepted
+    assert_eq!(monitor.take(), alert(1, &[6]));
+    let before = monitor.clone();
+    assert_eq!(monitor.apply(&[1]).unwrap_err().number, 10);
+    assert_eq!(monitor, before);
+    assert_eq!(monitor.fold(), Ok(()));
+    assert_eq!(monitor, once);
+}
+
+#[test]
+fn a_pending_area_is_stored_and_set() {
+    let monitor = alerted();
+    let mut words = vec![0; PENDING];
+    words[..6].copy_from_slice(&[7, 1, 0, 0, 7, 8]);
+    (words[256], words[3 * 256]) = (6, 9);
+    words[PENDING_COUNTS..][..4].copy_from_slice(&[2, 1, 0, 1]);
+    assert_eq!(monitor.pending_area(), words);
+
+    let [rows, gained, lost, head] = monitor.areas();
+    let mut again = Monitor::from_areas(ALERTS, rows, gained, lost, head).unwrap().monitor;
+    assert_eq!(again.pending_area(), [0; PENDING]);
+    assert_ne!(again, monitor);
+    assert_eq!(again.set_pending(&[&words[..], &[7; 3]].concat()), Ok(()));
+    assert_eq!(again, monitor);
+
+    // refused by 17, and nothing is changed: too short, a count, a wrong order, no zeros at the end, nodes not so watched
+    let spoilt: [(usize, u32); 6] =
+        [(PENDING_COUNTS, 65), (1, 9), (2, 1), (PENDING_COUNTS + 2, 1), (4 * 256, 1), (PENDING - 1, 1)];
+    for (at, word) in spoilt {
+        let mut bad = words.clone();
+        bad[at] = word;
+        assert_eq!(again.set_pending(&bad), Err(Refusal { number: 17, place: 0 }), "word {at}");
+    }
+    assert_eq!(again.set_pending(&words[..PENDING - 1]), Err(Refusal { number: 17, place: 0 }));
+    assert_eq!(again.set_pending(&[]), Err(Refusal { number: 17, place: 0 }));
+    assert_eq!(again, monitor);
+    // nothing pending is no fault
+    assert_eq!((again.set_pending(&[0; PENDING]), again.take()), (Ok(()), Ok(None)));
+}
+
+#[test]
+fn a_fold_above_64_rows_is_refused_by_17() {
+    // 64 rows wait at node 1, which gained another one
+    let mut monitor = Monitor::open(ALERTS).unwrap();
+    monitor.apply(&put(1, &[100])).unwrap();
+    let mut words = vec![0; PENDING];
+    (0..64).for_each(|j| words[256 + 4 * j] = j as u32);
+    words[PENDING_COUNTS + 1] = 64;
+    monitor.set_pending(&words).unwrap();
+    let before = monitor.clone();
+    let refusal = monitor.fold().unwrap_err();
+    assert_eq!((refusal.number, refusal.place), (17, 0));
+    assert_eq!(
+        refusal.to_string(),
+        "refused 17: the pending area is too short or not of good form, or folding would take a node above 64 rows"
+    );
+    assert_eq!(monitor, before);
+    // one taken, and there is room
+    assert_eq!(monitor.take(), alert(1, &[0]));
+    assert_eq!(monitor.fold(), Ok(()));
+    assert_eq!(monitor.pending(1).map(|row| row[0]).collect::<Vec<_>>(), (1..64).chain([100]).collect::<Vec<_>>());
+}
+
 #[test]
 fn refusals_carry_number_place_and_words() {
     let mut monitor = first();
@@ -115,6 +259,8 @@ fn refusals_carry_number_place_and_words() {
         said(Monitor::open(&[4, 0, 11, 0]).unwrap_err()),
         "refused 4 at byte 0: the network record has a kind outside 1 to 10"
     );
+    let nothing = Refusal { number: 18, place: 0 };
+    assert_eq!(said(nothing), "refused 18: nothing is pending");
     assert_eq!(monitor, before, "a refusal changed something");
 }
 
@@ -170,10 +316,11 @@ fn a_station_resumes_from_its_words() {
 }
 
 #[test]
-fn debug_tells_numbers_and_not_24738_words() {
+fn debug_tells_numbers_and_not_32962_words() {
     let text = format!("{:?}", first());
-    assert!(text.starts_with("Monitor { number: 1, worked: [1, 2, 4], nodes: [Node { shape: NodeShape { kind: 1, width: 2, level: 0 }, stamp: 1, rows: 2, gained: 2, lost: 0 }"), "{text}");
+    assert!(text.starts_with("Monitor { number: 1, worked: [1, 2, 4], nodes: [Node { shape: NodeShape { kind: 1, width: 2, level: 0 }, stamp: 1, rows: 2, gained: 2, lost: 0, pending: 0 }"), "{text}");
     assert!(text.len() < 1000, "{text}");
+    assert!(format!("{:?}", alerted()).contains("stamp: 1, rows: 2, gained: 2, lost: 0, pending: 2 }"));
 }
 
 #[test]

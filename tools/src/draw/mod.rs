@@ -166,9 +166,10 @@ fn lines(net: &Network, i: usize, held: Option<&Held>) -> Vec<Line> {
     if !net.is_table(i) {
         out.extend(wrapped(&says(net, i), Look::Plain));
     }
-    if let Some(sign) = net.sign(i) {
+    if let Some((sign, priority)) = net.watched(i) {
         let words = ["gained", "lost", "gained and lost"];
-        let watched = format!("watched: {}", words[sign - 1]);
+        let priority = priority.map_or(String::new(), |p| format!(", priority\u{a0}{p}"));
+        let watched = format!("watched: {}{priority}", words[sign - 1]);
         out.extend(wrapped(&watched, Look::Note));
     }
     if let Some(held) = held {

@@ -14,12 +14,13 @@ watch advice both
 ";
 
 /// The networks of the examples: text and picture, without their endings.
-pub const EXAMPLES: [&str; 5] = [
+pub const EXAMPLES: [&str; 6] = [
     "orchard/network",
     "orchard/no-match",
     "pictures/32-nodes/network",
     "pictures/self-join/network",
     "pictures/no-match/network",
+    "pictures/priorities/network",
 ];
 
 /// A file of the examples as bytes, and as text.
@@ -88,8 +89,9 @@ pub fn network(r: &mut Random) -> Made {
         let last = r.of(&[n - 1, any]);
         if r.below(3) == 0 && !watched[last] {
             watched[last] = true;
-            let sign = 1 + r.below(3);
-            push(&mut m.bytes, 9, &[last, sign]);
+            let fields = [last, 1 + r.below(3), r.below(10)];
+            let with_priority = r.below(2);
+            push(&mut m.bytes, 9, &fields[..2 + with_priority]);
         }
     }
     m

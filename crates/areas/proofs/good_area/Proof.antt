@@ -14,21 +14,21 @@ use Rattle.areas.proofs.good_area.Lts as lts
 use Rattle.areas.proofs.good_node.Reads as good-node-reads
 
 abbrev Inv-loop : tie.InvT-loop
-Inv-loop area widths n head first i₀ i = (i ≤ maxNodes) × AllTo (nodeGood widths n (countsFrom head first) area) maxNodes i
+Inv-loop area widths n words first i₀ i = (i ≤ maxNodes) × AllTo (nodeGood widths n (countsFrom words first) area) maxNodes i
 
 abbrev μ-loop : tie.MeasureT-loop
-μ-loop area widths n head first i₀ i = maxNodes - i
+μ-loop area widths n words first i₀ i = maxNodes - i
 
 loop-holds : tie.Need-loop-holds Inv-loop μ-loop
-loop-holds c = let a = c .before .before .before .args in (omega arith, all-none (nodeGood (a .widths .now) (a .n) (countsFrom (a .head .now) (a .first)) (a .area .now)) maxNodes)
+loop-holds c = let a = c .before .before .before .args in (omega arith, all-none (nodeGood (a .widths .now) (a .n) (countsFrom (a .words .now) (a .first)) (a .area .now)) maxNodes)
 
 good-node-requires : tie.Need-good-node-requires Inv-loop μ-loop
 good-node-requires c κs = search needs
 
 returns : tie.Need-returns Inv-loop μ-loop
 returns c = let a = c .before .before .before .before .before .before .before .args in sym
-    (area-is (a .widths .now) (a .n) (countsFrom (a .head .now) (a .first)) (a .area .now) (c .before .before .before .before .before .before .before .pre .1)
-    ∙ all-not (nodeGood (a .widths .now) (a .n) (countsFrom (a .head .now) (a .first)) (a .area .now)) maxNodes (c .before .before .before .loop .i) (c .before .good-node .result)
+    (area-is (a .widths .now) (a .n) (countsFrom (a .words .now) (a .first)) (a .area .now) (c .before .before .before .before .before .before .before .pre .1)
+    ∙ all-not (nodeGood (a .widths .now) (a .n) (countsFrom (a .words .now) (a .first)) (a .area .now)) maxNodes (c .before .before .before .loop .i) (c .before .good-node .result)
     (omega arith) (c .before .good-node .ensures) (c .if1 .taken))
 
 add-i : tie.Need-add-i Inv-loop μ-loop
@@ -41,14 +41,14 @@ loop-again : tie.Need-loop-again Inv-loop μ-loop
 loop-again c = let a = c .before .before .before .before .before .before .before .args
     in (
       omega arith,
-      all-more (nodeGood (a .widths .now) (a .n) (countsFrom (a .head .now) (a .first)) (a .area .now)) maxNodes (c .before .before .before .loop .i)
+      all-more (nodeGood (a .widths .now) (a .n) (countsFrom (a .words .now) (a .first)) (a .area .now)) maxNodes (c .before .before .before .loop .i)
           (c .before .good-node .result) (c .before .before .before .loop .inv .1) (c .before .good-node .ensures) (c .if1 .left),
     )
 
 returns-2 : tie.Need-returns-2 Inv-loop μ-loop
 returns-2 c = let a = c .before .before .before .before .before .args in sym
-    (area-is (a .widths .now) (a .n) (countsFrom (a .head .now) (a .first)) (a .area .now) (c .before .before .before .before .before .pre .1)
-    ∙ all-done (nodeGood (a .widths .now) (a .n) (countsFrom (a .head .now) (a .first)) (a .area .now)) maxNodes (c .before .loop .i) (omega arith) (c .before .loop .inv .1))
+    (area-is (a .widths .now) (a .n) (countsFrom (a .words .now) (a .first)) (a .area .now) (c .before .before .before .before .before .pre .1)
+    ∙ all-done (nodeGood (a .widths .now) (a .n) (countsFrom (a .words .now) (a .first)) (a .area .now)) maxNodes (c .before .loop .i) (omega arith) (c .before .loop .inv .1))
 
 pub good-area-spec : {M : Type 1} → statement M
 good-area-spec =

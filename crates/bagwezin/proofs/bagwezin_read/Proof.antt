@@ -16,7 +16,7 @@ pack-requires : tie.Need-pack-requires
 pack-requires c κs = (record { number = omega arith; place = omega arith }, omega arith)
 
 returns : tie.Need-returns
-returns c = let a = c .before .before .before .before .args in read-short (a .net .now) (a .answer .now) (c .pack .result) (c .before .if1 .taken) (c .pack .ensures)
+returns c = let a = c .before .before .before .before .args in read-short (a .net .now) (a .answer .now) (c .pack .result) (omega (arith, c .before .if1 .taken)) (c .pack .ensures)
 
 read-requires : tie.Need-read-requires
 read-requires c κs = search needs

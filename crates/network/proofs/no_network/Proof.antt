@@ -18,11 +18,13 @@ returns c = (
     widths-length = refl;
     levels-length = refl;
     signs-length = refl;
+    priorities-length = refl;
     sound = record { few = omega arith; widths = refl; levels = refl };
     shaped = λ i h. absurd (not-suc-le-zero h);
     narrow = λ i. omega (arith, zero-at maxNodes i);
     low = λ i. omega (arith, zero-at maxNodes i);
     unwatched = λ i h. zero-at maxNodes i;
+    unranked = λ i h. zero-at maxNodes i;
     widths-end = λ i h. zero-at maxNodes i;
     levels-end = λ i h. zero-at maxNodes i;
   },

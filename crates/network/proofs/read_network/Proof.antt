@@ -1,6 +1,6 @@
 use Rattle.network.proofs.read_network.Statement.{statement}
 use mathlib.Core.Path.{sym, ap, _∙_}
-use Prim.Native.Nat.{ℕ, _-_, _+_}
+use Prim.Native.Nat.{ℕ, _-_, _+_, _<_}
 use lib.ListN.{length}
 use Rattle.nodes.specs.Nodes.{numberOf}
 use Rattle.network.specs.Reading.{networkOf}
@@ -315,53 +315,47 @@ loop-again c = let a =
 enum-known-item-2 : tie.Need-enum-known-item-2 Inv-loop μ-loop
 enum-known-item-2 c = search needs
 
+-- a watch names a node that is there
+watch-names : (c : tie.After-known-told3 Inv-loop μ-loop) → c .before .item2 .given .0 .0 < c .before .before .before .before .before .before .before .before .before .before .before .before
+    .before .before .loop .net .count
+watch-names c =
+    let l = c .before .before .before .before .before .before .before .before .before .before .before .before .before .before .loop in
+    let read = c .before .before .before .before .before .before .before .read-record .ensures in
+    let told = c .before .before .before .before .before .reading .given in
+    let fits = rw (told .1) at (read .fits) in
+    let room = rw (told .1) at (read .room) in
+    rw (c .before .item2 .given .1) at (follows (told .0 .0) (l .net) (c .before .before .before .before .before .before .before .before .before .before .before .before .before .before .before
+    .before .before .before .args .bytes .now) (l .at) (l .inv .built) fits room)
+
 element-write-net-3 : tie.Need-element-write-net-3 Inv-loop μ-loop
-element-write-net-3 c = let a = c .before .before .before .before .before .before .before .before .before .before .before .before .before .before .before .before .before .before .args
-    in let fits = rw (c .before .before .before .before .before .reading .given .1) at (c .before .before .before .before .before .before .before .read-record .ensures .fits) in let room =
-    rw (c .before .before .before .before .before .reading .given .1) at (c .before .before .before .before .before .before .before .read-record .ensures .room) in let f = follows
-    (c .before .before .before .before .before .reading .given .0 .0)
-    (c .before .before .before .before .before .before .before .before .before .before .before .before .before .before .loop .net) (a .bytes .now)
-    (c .before .before .before .before .before .before .before .before .before .before .before .before .before .before .loop .at)
-    (c .before .before .before .before .before .before .before .before .before .before .before .before .before .before .loop .inv .built) fits room in let g = rw (c .before .item2 .given .1)
-    at f in let b = c .before .before .before .before .before .before .before .before .before .before .before .before .before .before .loop .inv .built in omega
-    (arith, g, b .sound .few, b .signs-length)
+element-write-net-3 c = let b = c .before .before .before .before .before .before .before .before .before .before .before .before .before .before .loop .inv .built in omega
+    (arith, watch-names c, b .sound .few, b .signs-length)
+
+element-write-net-4 : tie.Need-element-write-net-4 Inv-loop μ-loop
+element-write-net-4 c = let b = c .before .before .before .before .before .before .before .before .before .before .before .before .before .before .loop .inv .built in omega
+    (arith, watch-names c, b .sound .few, b .priorities-length)
 
 loop-less-2 : tie.Need-loop-less-2 Inv-loop μ-loop
-loop-less-2 c = let a = c .before .before .before .before .before .before .before .before .before .before .before .before .before .before .before .before .before .before .args in let w =
-    reached-whole (a .bytes .now) (c .before .before .before .before .before .before .before .before .before .before .before .before .before .before .loop .net)
-    (c .before .before .before .before .before .before .before .before .before .before .before .before .before .before .loop .at)
-    (c .before .before .before .before .before .before .before .before .before .before .before .before .before .before .loop .inv)
-    (c .before .before .before .before .before .before .before .before .before .before .before .before .before .loop-test .taken)
+loop-less-2 c =
+    let l = c .before .before .before .before .before .before .before .before .before .before .before .before .before .before .loop in
+    let w = reached-whole (c .before .before .before .before .before .before .before .before .before .before .before .before .before .before .before .before .before .before .args .bytes .now)
+    (l .net) (l .at) (l .inv) (c .before .before .before .before .before .before .before .before .before .before .before .before .before .loop-test .taken)
     (c .before .before .before .before .before .before .before .read-record .result) (c .before .before .before .before .before .before .before .read-record .ensures)
-    (ap numberOf (c .before .before .before .before .before .reading .given .1)) in omega (
-      arith,
-      w .least,
-      c .before .before .before .u16-at .ensures .is,
-      c .before .before .before .before .before .before .before .before .before .before .before .before .before .loop-test .taken,
-    )
+    (ap numberOf (c .before .before .before .before .before .reading .given .1)) in
+    omega (arith, w .least, c .before .before .before .u16-at .ensures .is, c .before .before .before .before .before .before .before .before .before .before .before .before .before .loop-test .taken)
 
 loop-again-2 : tie.Need-loop-again-2 Inv-loop μ-loop
-loop-again-2 c = let a = c .before .before .before .before .before .before .before .before .before .before .before .before .before .before .before .before .before .before .args in let fits =
-    rw (c .before .before .before .before .before .reading .given .1) at (c .before .before .before .before .before .before .before .read-record .ensures .fits) in let room =
-    rw (c .before .before .before .before .before .reading .given .1) at (c .before .before .before .before .before .before .before .read-record .ensures .room) in let f = follows
-    (c .before .before .before .before .before .reading .given .0 .0)
-    (c .before .before .before .before .before .before .before .before .before .before .before .before .before .before .loop .net) (a .bytes .now)
-    (c .before .before .before .before .before .before .before .before .before .before .before .before .before .before .loop .at)
-    (c .before .before .before .before .before .before .before .before .before .before .before .before .before .before .loop .inv .built) fits room in let g = rw (c .before .item2 .given .1)
-    at f in let b = c .before .before .before .before .before .before .before .before .before .before .before .before .before .before .loop .inv .built in reached-next (a .bytes .now)
-    (c .before .before .before .before .before .before .before .before .before .before .before .before .before .before .loop .net)
-    (c .before .before .before .before .before .before .before .before .before .before .before .before .before .before .loop .at)
-    (c .before .before .before .before .before .before .before .before .before .before .before .before .before .before .loop .inv)
-    (c .before .before .before .before .before .before .before .before .before .before .before .before .before .loop-test .taken)
-    (c .before .before .before .before .before .before .before .read-record .result) (c .before .before .before .before .before .before .before .read-record .ensures)
-    (ap numberOf (c .before .before .before .before .before .reading .given .1)) _
-    (c .before .before .before .before .before .before .before .before .before .before .before .before .before .before .loop .at + c .before .before .before .u16-at .result)
-    (rw (c .before .before .before .before .before .reading .given .1)
-    (rw (c .before .item2 .given .1)
-    (extends-watch (c .before .before .before .before .before .before .before .before .before .before .before .before .before .before .loop .net) (c .before .item2 .given .0 .0)
-    (c .before .item2 .given .0 .1 .0) b g)))
-    (ap (λ (n : ℕ). c .before .before .before .before .before .before .before .before .before .before .before .before .before .before .loop .at + n)
-    (c .before .before .before .u16-at .ensures .is))
+loop-again-2 c =
+    let l = c .before .before .before .before .before .before .before .before .before .before .before .before .before .before .loop in
+    let told = c .before .before .before .before .before .reading .given in
+    let watch = c .before .item2 .given in
+    let size = c .before .before .before .u16-at in
+    reached-next (c .before .before .before .before .before .before .before .before .before .before .before .before .before .before .before .before .before .before .args .bytes .now) (l .net)
+    (l .at) (l .inv) (c .before .before .before .before .before .before .before .before .before .before .before .before .before .loop-test .taken)
+    (c .before .before .before .before .before .before .before .read-record .result) (c .before .before .before .before .before .before .before .read-record .ensures) (ap numberOf (told .1)) _
+    (l .at + size .result)
+    (rw (told .1) (rw (watch .1) (extends-watch (l .net) (watch .0 .0) (watch .0 .1 .0) (watch .0 .1 .1 .0) (l .inv .built) (watch-names c))))
+    (ap (λ (n : ℕ). l .at + n) (size .ensures .is))
 
 accepted-requires : tie.Need-accepted-requires Inv-loop μ-loop
 accepted-requires c κs = search needs
@@ -408,6 +402,7 @@ read-network-spec =
     loop-again
     enum-known-item-2
     element-write-net-3
+    element-write-net-4
     loop-less-2
     loop-again-2
     accepted-requires

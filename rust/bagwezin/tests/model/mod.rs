@@ -1,7 +1,7 @@
 //! The plain station, written from the order's sentences: sets of rows, everything evaluated afresh.
 use std::collections::BTreeSet;
 
-use bagwezin::{AREA, HEAD};
+use bagwezin::{AREA, FIELDS, HEAD, PENDING, PENDING_COUNTS};
 
 pub type Row = Vec<u32>;
 pub type Relation = BTreeSet<Row>;
@@ -21,13 +21,14 @@ pub enum Node {
     NoMatch { left: usize, right: usize, pairs: Vec<(usize, usize)> },
 }
 
-/// A network: nodes with widths and levels, and each node's watch sign (0: none).
+/// A network: nodes with widths and levels, and each node's watch sign (0: none) and priority.
 #[derive(Clone, Debug, Default)]
 pub struct Network {
     pub nodes: Vec<Node>,
     pub widths: Vec<usize>,
     pub levels: Vec<usize>,
     pub signs: Vec<usize>,
+    pub priorities: Vec<usize>,
 }
 
 fn u16_at(bytes: &[u8], at: usize) -> usize {
@@ -119,6 +120,7 @@ impl Network {
                         (1..=4).contains(&c) && size == 12 + 4 * field(2) + 2 * c
                     }
                 }
+                9 => size == 8 || size == 10,
                 10 => size >= 10 && (1..=2).contains(&field(2)) && size == 10 + 4 * field(2),
                 _ => size == 8,
             };
@@ -130,10 +132,12 @@ impl Network {
             let pairs =
                 |p: usize| -> Vec<(usize, usize)> { (0..p).map(|k| (field(3 + 2 * k), field(4 + 2 * k))).collect() };
             if kind == 9 {
-                if field(0) >= n || !(1..=3).contains(&field(1)) || net.signs[field(0)] != 0 {
+                let priority = if size == 10 { field(2) } else { 0 };
+                if field(0) >= n || !(1..=3).contains(&field(1)) || net.signs[field(0)] != 0 || priority > 9 {
                     return refuse(7);
                 }
                 net.signs[field(0)] = field(1);
+                net.priorities[field(0)] = priority;
                 at += size;
                 continue;
             }
@@ -200,9 +204,15 @@ impl Network {
             net.widths.push(wide);
             net.levels.push(level);
             net.signs.push(0);
+            net.priorities.push(0);
             at += size;
         }
         Ok(net)
+    }
+
+    /// Whether a node is watched with sign 1 or 3.
+    pub fn alerts(&self, node: usize) -> bool {
+        matches!(self.signs.get(node), Some(1 | 3))
     }
 
     /// The fresh evaluation of every node; tables stand at their node numbers.
@@ -253,6 +263,14 @@ pub struct Areas {
     pub head: Vec<u32>,
 }
 
+/// Puts rows in a node's place, and their count where it stands.
+pub fn put(area: &mut [u32], count: &mut u32, node: usize, rows: &Relation) {
+    *count = rows.len() as u32;
+    for (j, row) in rows.iter().enumerate() {
+        area[256 * node + 4 * j..][..row.len()].copy_from_slice(row);
+    }
+}
+
 impl Areas {
     pub fn zero() -> Areas {
         Areas { rows: vec![0; AREA], gained: vec![0; AREA], lost: vec![0; AREA], head: vec![0; HEAD] }
@@ -260,6 +278,20 @@ impl Areas {
 
     fn held(area: &[u32], head: &[u32], counts: usize, i: usize, width: usize) -> Vec<Row> {
         (0..head[counts + i] as usize).map(|j| area[256 * i + 4 * j..256 * i + 4 * j + width].to_vec()).collect()
+    }
+
+    /// Refusals 1 to 8, or the network.
+    pub fn form(&self, network: &[u8]) -> Result<Network, Verdict> {
+        let sizes = [(&self.rows, AREA), (&self.gained, AREA), (&self.lost, AREA), (&self.head, HEAD)];
+        if sizes.iter().any(|(area, size)| area.len() < *size) {
+            return Err((1, 0));
+        }
+        let net = Network::read(network)?;
+        if self.good_form(&net) {
+            Ok(net)
+        } else {
+            Err((8, 0))
+        }
     }
 
     /// "Good form".
@@ -441,10 +473,7 @@ impl Station {
                 (&mut a.gained, 65, &self.changes[i].0),
                 (&mut a.lost, 97, &self.changes[i].1),
             ] {
-                a.head[counts + i] = rel.len() as u32;
-                for (j, row) in rel.iter().enumerate() {
-                    area[256 * i + 4 * j..256 * i + 4 * j + row.len()].copy_from_slice(row);
-                }
+                put(area, &mut a.head[counts + i], i, rel);
             }
         }
         a.head[129] = self.worked.len() as u32;
@@ -452,5 +481,136 @@ impl Station {
             a.head[130 + k] = i as u32;
         }
         a
+    }
+}
+
+/// Each node's pending rows.
+#[derive(Clone, Debug, PartialEq, Eq)]
+pub struct Pending {
+    pub rows: Vec<Relation>,
+}
+
+impl Pending {
+    /// "The caller sets it to 0 at opening".
+    pub fn open(net: &Network) -> Pending {
+        Pending { rows: vec![Relation::new(); net.nodes.len()] }
+    }
+
+    /// The words that hold these rows.
+    pub fn words(&self) -> Vec<u32> {
+        let mut words = vec![0; PENDING];
+        let (area, counts) = words.split_at_mut(PENDING_COUNTS);
+        for (i, rows) in self.rows.iter().enumerate() {
+            put(area, &mut counts[i], i, rows);
+        }
+        words
+    }
+
+    /// The rows that words hold; none under rule 17. Words of good form are those that hold the rows read from them: a set ascends, its words have
+    /// zeros at the end, and only nodes watched with sign 1 or 3 are read.
+    pub fn read(net: &Network, words: &[u32]) -> Option<Pending> {
+        let named = words.get(..PENDING)?;
+        let mut pending = Pending::open(net);
+        for (i, rows) in pending.rows.iter_mut().enumerate().filter(|(i, _)| net.alerts(*i)) {
+            let count = named[PENDING_COUNTS + i] as usize;
+            if count > 64 {
+                return None;
+            }
+            rows.extend(Areas::held(named, named, PENDING_COUNTS, i, net.widths[i]));
+        }
+        (pending.words() == named).then_some(pending)
+    }
+
+    /// "The lost rows go out, then the gained ones come in", by each node's gained and lost rows; none if that is above 64 rows at a node.
+    pub fn fold(&self, net: &Network, changes: &[(Relation, Relation)]) -> Option<Pending> {
+        let folded = |i: usize| match &changes[i] {
+            (gained, lost) if net.alerts(i) => &(&self.rows[i] - lost) | gained,
+            _ => self.rows[i].clone(),
+        };
+        let rows: Vec<Relation> = (0..net.nodes.len()).map(folded).collect();
+        rows.iter().all(|rows| rows.len() <= 64).then_some(Pending { rows })
+    }
+
+    /// "The highest priority number with something pending, there the lowest node", and its lowest row, which is removed.
+    pub fn take(&mut self, net: &Network) -> Option<(usize, Row)> {
+        let by_priority = (0..10).rev().flat_map(|p| (0..net.nodes.len()).filter(move |&i| net.priorities[i] == p));
+        for node in by_priority {
+            if let Some(row) = self.rows[node].pop_first() {
+                return Some((node, row));
+            }
+        }
+        None
+    }
+}
+
+/// The folding call on any bytes and words.
+pub fn fold(network: &[u8], a: &Areas, pending: &mut [u32]) -> Result<u32, Verdict> {
+    let net = a.form(network)?;
+    let changes = Station::from(&net, a).changes;
+    let folded = Pending::read(&net, pending).and_then(|p| p.fold(&net, &changes)).ok_or((17, 0))?;
+    pending[..PENDING].copy_from_slice(&folded.words());
+    Ok(0)
+}
+
+/// The taking call on any bytes and words.
+pub fn take(network: &[u8], a: &Areas, pending: &mut [u32], answer: &mut [u32]) -> Result<u32, Verdict> {
+    if answer.len() < FIELDS {
+        return Err((1, 0));
+    }
+    let net = a.form(network)?;
+    let mut rows = Pending::read(&net, pending).ok_or((17, 0))?;
+    let (node, row) = rows.take(&net).ok_or((18, 0))?;
+    pending[..PENDING].copy_from_slice(&rows.words());
+    answer[..FIELDS].fill(0);
+    answer[..row.len()].copy_from_slice(&row);
+    Ok(node as u32)
+}
+
+/// What happened to the pending rows: an accepted batch gained and lost rows at each node, or a row was taken.
+#[derive(Clone, Debug)]
+pub enum Happening {
+    Batch(Vec<(Relation, Relation)>),
+    Took(usize, Row),
+}
+
+/// All that happened since opening, and the claim about it.
+#[derive(Clone, Debug, Default)]
+pub struct History {
+    pub happened: Vec<Happening>,
+}
+
+impl History {
+    fn gained(&self, at: usize, node: usize, row: &Row) -> bool {
+        matches!(&self.happened[at], Happening::Batch(changes) if changes[node].0.contains(row))
+    }
+
+    fn lost_or_taken(&self, at: usize, node: usize, row: &Row) -> bool {
+        match &self.happened[at] {
+            Happening::Batch(changes) => changes[node].1.contains(row),
+            Happening::Took(from, taken) => *from == node && taken == row,
+        }
+    }
+
+    /// "A row of such a node is pending exactly if it was gained since opening and neither lost nor taken since".
+    pub fn is_pending(&self, net: &Network, node: usize, row: &Row) -> bool {
+        let end = self.happened.len();
+        let kept = |at: usize| (at + 1..end).all(|later| !self.lost_or_taken(later, node, row));
+        net.alerts(node) && (0..end).any(|at| self.gained(at, node, row) && kept(at))
+    }
+
+    /// Every row that a node ever gained.
+    pub fn ever_gained(&self, node: usize) -> Relation {
+        let gained = |happening: &Happening| match happening {
+            Happening::Batch(changes) => changes[node].0.clone(),
+            Happening::Took(..) => Relation::new(),
+        };
+        self.happened.iter().flat_map(gained).collect()
+    }
+
+    /// Each node's pending rows by the claim.
+    pub fn pending(&self, net: &Network) -> Pending {
+        let rows =
+            |node: usize| self.ever_gained(node).into_iter().filter(|row| self.is_pending(net, node, row)).collect();
+        Pending { rows: (0..net.nodes.len()).map(rows).collect() }
     }
 }

@@ -1,7 +1,8 @@
-//! The time of a batch, in one run: the library, the independent model's full evaluation, and one scan of the areas.
+//! The time of a batch, in one run: the library, the independent model's full evaluation, and one scan of the areas. And that of folding and taking.
 //!
 //! `cargo run --release --bin bench` times the five workloads of `workloads`; `options::USAGE` has the rest.
 //! docs/PERFORMANCE.md says what the columns mean.
+mod alerts;
 mod callgrind;
 mod clock;
 mod count;
@@ -52,6 +53,7 @@ fn run(words: &[String]) -> Result<(), String> {
             Ok(())
         }
         Task::Apply(most, folder) => count::apply(&Workload::of_folder(&folder)?, most),
+        Task::Alerts => scan::is_sse2().and_then(|()| alerts::table()),
         Task::Measure(options) => measure(&options),
     }
 }

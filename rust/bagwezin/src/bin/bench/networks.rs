@@ -61,6 +61,11 @@ pub fn orchard(nodes: usize) -> Vec<u8> {
     all.iter().take(nodes).cloned().chain(watches).flatten().collect()
 }
 
+/// A table of width 4, watched.
+pub fn table() -> Vec<u8> {
+    [record(1, &[4]), record(9, &[0, 3, 9])].concat()
+}
+
 /// Ten joins of two tables, three of them products.
 pub fn joins() -> Vec<u8> {
     let tables = [record(1, &[4]), record(1, &[4])].concat();

@@ -4,6 +4,7 @@ use std::path::Path;
 pub const USAGE: &str = "\
 usage: bench [--count] [FOLDER...]
        bench [--count] --growth [FILE.svg]
+       bench --alerts
        bench --apply N FOLDER
 
 Times a batch: the library, the independent model, and one scan of the areas, in microseconds and in scans.
@@ -11,6 +12,7 @@ Times a batch: the library, the independent model, and one scan of the areas, in
   FOLDER...            folders with network.bin and batch.bin, each batch ended by a mark;
                        without any, the five workloads that the program makes itself
   --growth [FILE.svg]  the time by events a batch, nodes and rows a table; and a plot of it, if a file is named
+  --alerts             instead the time of folding and of taking, in nanoseconds and in scans of the pending area
   --count              also instructions and mispredicted branches a batch, by valgrind; takes a minute
   --apply N FOLDER     only opens and applies the first N batches, as --count does under valgrind
   --help               this text
@@ -29,6 +31,8 @@ pub enum Task {
     Help,
     /// So many batches of a folder.
     Apply(usize, String),
+    /// Folding and taking.
+    Alerts,
     Measure(Options),
 }
 
@@ -39,6 +43,12 @@ pub fn read(words: &[String]) -> Result<Task, String> {
     }
     if words.first().is_some_and(|word| word == "--apply") {
         return apply(&words[1..]);
+    }
+    if words.iter().any(|word| word == "--alerts") {
+        return match words {
+            [_] => Ok(Task::Alerts),
+            _ => Err("--alerts makes its own workloads, and stands alone: bench --alerts".into()),
+        };
     }
     let mut options = Options::default();
     let mut rest = words.iter().peekable();

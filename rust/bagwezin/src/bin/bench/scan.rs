@@ -32,10 +32,13 @@ impl Words {
 
     /// One read of every word.
     pub fn scan(&self) {
-        for words in &self.0 {
-            black_box(any(black_box(words)));
-        }
+        self.0.iter().for_each(|words| scan(words));
     }
+}
+
+/// One read of these words.
+pub fn scan(words: &[u32]) {
+    black_box(any(black_box(words)));
 }
 
 /// All words, gathered by `|`: for x86-64 the compiler takes four at a time, in registers of SSE2.

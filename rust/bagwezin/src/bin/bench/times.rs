@@ -67,7 +67,7 @@ fn round(w: &Workload, begin: &Start, words: &mut Words) -> Times {
     Times { library, model, scan }
 }
 
-fn median(mut times: Vec<f64>) -> f64 {
+pub fn median(mut times: Vec<f64>) -> f64 {
     times.sort_by(f64::total_cmp);
     times[times.len() / 2]
 }

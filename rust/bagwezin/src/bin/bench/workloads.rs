@@ -116,3 +116,12 @@ pub fn all() -> Vec<Workload> {
     let orchards = [1, 8, 64].map(|events| orchard(format!("w2-{events}"), 24, events, (32, 60)));
     [n()].into_iter().chain(orchards).chain([joins()]).collect()
 }
+
+/// The states in which folding and taking are timed: just opened, after batches of 1 and of 64 events, and with 64 pending rows at one node.
+pub fn alerts() -> [Workload; 4] {
+    let events = |name: &str, events| orchard(name.into(), 24, events, (32, 60));
+    let opened = Workload { name: "opened".into(), network: networks::orchard(24), batches: vec![] };
+    let rows = (0..64).flat_map(|x| event(true, 0, &[x / 16, x, 7, 7])).collect();
+    let full = Workload { name: "64 rows".into(), network: networks::table(), batches: vec![rows] };
+    [opened, events("1 event", 1), events("64 events", 64), full]
+}

@@ -1,0 +1,1 @@
+// The theorem about alerts over lists of calls: proofs alone.
