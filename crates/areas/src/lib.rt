@@ -1,16 +1,18 @@
 // The areas that the caller lends: whether they are long enough, and of good form.
 ghost use mathlib.Core.Path.{_≡_};
-ghost use mathlib.Core.Bool.{true, false, cond};
+ghost use mathlib.Core.Bool.{true, _&&_};
 ghost use mathlib.Core.List.{List};
-ghost use Prim.Native.Nat.{_+_, _-_, _*_, _≤_, _<_};
-ghost use lib.Dec.{ltb, leb, eqb};
-ghost use lib.ListN.{length, getD, take};
+ghost use Prim.Native.Nat.{_+_, _*_, _≤_, _<_};
+ghost use lib.Dec.{leb};
+ghost use lib.ListN.{length, take};
+ghost use lib.Seq.{slice};
 ghost use Rattle.model.specs.Network.{Node, widths};
-ghost use Rattle.model.specs.Areas.{layout, longEnough, goodPlace, emptyPlace, goodArea, goodStamps, goodWorked};
-ghost use Rattle.model.specs.Areas.{goodForm, stampAt, workedAt};
-ghost use Rattle.model.specs.Areas.{areaSize, headWords};
-ghost use Rattle.model.specs.Row.{maxNodes, maxWidth, Narrow};
-ghost use Rattle.areas.specs.Lent.{lent, countsFrom};
+ghost use Rattle.model.specs.Areas.{layout, longEnough, allZero, goodArea, goodStamps, goodWorked, goodForm};
+ghost use Rattle.model.specs.Areas.{areaSize, placeSize, headWords};
+ghost use Rattle.model.specs.Row.{maxNodes, maxRows, maxWidth, Narrow};
+ghost use Rattle.rows.specs.Rows.{firstRows};
+ghost use Rattle.row_checks.specs.RowChecks.{goodRows};
+ghost use Rattle.areas.specs.Lent.{lent, countsFrom, placeAt};
 use rows::MAX_NODES;
 use rows::MAX_ROWS;
 use rows::STRIDE;
@@ -56,117 +58,68 @@ pub fn long_enough(rows: &[u32], gained: &[u32], lost: &[u32], head: &[u32]) -> 
     true
 }
 
-// Whether node i's place is of good form, given its rows' width and their count.
-fn good_place(area: &[u32], i: usize, width: usize, count: usize) -> bool
-    requires { ⌜ (i < maxNodes) × (areaSize ≤ length (now area)) × (width ≤ maxWidth) ⌝ }
-    ensures { λ r. ⌜ r ≡ goodPlace layout width count (now (area .entry)) i ⌝ }
+// Whether node i's rows are of good form, given their width and count, and the words from index from up to them are 0.
+fn good_node(area: &[u32], from: usize, i: usize, width: usize, count: usize) -> bool
+    requires { ⌜ (from ≤ i * placeSize) × (i < maxNodes) × (areaSize ≤ length (now area)) × (width ≤ maxWidth) ⌝ }
+    ensures { λ r. ⌜ r ≡ (leb count maxRows && allZero (slice from (i * placeSize) (now (area .entry)))
+        && goodRows width (firstRows (placeAt (now (area .entry)) i) count)) ⌝ }
 {
     if MAX_ROWS < count {
         return false;
     }
-    let place = &area[i * PLACE..i * PLACE + PLACE];
-    if !row_checks::good_rows(place, count, width) {
+    let at = i * PLACE;
+    if !zeros::all_zero(area, from, at) {
         return false;
     }
-    words::all_zero(place, count * STRIDE, PLACE)
-}
-
-// Whether the place of a number past the last node has 0 throughout.
-fn empty_place(area: &[u32], i: usize, count: usize) -> bool
-    requires { ⌜ (i < maxNodes) × (areaSize ≤ length (now area)) ⌝ }
-    ensures { λ r. ⌜ r ≡ emptyPlace layout count (now (area .entry)) i ⌝ }
-{
-    if count != 0 {
-        return false;
-    }
-    good_place(area, i, 0, 0)
-}
-
-// Whether the place with number i is of good form, in a network of n nodes.
-fn good_node(
-    area: &[u32],
-    widths: &[usize],
-    n: usize,
-    words: &[u32],
-    first: usize,
-    i: usize,
-) -> bool
-    requires { ⌜ (i < maxNodes) × (areaSize ≤ length (now area)) × (n ≤ length (now widths)) × Narrow (now widths)
-        × (first + maxNodes ≤ length (now words)) ⌝ }
-    ensures { λ r. ⌜ r ≡ cond (ltb i n)
-        (goodPlace layout (getD (now (widths .entry)) i 0) (countsFrom (now (words .entry)) first i)
-        (now (area .entry)) i)
-        (emptyPlace layout (countsFrom (now (words .entry)) first i) (now (area .entry)) i) ⌝ }
-{
-    let count = words[first + i] as usize;
-    if i < n {
-        return good_place(area, i, widths[i], count);
-    }
-    empty_place(area, i, count)
+    row_checks::good_rows(&area[at..at + PLACE], count, width)
 }
 
 // Whether every place of an area is of good form, in a network of n nodes, the counts standing in words of the
-// head, or of another area, from one on.
+// head, or of another area, from one on. The words between the rows of a node and those of the next that has any are
+// one run; so are all words behind the last rows.
 pub fn good_area(area: &[u32], widths: &[usize], n: usize, words: &[u32], first: usize) -> bool
-    requires { ⌜ (areaSize ≤ length (now area)) × (n ≤ length (now widths)) × Narrow (now widths)
+    requires { ⌜ (areaSize ≤ length (now area)) × (n ≤ length (now widths)) × (n ≤ maxNodes) × Narrow (now widths)
         × (first + maxNodes ≤ length (now words)) ⌝ }
     ensures { λ r. ⌜ r ≡ goodArea layout (take n (now (widths .entry))) (countsFrom (now (words .entry)) first)
         (now (area .entry)) ⌝ }
 {
+    let mut from = 0;
     let mut i = 0;
-    while i < MAX_NODES {
-        if !good_node(area, widths, n, words, first, i) {
-            return false;
+    while i < n {
+        let count = words[first + i] as usize;
+        if count != 0 {
+            if !good_node(area, from, i, widths[i], count) {
+                return false;
+            }
+            from = i * PLACE + count * STRIDE;
         }
         i += 1;
     }
-    true
-}
-
-// Whether node i's change stamp is at most the batch number, or 0 past the last node.
-fn good_stamp(head: &[u32], n: usize, number: u32, i: usize) -> bool
-    requires { ⌜ (headWords ≤ length (now head)) × (i < maxNodes) ⌝ }
-    ensures { λ r. ⌜ r ≡ leb (stampAt (now (head .entry)) i) (cond (ltb i n) number 0) ⌝ }
-{
-    let stamp = head[STAMPS + i];
-    if i < n {
-        return stamp <= number;
+    if !zeros::all_zero(words, first + n, first + MAX_NODES) {
+        return false;
     }
-    stamp <= 0
+    zeros::all_zero(area, from, AREA)
 }
 
-// Whether every change stamp is in order, in a network of n nodes.
+// Whether every change stamp is at most the batch number, and 0 past the last of n nodes.
 fn good_stamps(head: &[u32], n: usize) -> bool
-    requires { ⌜ headWords ≤ length (now head) ⌝ }
+    requires { ⌜ (headWords ≤ length (now head)) × (n ≤ maxNodes) ⌝ }
     ensures { λ r. ⌜ r ≡ goodStamps n (now (head .entry)) ⌝ }
 {
     let number = head[0];
     let mut node = 0;
-    while node < MAX_NODES {
-        if !good_stamp(head, n, number, node) {
+    while node < n {
+        if number < head[STAMPS + node] {
             return false;
         }
         node += 1;
     }
-    true
+    zeros::all_zero(head, STAMPS + n, STAMPS + MAX_NODES)
 }
 
-// Whether entry k of the worked list is a node's number, or 0 past those that are counted.
-fn good_entry(head: &[u32], n: usize, counted: usize, k: usize) -> bool
-    requires { ⌜ (headWords ≤ length (now head)) × (k < maxNodes) ⌝ }
-    ensures { λ r. ⌜ r ≡ cond (ltb k counted) (ltb (workedAt (now (head .entry)) k) n)
-        (eqb (workedAt (now (head .entry)) k) 0) ⌝ }
-{
-    let entry = head[WORKED + 1 + k];
-    if k < counted {
-        return (entry as usize) < n;
-    }
-    entry == 0
-}
-
-// Whether the worked list is in order, in a network of n nodes.
+// Whether the worked list has at most n entries, each below n, and 0 past them.
 fn good_worked(head: &[u32], n: usize) -> bool
-    requires { ⌜ headWords ≤ length (now head) ⌝ }
+    requires { ⌜ (headWords ≤ length (now head)) × (n ≤ maxNodes) ⌝ }
     ensures { λ r. ⌜ r ≡ goodWorked n (now (head .entry)) ⌝ }
 {
     let counted = head[WORKED] as usize;
@@ -174,13 +127,13 @@ fn good_worked(head: &[u32], n: usize) -> bool
         return false;
     }
     let mut k = 0;
-    while k < MAX_NODES {
-        if !good_entry(head, n, counted, k) {
+    while k < counted {
+        if n <= head[WORKED + 1 + k] as usize {
             return false;
         }
         k += 1;
     }
-    true
+    zeros::all_zero(head, WORKED + 1 + counted, WORKED + 1 + MAX_NODES)
 }
 
 // Whether the areas are of good form for a network with these widths.
@@ -192,7 +145,7 @@ pub fn good_form(
     lost: &[u32],
     head: &[u32],
 ) -> bool
-    requires { ⌜ (n ≤ length (now widths)) × Narrow (now widths)
+    requires { ⌜ (n ≤ length (now widths)) × (n ≤ maxNodes) × Narrow (now widths)
         × (longEnough layout (lent (now rows) (now gained) (now lost) (now head)) ≡ true) ⌝ }
     ensures tells { λ r. ⌜ ((nodes : List Node) →
         take n (now (widths .entry)) ≡ Rattle.model.specs.Network.widths nodes →

@@ -56,7 +56,8 @@ fn held_by_alerts(signs: &[u8], pending: &[u32]) -> bool
 
 // Whether the pending area is of good form, for a network of n nodes with these widths and signs.
 pub fn good_pending(widths: &[usize], n: usize, signs: &[u8], pending: &[u32]) -> bool
-    requires { ⌜ (n ≤ length (now widths)) × Narrow (now widths) × (length (now signs) ≡ maxNodes) ⌝ }
+    requires { ⌜ (n ≤ length (now widths)) × (n ≤ maxNodes) × Narrow (now widths)
+        × (length (now signs) ≡ maxNodes) ⌝ }
     ensures tells { λ r. ⌜ ((net : Network) →
         take n (now (widths .entry)) ≡ Rattle.model.specs.Network.widths (net .nodes) →
         ((i : ℕ) → getD (now (signs .entry)) i 0 ≡ signOf net i) →

@@ -1,4 +1,4 @@
--- A place of good form, checked row by row and then in its unused words. Assumes nothing.
+-- A place of good form: its rows, and its unused words 0. Assumes nothing.
 use mathlib.Core.Bool.{_&&_, Bool, true}
 use mathlib.Core.List.{_++_, List, [], map, _∷_}
 use mathlib.Core.Path.{ap, ap₂, refl, sym, _∙_, _≡_}

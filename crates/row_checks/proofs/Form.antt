@@ -1,6 +1,6 @@
 -- Rows of a width in words of a stride: zeros past the width, field by field, and strictly ascending, row by row. For any width and stride. Assumes nothing.
 use mathlib.Core.Path.{_≡_, refl, sym, ap, ap₂, _∙_}
-use mathlib.Core.Bool.{Bool, true, false, _&&_}
+use mathlib.Core.Bool.{Bool, true, false, _&&_, and-assoc, and-false, and-true}
 use mathlib.Core.List.{List, [], _∷_, _++_, map}
 use Prim.Native.Nat.{ℕ, zero, suc, _+_, _-_, _*_, _≤_, _<_}
 use native.Mathlib.Omega.{arith}
@@ -10,10 +10,11 @@ use lib.Bits.{bitOr}
 use lib.Dec.{eqb}
 use lib.ListN.{length, getD, take, drop, replicate, length-drop, take-append-drop}
 use lib.Seq.{slice, take-add, drop-at, drop-cons, drop-length, length-take-le}
-use Rattle.model.specs.Row.{Row, order, isLess, ascending, Wide}
+use Rattle.model.specs.Row.{Row, order, isLess, ascending, allOf, Wide}
 use Rattle.model.specs.Areas.{fields, allZero, padded}
 use Rattle.laws.proofs.Sets.{and-first, and-second}
-use Rattle.words.proofs.Runs.{and-assoc, and-true, or-none}
+use Rattle.zeros.specs.Zeros.{pairAt}
+use Rattle.zeros.proofs.Zeros.{and-four, or-tells, pair-zero}
 use Rattle.rows.specs.Rows.{rowAt, rowsFrom}
 use Rattle.rows.proofs.Words.{rows-cons, rows-none}
 use Rattle.rows.proofs.Padding.{ascending-padded}
@@ -23,7 +24,33 @@ use Rattle.row_checks.specs.RowChecks.{zeroField, zeroPast, goodRows}
 pub slice-part : (at n : ℕ) (s : List ℕ) → at + n ≤ length s → slice at (at + n) s ≡ take n (drop at s)
 slice-part at n s h = ap (drop at) (take-add at n s) ∙ drop-at (take at s) (take n (drop at s)) at (length-take-le at s (omega arith))
 
--- ---- one field of all rows
+-- ---- a test of every row
+
+module _ (n : ℕ) (s : List ℕ) (count : ℕ) (p : Row → Bool) where
+  -- the bits of the rows before row j, and the rows from there on, decide
+  abbrev pub EachTo : ℕ → ℕ → Type 0
+  EachTo bits j = allOf p (rowsFrom n s 0 count) ≡ (eqb bits 0 && allOf p (rowsFrom n s j (count - j)))
+
+  pub each-none : EachTo 0 0
+  each-none = let e : count - 0 ≡ count = omega arith in rw e
+
+  -- a row's bits tell whether the test holds of it
+  pub each-more : (bits b j : ℕ) → j < count → eqb b 0 ≡ p (rowAt n s j) → EachTo bits j → EachTo (bitOr bits b) (j + 1)
+  each-more bits b j h e z =
+      let rest : Bool = allOf p (rowsFrom n s (j + 1) (count - (j + 1))) in
+      z
+      ∙ rw (rows-cons n s count j h) (sym (and-assoc (eqb bits 0) (p (rowAt n s j)) rest))
+      ∙ ap (λ (t : Bool). t && rest) (sym (or-tells bits b (p (rowAt n s j)) e))
+
+  pub each-all : (bits j : ℕ) → count ≤ j → EachTo bits j → eqb bits 0 ≡ allOf p (rowsFrom n s 0 count)
+  each-all bits j h z = sym (z ∙ rw (rows-none n s count j h) (and-true (eqb bits 0)))
+
+-- two tests of every row are one
+pub all-and : (p q : Row → Bool) (l : List Row) → allOf (λ r. p r && q r) l ≡ (allOf p l && allOf q l)
+all-and p q [] = refl
+all-and p q (r ∷ l) = rw (all-and p q l) (and-four (p r) (q r) (allOf p l) (allOf q l))
+
+-- ---- one field and two
 
 field-at : (w : ℕ) (s : List ℕ) (at c : ℕ) → c < w → getD (fields w s at) c 0 ≡ getD s (at + c) 0
 unfolding fields
@@ -31,45 +58,44 @@ field-at zero s at c h = absurd (not-suc-le-zero h)
 field-at (suc w) s at zero h = rw add-zero
 field-at (suc w) s at (suc c) h = let e : at + suc c ≡ suc at + c = omega arith in rw e (field-at w s (suc at) c (le-of-suc-le-suc h))
 
--- the bits of field c in the rows before row j, and the rows from there on, decide
-abbrev pub FieldTo : ℕ → List ℕ → ℕ → ℕ → ℕ → ℕ → Type 0
-FieldTo n s count c bits j = zeroField c (rowsFrom n s 0 count) ≡ (eqb bits 0 && zeroField c (rowsFrom n s j (count - j)))
+-- field c of a row is 0
+abbrev pub noField : ℕ → Row → Bool
+noField c r = eqb (getD r c 0) 0
 
-module _ (n : ℕ) (s : List ℕ) (count c : ℕ) where
-  pub field-none : FieldTo n s count c 0 0
-  field-none = let e : count - 0 ≡ count = omega arith in rw e
+-- fields c and c + 1 of a row are 0
+abbrev pub noPair : ℕ → Row → Bool
+noPair c r = noField c r && noField (c + 1) r
 
-  pub field-more : (bits j : ℕ) → c < n → j < count → FieldTo n s count c bits j → FieldTo n s count c (bitOr bits (getD s (j * n + c) 0)) (j + 1)
+module _ (n : ℕ) (s : List ℕ) (j c : ℕ) where
+  pub field-is : c < n → eqb (getD s (j * n + c) 0) 0 ≡ noField c (rowAt n s j)
   unfolding rowAt
-  field-more bits j g h z =
-      let rest : Bool = zeroField c (rowsFrom n s (j + 1) (count - (j + 1))) in
-      z
-      ∙ rw (rows-cons n s count j h, field-at n s (j * n) c g) (sym (and-assoc (eqb bits 0) (eqb (getD s (j * n + c) 0) 0) rest))
-      ∙ ap (λ (t : Bool). t && zeroField c (rowsFrom n s (j + 1) (count - (j + 1)))) (sym (or-none bits (getD s (j * n + c) 0)))
+  field-is h = ap (λ (x : ℕ). eqb x 0) (sym (field-at n s (j * n) c h))
 
-  pub field-all : (bits j : ℕ) → count ≤ j → FieldTo n s count c bits j → eqb bits 0 ≡ zeroField c (rowsFrom n s 0 count)
-  field-all bits j h z = sym (z ∙ rw (rows-none n s count j h) (and-true (eqb bits 0)))
+  pub pair-is : (b : ℕ) → c + 2 ≤ n → b ≡ pairAt s (j * n + c) → eqb b 0 ≡ noPair c (rowAt n s j)
+  unfolding rowAt
+  pair-is b h e =
+      let next : j * n + c + 1 ≡ j * n + (c + 1) = omega arith in
+      ap (λ (x : ℕ). eqb x 0) e
+      ∙ pair-zero (getD s (j * n + c) 0) (getD s (j * n + c + 1) 0)
+      ∙ rw (next, field-at n s (j * n) c (omega arith), field-at n s (j * n) (c + 1) (omega arith))
 
 -- ---- the fields past the width
 
-and-four : (a b c d : Bool) → (a && b && (c && d)) ≡ (a && c && (b && d))
-and-four true true c d = refl
-and-four true false true d = refl
-and-four true false false d = refl
-and-four false b c d = refl
-
 module _ (n : ℕ) where
-  past-turn : (c : ℕ) (l : List Row) → Wide n l → c < n → zeroPast c l ≡ (zeroField c l && zeroPast (c + 1) l)
-  past-turn c [] wide h = refl
-  past-turn c (r ∷ l) wide h =
-      rw (drop-cons r c 0 (rw (wide .0) h), past-turn c l (wide .1) h, add-one)
+  -- one field, and those behind it
+  past-one : (c : ℕ) (l : List Row) → Wide n l → c < n → zeroPast c l ≡ (zeroField c l && zeroPast (c + 1) l)
+  past-one c [] wide h = refl
+  past-one c (r ∷ l) wide h =
+      rw (drop-cons r c 0 (rw (wide .0) h), past-one c l (wide .1) h, add-one)
       (and-four (eqb (getD r c 0) 0) (allZero (drop (suc c) r)) (zeroField c l) (zeroPast (suc c) l))
 
-  pub past-more : (w c : ℕ) (l : List Row) → Wide n l → c < n → zeroPast w l ≡ zeroPast c l → true ≡ zeroField c l → zeroPast w l ≡ zeroPast (c + 1) l
-  past-more w c l wide h z e = z ∙ past-turn c l wide h ∙ rw (← e)
-
-  pub past-not : (w c : ℕ) (l : List Row) → Wide n l → c < n → zeroPast w l ≡ zeroPast c l → false ≡ zeroField c l → zeroPast w l ≡ false
-  past-not w c l wide h z e = z ∙ past-turn c l wide h ∙ rw (← e)
+  -- two, and those behind them
+  pub past-two : (c : ℕ) (l : List Row) → Wide n l → c + 2 ≤ n → zeroPast c l ≡ (zeroField c l && zeroField (c + 1) l && zeroPast (c + 2) l)
+  past-two c l wide h =
+      let next : c + 2 ≡ c + 1 + 1 = omega arith in
+      past-one c l wide (omega arith)
+      ∙ ap (λ (t : Bool). zeroField c l && t) (past-one (c + 1) l wide (omega arith) ∙ rw next)
+      ∙ sym (and-assoc (zeroField c l) (zeroField (c + 1) l) (zeroPast (c + 2) l))
 
   none-past : (c : ℕ) (l : List Row) → Wide n l → c ≡ n → zeroPast c l ≡ true
   none-past c [] wide e = refl
@@ -78,8 +104,18 @@ module _ (n : ℕ) where
       let none : drop c r ≡ [] = rw f (drop-length r) in
       rw (none, none-past c l (wide .1) e)
 
+  pub past-last : (w c : ℕ) (l : List Row) → Wide n l → c + 1 ≡ n → zeroPast w l ≡ zeroPast c l → zeroPast w l ≡ zeroField c l
+  past-last w c l wide e z = z ∙ past-one c l wide (omega arith) ∙ rw (none-past (c + 1) l wide e) (and-true (zeroField c l))
+
   pub past-all : (w c : ℕ) (l : List Row) → Wide n l → c ≡ n → zeroPast w l ≡ zeroPast c l → zeroPast w l ≡ true
   past-all w c l wide e z = z ∙ none-past c l wide e
+
+-- fields from c on that are 0, and others
+pub past-more : (w c d : ℕ) (t : Bool) (l : List Row) → zeroPast c l ≡ (t && zeroPast d l) → zeroPast w l ≡ zeroPast c l → t ≡ true → zeroPast w l ≡ zeroPast d l
+past-more w c d t l e z f = z ∙ e ∙ rw f
+
+pub past-not : (w c d : ℕ) (t : Bool) (l : List Row) → zeroPast c l ≡ (t && zeroPast d l) → zeroPast w l ≡ zeroPast c l → t ≡ false → zeroPast w l ≡ false
+past-not w c d t l e z f = z ∙ e ∙ rw f
 
 -- ---- ascending
 
@@ -138,8 +174,4 @@ module _ (n w : ℕ) (narrow : w ≤ n) where
 
   pub good-unclean : (l : List Row) → false ≡ zeroPast w l → goodRows w l ≡ false
   unfolding goodRows
-  good-unclean l z = rw (← z) (go (ascending (map (take w) l)))
-    where
-      go : (a : Bool) → (a && false) ≡ false
-      go true = refl
-      go false = refl
+  good-unclean l z = rw (← z) (and-false (ascending (map (take w) l)))

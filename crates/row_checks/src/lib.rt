@@ -1,5 +1,6 @@
 // Rows of good form: strictly ascending, with zeros past the width.
 ghost use mathlib.Core.Path.{_≡_};
+ghost use mathlib.Core.Bool.{_&&_};
 ghost use Prim.Native.Nat.{_+_, _*_, _<_, _≤_};
 ghost use lib.ListN.{length};
 ghost use Rattle.model.specs.Row.{order, isLess, ascending};
@@ -51,17 +52,35 @@ pub fn zero_field(words: &[u32], n: usize, c: usize) -> bool
     bits == 0
 }
 
-// Whether the first n rows have zeros past the width.
+// Whether fields c and c + 1 are 0 in each of the first n rows: the two are taken as one 64-bit word.
+fn zero_pair(words: &[u32], n: usize, c: usize) -> bool
+    requires { ⌜ (n * stride ≤ length (now words)) × (c + 2 ≤ stride) ⌝ }
+    ensures { λ r. ⌜ r ≡ (zeroField c (firstRows (now (words .entry)) n)
+        && zeroField (c + 1) (firstRows (now (words .entry)) n)) ⌝ }
+{
+    let mut pairs = 0u64;
+    let mut j = 0;
+    while j < n {
+        pairs |= zeros::pair(words, j * STRIDE + c);
+        j += 1;
+    }
+    pairs == 0
+}
+
+// Whether the first n rows have zeros past the width: two fields at a time, down all rows, a field left over by itself.
 fn zero_past(words: &[u32], n: usize, width: usize) -> bool
     requires { ⌜ (n * stride ≤ length (now words)) × (width ≤ stride) ⌝ }
     ensures { λ r. ⌜ r ≡ zeroPast width (firstRows (now (words .entry)) n) ⌝ }
 {
     let mut c = width;
-    while c < STRIDE {
-        if !zero_field(words, n, c) {
+    while c + 2 <= STRIDE {
+        if !zero_pair(words, n, c) {
             return false;
         }
-        c += 1;
+        c += 2;
+    }
+    if c < STRIDE {
+        return zero_field(words, n, c);
     }
     true
 }

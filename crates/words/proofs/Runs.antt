@@ -1,17 +1,15 @@
--- Runs of words: copied, cleared, tested, one word at a time. Assumes nothing.
+-- Runs of words: copied, cleared, compared, one word at a time. Assumes nothing.
 use mathlib.Core.Path.{_≡_, refl, sym, ap, ap₂, _∙_}
-use mathlib.Core.Bool.{Bool, true, false, _&&_}
+use mathlib.Core.Bool.{Bool, true, false, _&&_, and-assoc, and-true}
 use mathlib.Core.List.{List}
 use Prim.Native.Nat.{ℕ, suc, _+_, _-_, _≤_, _<_, compare, Ordering, Ordering·lt, Ordering·eq, Ordering·gt}
 use native.Mathlib.Omega.{arith}
 use native.Mathlib.Numerals.{add-one}
 use lib.Dec.{isEq, eqb}
-use lib.Bits.{bitOr, or-zero-l, or-add-and, and-le-r}
 use lib.ListN.{length, getD, set, drop, replicate, getD-replicate, length-replicate, length-drop}
 use lib.Seq.{paste, paste-suc, slice, slice-cons, slice-empty, getD-drop}
-use borrow.Author.Tests.{eqb-false, eqb-true, ne-eqb}
+use borrow.Author.Tests.{eqb-false, eqb-true}
 use Rattle.model.specs.Row.{order, sameRow, andThen}
-use Rattle.model.specs.Areas.{allZero}
 use Rattle.laws.proofs.Order.{eq-compare, compare-says}
 use Rattle.words.specs.Runs.{sameFirst}
 
@@ -39,41 +37,6 @@ clear-turn d e from to k h g f p =
     ∙ ap₂ (λ (i x : ℕ). set (paste d from z j) i x) (sym at) (sym value)
     ∙ turn
     ∙ ap (λ (n : ℕ). paste d from z n) (sym next)
-
--- ---- all zero
-
-pub and-assoc : (a b c : Bool) → (a && b && c) ≡ (a && (b && c))
-and-assoc true b c = refl
-and-assoc false b c = refl
-
-pub and-true : (a : Bool) → (a && true) ≡ a
-and-true true = refl
-and-true false = refl
-
--- the bits of two words are all 0 where both are
-pub or-none : (a b : ℕ) → eqb (bitOr a b) 0 ≡ (eqb a 0 && eqb b 0)
-or-none a b = go (eqb a 0) refl (eqb b 0) refl
-  where
-    go : (s : Bool) → eqb a 0 ≡ s → (t : Bool) → eqb b 0 ≡ t → eqb (bitOr a b) 0 ≡ (s && t)
-    go true e t f = ap (λ (x : ℕ). eqb (bitOr x b) 0) (eqb-true a 0 e) ∙ ap (λ (x : ℕ). eqb x 0) (or-zero-l b) ∙ f
-    go false e t f = ne-eqb (bitOr a b) 0 (λ z. eqb-false a 0 e (omega (arith, z, or-add-and a b, and-le-r a b)))
-
--- the bits of the words before index k and the words from there on decide
-abbrev pub ZeroTo : List ℕ → ℕ → ℕ → ℕ → ℕ → Type 0
-ZeroTo s from to bits k = allZero (slice from to s) ≡ (eqb bits 0 && allZero (slice k to s))
-
-pub zero-more : (s : List ℕ) (from to bits k : ℕ) → k < to → to ≤ length s → ZeroTo s from to bits k → ZeroTo s from to (bitOr bits (getD s k 0)) (k + 1)
-zero-more s from to bits k h g z =
-    let first : allZero (slice k to s) ≡ (eqb (getD s k 0) 0 && allZero (slice (k + 1) to s)) = rw (add-one, slice-cons k to s 0 h g) in
-    z
-    ∙ ap (λ (t : Bool). eqb bits 0 && t) first
-    ∙ sym (and-assoc (eqb bits 0) (eqb (getD s k 0) 0) (allZero (slice (k + 1) to s)))
-    ∙ ap (λ (t : Bool). t && allZero (slice (k + 1) to s)) (sym (or-none bits (getD s k 0)))
-
-pub zero-all : (s : List ℕ) (from to bits k : ℕ) → k ≡ to → ZeroTo s from to bits k → eqb bits 0 ≡ allZero (slice from to s)
-zero-all s from to bits k e z =
-    let none : allZero (slice k to s) ≡ true = rw (e, slice-empty to s) in
-    sym (z ∙ ap (λ (t : Bool). eqb bits 0 && t) none ∙ and-true (eqb bits 0))
 
 -- ---- the same words
 

@@ -1,10 +1,9 @@
-// Runs of words in a slice: copied, cleared, tested.
+// Runs of words in a slice: copied, cleared, compared.
 ghost use mathlib.Core.Path.{_≡_};
-ghost use mathlib.Core.Bool.{true, false};
+ghost use mathlib.Core.Bool.{true};
 ghost use Prim.Native.Nat.{_+_, _-_, _≤_};
 ghost use lib.ListN.{length, drop, replicate};
-ghost use lib.Seq.{paste, slice};
-ghost use Rattle.model.specs.Areas.{allZero};
+ghost use lib.Seq.{paste};
 ghost use Rattle.words.specs.Runs.{sameFirst};
 
 // The words of src from index from on, count of them, written to dst from index to on.
@@ -29,20 +28,6 @@ pub fn clear_run(words: &mut [u32], from: usize, to: usize)
         words[k] = 0;
         k += 1;
     }
-}
-
-// Whether the words from index from up to index to are all 0: their bits are gathered, with no test at each word.
-pub fn all_zero(words: &[u32], from: usize, to: usize) -> bool
-    requires { ⌜ (from ≤ to) × (to ≤ length (now words)) ⌝ }
-    ensures { λ r. ⌜ r ≡ allZero (slice from to (now (words .entry))) ⌝ }
-{
-    let mut bits = 0u32;
-    let mut k = from;
-    while k < to {
-        bits |= words[k];
-        k += 1;
-    }
-    bits == 0
 }
 
 // Whether the first count words of a and of b are the same, with no test at each word.

@@ -1,4 +1,5 @@
-//! The bench: what it says to wrong words and wrong files, that it times and counts a small folder, and that it times folding and taking.
+//! The bench: what it says to wrong words and wrong files, that it times and counts a small folder, that it times
+//! folding and taking, and the check of areas just opened.
 //!
 //! Where programs are compiled for more than SSE2, the bench refuses to measure, and nothing is tested.
 #![cfg(not(target_feature = "avx"))]
@@ -38,7 +39,7 @@ const MARK: [u8; 4] = [4, 0, 34, 0];
 #[test]
 fn help_names_every_option() {
     let help = out(&bench(&["--help"]));
-    for option in ["--count", "--growth", "--alerts", "--apply", "FOLDER"] {
+    for option in ["--count", "--growth", "--alerts", "--opened", "--apply", "FOLDER"] {
         assert!(help.contains(option), "{help}");
     }
 }
@@ -50,6 +51,10 @@ fn wrong_words_are_told() {
     refuses(&["--growth", "no/such/folder/plot.svg"], "there is no folder no/such/folder");
     refuses(&["--alerts", "some"], "stands alone: bench --alerts");
     refuses(&["--count", "--alerts"], "stands alone: bench --alerts");
+    refuses(&["--opened", "some"], "stands alone: bench --opened");
+    refuses(&["--count", "--opened"], "stands alone: bench --opened");
+    refuses(&["--opened", "1", "fold", "1"], "bench --opened 100 report 32");
+    refuses(&["--opened", "1", "check", "12"], "bench --opened 100 report 32");
     refuses(&["--apply", "x", "some"], "'x' is not a number of batches");
     refuses(&["--apply", "1"], "--apply 100 FOLDER");
     refuses(&["no/such"], "name folders with network.bin and batch.bin");
@@ -91,6 +96,21 @@ fn folding_and_taking_are_timed() {
         let numbers: Vec<f64> = line[name.len()..].split_whitespace().filter_map(|word| word.parse().ok()).collect();
         let [call, scan, scans] = numbers[..] else { panic!("{said}") };
         assert!(call > 0.0 && scan > 0.0 && (scans - call / scan).abs() < 0.01 + 0.01 * scans, "{said}");
+    }
+}
+
+#[test]
+fn areas_just_opened_are_timed_and_counted() {
+    let ran = bench(&["--opened"]);
+    let said = out(&ran);
+    assert!(ran.status.success() && said.lines().count() >= 5, "{said}");
+    for (line, name) in said.lines().skip(1).zip(["report     1", "report    32", "check      1", "check     32"]) {
+        assert!(line.starts_with(name), "{said}");
+        let numbers: Vec<f64> = line[name.len()..].split_whitespace().filter_map(|word| word.parse().ok()).collect();
+        let [call, scan, scans, ref instructions @ ..] = numbers[..] else { panic!("{said}") };
+        assert!(call > 0.0 && scan > 0.0 && (scans - call / scan).abs() < 0.01 + 0.01 * scans, "{said}");
+        // Every pair of the 24,738 words takes an instruction at least.
+        assert!(matches!(instructions, [n] if *n > 12_369.0) || said.contains("no valgrind"), "{said}");
     }
 }
 

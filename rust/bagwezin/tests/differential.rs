@@ -336,6 +336,94 @@ fn the_library_gives_what_the_model_gives() {
     seeds(50, round);
 }
 
+/// Stations on a table of width 3, and on 32 of widths 1 to 4: just opened; with rows in some tables, so that runs of
+/// unused words go over several places; and after some of these are gone.
+fn stations() -> Vec<(Vec<u8>, Station)> {
+    let mut all = Vec::new();
+    for (nodes, every) in [(1, 1), (32, 4)] {
+        let bytes: Vec<u8> = (0..nodes).flat_map(|i| record(1, &[1 + (i + 2) % 4])).collect();
+        let net = Network::read(&bytes).unwrap();
+        let mut station = Station::open(&net);
+        let mut states = vec![(bytes.clone(), station.clone())];
+        for (put, count) in [(true, 3), (true, 64), (false, 2)] {
+            for node in (0..nodes).filter(|node| node % 5 != 1 && (count < 64 || node % 7 == 0)) {
+                let events = (0..(count + node as u32 % 3).min(64))
+                    .flat_map(|x| event(put, node, &vec![x + 1; net.widths[node]]))
+                    .collect::<Vec<u8>>();
+                assert_eq!(station.apply(&events), (0, 0));
+                states.push((bytes.clone(), station.clone()));
+            }
+        }
+        all.extend(states.into_iter().step_by(every));
+    }
+    all
+}
+
+/// The indices of an area's words that are in no row, by the nodes' widths and their counts.
+fn unused(net: &Network, counts: &[u32]) -> Vec<usize> {
+    let is_unused = |at: &usize| {
+        let (node, row, field) = (at / 256, at % 256 / 4, at % 4);
+        node >= net.nodes.len() || row >= counts[node] as usize || field >= net.widths[node]
+    };
+    (0..AREA).filter(is_unused).collect()
+}
+
+/// Each of these words, which are 0, is set to 1 and to 2^31, one at a time, judged, and put back.
+fn each_alone(words: &mut [u32], indices: &[usize], mut judge: impl FnMut(&mut [u32], usize)) {
+    for &at in indices {
+        for value in [1, 1 << 31] {
+            words[at] = value;
+            judge(words, at);
+            words[at] = 0;
+        }
+    }
+}
+
+#[test]
+fn an_unused_word_that_is_not_0_is_refused_by_8() {
+    for (bytes, station) in stations() {
+        let (net, mut a) = (&station.net, station.areas());
+        let n = net.nodes.len();
+        assert_eq!(outcome(check(&bytes, &a)), Ok(1));
+        let (rows, gained, lost) = (unused(net, &a.head[1..]), unused(net, &a.head[65..]), unused(net, &a.head[97..]));
+        let refused = |answer, area: &str, at| assert_eq!(verdict(answer), (8, 0), "{n} nodes, {area}, word {at}");
+        each_alone(&mut a.rows, &rows, |words, at| {
+            refused(raw::check(&bytes, words, &a.gained, &a.lost, &a.head), "rows", at)
+        });
+        each_alone(&mut a.gained, &gained, |words, at| {
+            refused(raw::check(&bytes, &a.rows, words, &a.lost, &a.head), "gained", at)
+        });
+        each_alone(&mut a.lost, &lost, |words, at| {
+            refused(raw::check(&bytes, &a.rows, &a.gained, words, &a.head), "lost", at)
+        });
+        let lists = [1 + n..33, 33 + n..65, 65 + n..97, 97 + n..129, 130 + a.head[129] as usize..162];
+        let head: Vec<usize> = lists.into_iter().flatten().collect();
+        each_alone(&mut a.head, &head, |words, at| {
+            refused(raw::check(&bytes, &a.rows, &a.gained, &a.lost, words), "head", at)
+        });
+        assert_eq!(outcome(check(&bytes, &a)), Ok(1));
+    }
+}
+
+#[test]
+fn an_unused_word_of_the_pending_area_that_is_not_0_is_refused_by_17() {
+    for (tables, station) in stations() {
+        let n = station.net.nodes.len();
+        let watches: Vec<u8> = (0..n).flat_map(|node| record(9, &[node, 1 + node % 3, node % 10])).collect();
+        let bytes = [tables, watches].concat();
+        let (a, mut pending) = (station.areas(), vec![0; PENDING]);
+        assert_eq!(verdict(raw::fold(&bytes, &a.rows, &a.gained, &a.lost, &a.head, &mut pending)), (0, 0));
+        let indices: Vec<usize> = unused(&station.net, &pending[AREA..]).into_iter().chain(AREA + n..PENDING).collect();
+        let before = pending.clone();
+        each_alone(&mut pending, &indices, |words, at| {
+            let mut row = [7; FIELDS];
+            let taken = raw::take(&bytes, &a.rows, &a.gained, &a.lost, &a.head, words, &mut row);
+            assert_eq!((verdict(taken), row), ((17, 0), [7; FIELDS]), "{n} nodes, word {at}");
+        });
+        assert!(pending == before, "a refusal wrote");
+    }
+}
+
 #[test]
 fn the_last_batch_number_is_refused_by_9() {
     let bytes = record(1, &[1]);

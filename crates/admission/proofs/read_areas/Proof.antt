@@ -47,6 +47,7 @@ good-form-requires c κs =
     let long = read .before .before in
     let b = read .read-network .ensures .built in (
       omega (arith, b .sound .few, b .widths-length),
+      omega (arith, b .sound .few),
       b .narrow,
       sym (long .long-enough .ensures) ∙ not-false (long .long-enough .result) (read .before .if1 .left),
     )

@@ -12,8 +12,8 @@ good-area-requires : tie.Need-good-area-requires
 good-area-requires c κs =
     let s = c .before .before .before .before .before in
     let a = s .args in
-    let long = long-parts (a .rows .now) (a .gained .now) (a .lost .now) (a .head .now) (s .pre .2) in
-    (long .0, s .pre .0, s .pre .1, omega (arith, long .3))
+    let long = long-parts (a .rows .now) (a .gained .now) (a .lost .now) (a .head .now) (s .pre .3) in
+    (long .0, s .pre .0, s .pre .1, s .pre .2, omega (arith, long .3))
 
 returns : tie.Need-returns
 returns c =
@@ -26,8 +26,8 @@ good-area-requires-2 : tie.Need-good-area-requires-2
 good-area-requires-2 c κs =
     let s = c .before .before .before .before .before .before .before in
     let a = s .args in
-    let long = long-parts (a .rows .now) (a .gained .now) (a .lost .now) (a .head .now) (s .pre .2) in
-    (long .1, s .pre .0, s .pre .1, omega (arith, long .3))
+    let long = long-parts (a .rows .now) (a .gained .now) (a .lost .now) (a .head .now) (s .pre .3) in
+    (long .1, s .pre .0, s .pre .1, s .pre .2, omega (arith, long .3))
 
 returns-2 : tie.Need-returns-2
 returns-2 c =
@@ -41,8 +41,8 @@ good-area-requires-3 : tie.Need-good-area-requires-3
 good-area-requires-3 c κs =
     let s = c .before .before .before .before .before .before .before .before .before in
     let a = s .args in
-    let long = long-parts (a .rows .now) (a .gained .now) (a .lost .now) (a .head .now) (s .pre .2) in
-    (long .2, s .pre .0, s .pre .1, omega (arith, long .3))
+    let long = long-parts (a .rows .now) (a .gained .now) (a .lost .now) (a .head .now) (s .pre .3) in
+    (long .2, s .pre .0, s .pre .1, s .pre .2, omega (arith, long .3))
 
 returns-3 : tie.Need-returns-3
 returns-3 c =
@@ -57,8 +57,8 @@ good-stamps-requires : tie.Need-good-stamps-requires
 good-stamps-requires c κs =
     let s = c .before .before .before .before .before .before .before .before .before .before .before in
     let a = s .args in
-    let long = long-parts (a .rows .now) (a .gained .now) (a .lost .now) (a .head .now) (s .pre .2) in
-    long .3
+    let long = long-parts (a .rows .now) (a .gained .now) (a .lost .now) (a .head .now) (s .pre .3) in
+    (long .3, s .pre .1)
 
 returns-4 : tie.Need-returns-4
 returns-4 c =
@@ -75,8 +75,8 @@ good-worked-requires : tie.Need-good-worked-requires
 good-worked-requires c κs =
     let s = c .before .before .before .before .before .before .before .before .before .before .before .before .before in
     let a = s .args in
-    let long = long-parts (a .rows .now) (a .gained .now) (a .lost .now) (a .head .now) (s .pre .2) in
-    long .3
+    let long = long-parts (a .rows .now) (a .gained .now) (a .lost .now) (a .head .now) (s .pre .3) in
+    (long .3, s .pre .1)
 
 returns-5 : tie.Need-returns-5
 returns-5 c =

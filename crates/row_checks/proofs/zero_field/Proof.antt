@@ -1,20 +1,21 @@
-use Prim.Native.Nat.{_≤_, _-_}
+use Prim.Native.Nat.{_≤_, _-_, _+_, _*_}
+use lib.ListN.{getD}
 use native.Mathlib.Omega.{arith}
 use Rattle.model.specs.Areas.{stride}
-use Rattle.row_checks.proofs.Form.{FieldTo, field-none, field-more, field-all}
+use Rattle.row_checks.proofs.Form.{EachTo, each-none, each-more, each-all, noField, field-is}
 use Rattle.row_checks.proofs.zero_field.Statement.{statement}
 use Rattle.row_checks.proofs.zero_field.Tie as tie
 use Rattle.row_checks.proofs.zero_field.Reads as reads
 use Rattle.row_checks.proofs.zero_field.Lts as lts
 
 abbrev Inv-loop : tie.InvT-loop
-Inv-loop words n c bits₀ j₀ bits j = (j ≤ n) × FieldTo stride words n c bits j
+Inv-loop words n c bits₀ j₀ bits j = (j ≤ n) × EachTo stride words n (noField c) bits j
 
 abbrev μ-loop : tie.MeasureT-loop
 μ-loop words n c bits₀ j₀ bits j = n - j
 
 loop-holds : tie.Need-loop-holds Inv-loop μ-loop
-loop-holds c = (omega arith, field-none stride _ _ (c .args .c))
+loop-holds c = (omega arith, each-none stride (c .args .words .now) (c .args .n) (noField (c .args .c)))
 
 mul-bits : tie.Need-mul-bits Inv-loop μ-loop
 mul-bits c = omega arith
@@ -37,14 +38,17 @@ loop-less c = omega arith
 loop-again : tie.Need-loop-again Inv-loop μ-loop
 loop-again c =
     let at = c .before .before in
-    let a = at .before .args in
-    (omega arith, field-more stride (a .words .now) (a .n) (a .c) (at .loop .bits) (at .loop .j) (omega arith) (omega arith) (at .loop .inv .1))
+    let a = at .before .args in (
+      omega arith,
+      each-more stride (a .words .now) (a .n) (noField (a .c)) (at .loop .bits) (getD (a .words .now) (at .loop .j * stride + a .c) 0) (at .loop .j) (omega arith)
+          (field-is stride (a .words .now) (at .loop .j) (a .c) (omega arith)) (at .loop .inv .1),
+    )
 
 returns : tie.Need-returns Inv-loop μ-loop
 returns c =
     let at = c .before in
     let a = at .before .args in
-    field-all stride (a .words .now) (a .n) (a .c) (at .loop .bits) (at .loop .j) (omega arith) (at .loop .inv .1)
+    each-all stride (a .words .now) (a .n) (noField (a .c)) (at .loop .bits) (at .loop .j) (omega arith) (at .loop .inv .1)
 
 pub zero-field-spec : {M : Type 1} → statement M
 zero-field-spec =

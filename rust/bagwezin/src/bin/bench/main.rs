@@ -1,4 +1,5 @@
-//! The time of a batch, in one run: the library, the independent model's full evaluation, and one scan of the areas. And that of folding and taking.
+//! The time of a batch, in one run: the library, the independent model's full evaluation, and one scan of the areas.
+//! And that of folding and taking, and of the check of areas just opened.
 //!
 //! `cargo run --release --bin bench` times the five workloads of `workloads`; `options::USAGE` has the rest.
 //! docs/PERFORMANCE.md says what the columns mean.
@@ -11,6 +12,7 @@ mod growth;
 #[path = "../../../tests/model/mod.rs"]
 mod model;
 mod networks;
+mod opened;
 mod options;
 mod plot;
 mod scan;
@@ -54,6 +56,8 @@ fn run(words: &[String]) -> Result<(), String> {
         }
         Task::Apply(most, folder) => count::apply(&Workload::of_folder(&folder)?, most),
         Task::Alerts => scan::is_sse2().and_then(|()| alerts::table()),
+        Task::Opened => scan::is_sse2().and_then(|()| opened::table()),
+        Task::Call(most, call, nodes) => opened::run(most, call, nodes),
         Task::Measure(options) => measure(&options),
     }
 }

@@ -1,11 +1,15 @@
 //! What the program was asked for.
 use std::path::Path;
 
+use crate::opened::{Call, NODES};
+
 pub const USAGE: &str = "\
 usage: bench [--count] [FOLDER...]
        bench [--count] --growth [FILE.svg]
        bench --alerts
+       bench --opened
        bench --apply N FOLDER
+       bench --opened N CALL NODES
 
 Times a batch: the library, the independent model, and one scan of the areas, in microseconds and in scans.
 
@@ -13,8 +17,12 @@ Times a batch: the library, the independent model, and one scan of the areas, in
                        without any, the five workloads that the program makes itself
   --growth [FILE.svg]  the time by events a batch, nodes and rows a table; and a plot of it, if a file is named
   --alerts             instead the time of folding and of taking, in nanoseconds and in scans of the pending area
+  --opened             instead the check of areas just opened, by a report and by the coherence check, on networks of 1
+                       and of 32 nodes: nanoseconds, scans of the areas, instructions
   --count              also instructions and mispredicted branches a batch, by valgrind; takes a minute
   --apply N FOLDER     only opens and applies the first N batches, as --count does under valgrind
+  --opened N CALL NODES
+                       only opens and makes N calls, report or check, as --opened does under valgrind
   --help               this text
 ";
 
@@ -33,6 +41,10 @@ pub enum Task {
     Apply(usize, String),
     /// Folding and taking.
     Alerts,
+    /// The check of areas just opened.
+    Opened,
+    /// So many calls on areas just opened, of a network of so many nodes.
+    Call(usize, Call, usize),
     Measure(Options),
 }
 
@@ -49,6 +61,9 @@ pub fn read(words: &[String]) -> Result<Task, String> {
             [_] => Ok(Task::Alerts),
             _ => Err("--alerts makes its own workloads, and stands alone: bench --alerts".into()),
         };
+    }
+    if words.iter().any(|word| word == "--opened") {
+        return opened(words);
     }
     let mut options = Options::default();
     let mut rest = words.iter().peekable();
@@ -71,6 +86,18 @@ fn apply(words: &[String]) -> Result<Task, String> {
     match most.parse() {
         Ok(most) => Ok(Task::Apply(most, folder.clone())),
         Err(_) => Err(format!("'{most}' is not a number of batches: --apply 100 FOLDER")),
+    }
+}
+
+fn opened(words: &[String]) -> Result<Task, String> {
+    let words: Vec<&str> = words.iter().map(String::as_str).collect();
+    match words[..] {
+        ["--opened"] => Ok(Task::Opened),
+        ["--opened", most, call, nodes] => match (most.parse(), Call::of_name(call), nodes.parse()) {
+            (Ok(most), Some(call), Ok(nodes)) if NODES.contains(&nodes) => Ok(Task::Call(most, call, nodes)),
+            _ => Err("a number, report or check, and 1 or 32 nodes: bench --opened 100 report 32".into()),
+        },
+        _ => Err("--opened makes its own networks, and stands alone: bench --opened".into()),
     }
 }
 
