@@ -1,4 +1,7 @@
 // The checks that every call on opened areas makes first: refusals 1 to 8.
+
+#![tactic(auto)]
+
 ghost use Rattle.areas.specs.Lent.{lent};
 ghost use Rattle.admission.specs.Admission.{Admits};
 

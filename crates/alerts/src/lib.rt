@@ -1,1 +1,3 @@
 // The theorem about alerts over lists of calls: proofs alone.
+
+#![tactic(auto)]

@@ -1,4 +1,7 @@
 // A batch applied: refusals 1 to 14, or the next state.
+
+#![tactic(auto)]
+
 ghost use Rattle.model.specs.Calls.{Applied};
 ghost use Rattle.network.specs.Reading.{result_with};
 ghost use Rattle.areas.specs.Lent.{lent};

@@ -1,4 +1,7 @@
 // The C interface: each function is one call of the monitor.
+
+#![tactic(auto)]
+
 ghost use Rattle.std.specs.Prelude.{◌≡◌};
 ghost use Rattle.model.specs.Calls.{open_call, check_call, report_call, fold_call};
 ghost use Rattle.areas.specs.Lent.{lent};

@@ -1,4 +1,7 @@
 // A batch on areas of good form: refusals 9 to 14, or the next state.
+
+#![tactic(auto)]
+
 ghost use Rattle.areas.specs.Lent.{lent};
 ghost use Rattle.network.specs.Reading.{result_with};
 ghost use Rattle.batch.specs.Applying.{Applicable, AppliedTo, Unrefused};

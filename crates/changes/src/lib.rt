@@ -1,4 +1,7 @@
 // An accepted batch's rows written: each node's new rows, and the rows that it gained and lost.
+
+#![tactic(auto)]
+
 ghost use Rattle.std.specs.Prelude.{◌≡◌, false, cond, ℕ, ◌+◌, ◌*◌, ◌≤◌, ◌<◌, length, get_or, take, drop};
 ghost use Rattle.model.specs.Row.{Relation, Wide, max_nodes, max_rows};
 ghost use Rattle.model.specs.Areas.{area_size, row_count};

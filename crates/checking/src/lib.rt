@@ -1,11 +1,14 @@
 // The coherence check: refusals 1 to 8, or yes or no.
+
+#![tactic(auto)]
+
 ghost use Rattle.std.specs.Prelude.{◌≡◌};
 ghost use Rattle.model.specs.Calls.{check_call};
 ghost use Rattle.areas.specs.Lent.{lent};
 ghost use Rattle.checking.specs.Answer.{check_answer_of};
 
 // A verdict, and whether the areas are coherent (no beside a refusal).
-#[derive(Drop)]
+#[derive(Clone, Copy)]
 pub struct CheckAnswer {
     pub number: usize,
     pub place: usize,

@@ -1,4 +1,7 @@
 // Coherence: each derived node's rows in the areas are what its kind gives from its inputs' rows.
+
+#![tactic(auto)]
+
 ghost use Rattle.std.specs.Prelude.{◌≡◌, true, false, ◌+◌, ◌≤◌, ◌<◌, length, get_or};
 ghost use Rattle.model.specs.Row.{same_rows, max_nodes};
 ghost use Rattle.model.specs.Network.{is_table};

@@ -1,4 +1,7 @@
 // Rows made of columns of rows: what projections and joins make their rows with.
+
+#![tactic(auto)]
+
 ghost use Rattle.std.specs.Prelude.{◌≡◌, true, ◌+◌, ◌*◌, ◌≤◌, length, take};
 ghost use Rattle.model.specs.Row.{max_width};
 ghost use Rattle.model.specs.Network.{columns_below};

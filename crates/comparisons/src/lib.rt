@@ -1,4 +1,7 @@
 // Comparisons of two fields, by their codes.
+
+#![tactic(auto)]
+
 ghost use Rattle.std.specs.Prelude.{◌≡◌, ◌<◌};
 ghost use Rattle.model.specs.Algebra.{holds_of, compare_fields};
 ghost use Rattle.rows.specs.Rows.{order_of};

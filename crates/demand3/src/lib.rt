@@ -1,1 +1,3 @@
 // The theorem of demand 3: proofs alone.
+
+#![tactic(auto)]

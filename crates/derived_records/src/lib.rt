@@ -1,4 +1,7 @@
 // The records of derived nodes: rules 6 and 7 on each, by its kind.
+
+#![tactic(auto)]
+
 ghost use Rattle.std.specs.Prelude.{◌≡◌, false, ◌+◌, ◌*◌, ◌≤◌, length, take};
 ghost use Rattle.model.specs.Network.{columns_below, pairs_below, pairs_at, counted_shape, join_shape};
 ghost use Rattle.model.specs.Record.{fields_at, is_broken, kind_at};

@@ -1,4 +1,7 @@
 // Two places of rows compared once: the numbers of the rows that came and of those that went, and rows copied by them.
+
+#![tactic(auto)]
+
 ghost use Rattle.std.specs.Prelude.{◌≡◌, true, ◌+◌, ◌*◌, ◌≤◌, length, take, drop};
 ghost use Rattle.std.proofs.Math.Seq.{paste};
 ghost use Rattle.std.proofs.lemmas.List.Edits.{sets};
@@ -10,7 +13,7 @@ ghost use Rattle.differences.specs.Differences.{chosen, picks_size, Compares, Wi
 use rows::{MAX_ROWS, Order, STRIDE};
 
 // How many rows a node gained and lost.
-#[derive(Drop)]
+#[derive(Clone, Copy)]
 pub struct Sizes {
     pub gained: usize,
     pub lost: usize,

@@ -1,4 +1,7 @@
 // A derived node's rows from those of its inputs.
+
+#![tactic(auto)]
+
 ghost use Rattle.std.specs.Prelude.{◌≡◌, true};
 ghost use Rattle.model.specs.Network.{evaluate_set, left_of, right_of, evaluate_on, fits_on};
 ghost use Rattle.nodes.specs.Nodes.{operation_of};
@@ -11,14 +14,14 @@ use nodes::{Node, SetOperation};
 use places::Made;
 
 // The width of the rows of a place, and how many there are.
-#[derive(Drop)]
+#[derive(Clone, Copy)]
 pub struct Held {
     pub width: usize,
     pub count: usize,
 }
 
 // A node's first and its last input.
-#[derive(Drop)]
+#[derive(Clone, Copy)]
 pub struct Inputs {
     pub left: usize,
     pub right: usize,

@@ -1,4 +1,7 @@
 // Batches read from bytes: refusals 10 to 13.
+
+#![tactic(auto)]
+
 ghost use Rattle.std.specs.Prelude.{◌≡◌, true, false, ◌+◌, ◌*◌, ◌≤◌, ◌<◌, length};
 ghost use Rattle.model.specs.Record.{is_broken};
 ghost use Rattle.model.specs.Batch.{is_event_kind, event_fits_by, read_batch};
@@ -43,7 +46,7 @@ fn is_event(kind: usize) -> bool
 }
 
 // What reading a batch's record gives: an event of so many bytes, or the first rule that it breaks.
-#[derive(Drop)]
+#[derive(Clone, Copy)]
 pub enum EventRecord {
     Event(usize),
     Broken,

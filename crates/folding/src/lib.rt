@@ -1,4 +1,7 @@
 // Folding: refusals 1 to 8 and 17, or each node's gained and lost rows folded into the pending area.
+
+#![tactic(auto)]
+
 ghost use Rattle.std.specs.Prelude.{◌≡◌, [], ℕ, ◌≤◌, ◌<◌, leb, length, get_or};
 ghost use Rattle.model.specs.Network as model;
 ghost use Rattle.model.specs.Row.{max_nodes, max_rows, all_of};

@@ -1,4 +1,7 @@
 // A row put among the rows of a relation, and a row taken out of them, in their words.
+
+#![tactic(auto)]
+
 ghost use Rattle.std.specs.Prelude.{◌≡◌, true, ◌++◌, ◌+◌, ◌*◌, ◌-◌, ◌≤◌, length, take, drop};
 ghost use Rattle.std.proofs.Math.Seq.{slice};
 ghost use Rattle.model.specs.Row.{ascending};
@@ -9,7 +12,7 @@ ghost use Rattle.insertions.specs.Insertions.{Inserts, Removes};
 use rows::{Found, Order, STRIDE};
 
 // What inserting found.
-#[derive(Drop)]
+#[derive(Clone, Copy)]
 pub enum Inserted {
     New,
     Present,

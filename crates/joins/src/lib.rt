@@ -1,4 +1,7 @@
 // Join (kind 5) on places.
+
+#![tactic(auto)]
+
 ghost use Rattle.std.specs.Prelude.{◌≡◌, true, ℕ, ◌+◌, ◌*◌, ◌≤◌, length, take};
 ghost use Rattle.model.specs.Row.{ascending, max_rows};
 ghost use Rattle.model.specs.Algebra.{join_rows};

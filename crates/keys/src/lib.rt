@@ -1,5 +1,8 @@
 // Keys of rows: what a row holds in the columns of a join's pairs, as one number. Rows agree exactly where their keys
 // are equal.
+
+#![tactic(auto)]
+
 ghost use Rattle.std.specs.Prelude.{◌≡◌, true, ◌+◌, ◌*◌, ◌≤◌, ◌<◌, length, get_or, replicate};
 ghost use Rattle.model.specs.Row.{max_rows};
 ghost use Rattle.model.specs.Network.{pairs_below, max_pairs};

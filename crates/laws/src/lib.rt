@@ -1,1 +1,3 @@
 // Laws of the definitions, as proofs alone: there is no code here.
+
+#![tactic(auto)]

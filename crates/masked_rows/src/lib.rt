@@ -1,4 +1,7 @@
 // Masked rows in no order, with most equal rows once: what a join looks at of a side.
+
+#![tactic(auto)]
+
 ghost use Rattle.std.specs.Prelude.{◌≡◌, true, ◌&&◌, ◌+◌, ◌*◌, ◌≤◌, ltb, length, take};
 ghost use Rattle.model.specs.Row.{max_rows, same_row};
 ghost use Rattle.model.specs.Network.{columns_below};

@@ -1,4 +1,7 @@
 // Masks: the columns that a join uses of a side, and whether a mask changes any row.
+
+#![tactic(auto)]
+
 ghost use Rattle.std.specs.Prelude.{◌≡◌, true, ◌+◌, ◌*◌, ◌≤◌, ◌<◌, length, take};
 ghost use Rattle.model.specs.Network.{pairs_below};
 ghost use Rattle.model.specs.Areas.{stride};
@@ -14,7 +17,7 @@ use rows::STRIDE;
 const MASKED: u16 = STRIDE as u16;
 
 // A join: the left rows' width, its pairs' columns, left and right in turn, and the columns that it gives.
-#[derive(Drop)]
+#[derive(Clone, Copy)]
 pub struct Joining {
     pub split: usize,
     pub p: usize,

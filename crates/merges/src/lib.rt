@@ -1,4 +1,7 @@
 // One pass over two places: how the next rows compare, and rows written behind those of a place.
+
+#![tactic(auto)]
+
 ghost use Rattle.std.specs.Prelude.{◌≡◌, ◌+◌, ◌*◌, ◌-◌, ◌≤◌, length};
 ghost use Rattle.model.specs.Row.{max_rows};
 ghost use Rattle.model.specs.Areas.{stride};

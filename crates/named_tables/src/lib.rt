@@ -1,4 +1,7 @@
 // The tables that a batch's events name.
+
+#![tactic(auto)]
+
 ghost use Rattle.std.specs.Prelude.{◌≡◌, false, replicate};
 ghost use Rattle.model.specs.Row.{max_nodes};
 ghost use Rattle.model.specs.Record.{offsets};

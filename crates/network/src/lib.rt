@@ -1,4 +1,7 @@
 // Networks read from bytes: refusals 2 to 7.
+
+#![tactic(auto)]
+
 ghost use Rattle.std.specs.Prelude.{◌≡◌, ℕ, ◌+◌, ◌*◌, ◌≤◌, ◌<◌, max, length, get_or};
 ghost use Rattle.model.specs.Network.{no_network, refused_reading, max_pairs};
 ghost use Rattle.model.specs.Record.{fields_at};
@@ -14,7 +17,7 @@ use rows::{MAX_NODES, MAX_WIDTH};
 use verdicts::Verdict;
 
 // A node with its columns, and its pairs as left and right columns in turn.
-#[derive(Drop)]
+#[derive(Clone, Copy)]
 pub struct Slot {
     pub node: Node,
     pub columns: [u16; MAX_WIDTH],
@@ -23,7 +26,7 @@ pub struct Slot {
 
 // The nodes in order of their records, with each node's width and level, and its watch's sign (0: no watch) and
 // priority.
-#[derive(Drop)]
+#[derive(Clone, Copy)]
 pub struct Network {
     pub count: usize,
     pub slots: [Slot; MAX_NODES],
@@ -34,7 +37,7 @@ pub struct Network {
 }
 
 // The verdict, and the network where it is accepted.
-#[derive(Drop)]
+#[derive(Clone, Copy)]
 pub struct Reading {
     pub verdict: Verdict,
     pub network: Network,

@@ -1,4 +1,7 @@
 // A node's rows after a batch, in an empty place: a table's by its events, a derived node's from its inputs' rows.
+
+#![tactic(auto)]
+
 ghost use Rattle.std.specs.Prelude.{◌≡◌, true, cond, ◌≤◌, ◌<◌, length, get_or};
 ghost use Rattle.model.specs.Record.{offsets};
 ghost use Rattle.places.specs.Places.{Place, Blank, relation_in, Makes};

@@ -1,4 +1,7 @@
 // The records of a network: rules 3 to 7 on each, by its kind.
+
+#![tactic(auto)]
+
 ghost use Rattle.std.specs.Prelude.{◌≡◌, false, List, ℕ, ◌≤◌, length, take};
 ghost use Rattle.model.specs.Record.{is_broken};
 ghost use Rattle.model.specs.Network.{watch_shape, priority_at};

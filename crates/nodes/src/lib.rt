@@ -1,4 +1,7 @@
 // Nodes, what a record brings, and what goes by a node's kind but for its rows.
+
+#![tactic(auto)]
+
 ghost use Rattle.std.specs.Prelude.{◌≡◌, true};
 ghost use Rattle.nodes.specs.Nodes.{select_kind, set_kind, PartsAre, number_of};
 
@@ -6,14 +9,14 @@ ghost use Rattle.nodes.specs.Nodes.{select_kind, set_kind, PartsAre, number_of};
 pub const MAX_PAIRS: usize = 2;
 
 // What a select compares its column with.
-#[derive(Drop)]
+#[derive(Clone, Copy)]
 pub enum Operand {
     Constant(u32),
     Column(usize),
 }
 
 // Kinds 6, 7 and 8.
-#[derive(Drop)]
+#[derive(Clone, Copy)]
 pub enum SetOperation {
     Union,
     Difference,
@@ -21,7 +24,7 @@ pub enum SetOperation {
 }
 
 // A node's inputs and numbers; its columns and pairs stand in arrays beside it.
-#[derive(Drop)]
+#[derive(Clone, Copy)]
 pub enum Node {
     Table {
         width: usize,
@@ -55,14 +58,14 @@ pub enum Node {
 }
 
 // What a record brings: a node, or a watch's node, sign and priority.
-#[derive(Drop)]
+#[derive(Clone, Copy)]
 pub enum Item {
     Node(Node),
     Watch { node: usize, sign: u8, priority: u8 },
 }
 
 // What reading a record gives: what it brings, or the number of the rule that it breaks.
-#[derive(Drop)]
+#[derive(Clone, Copy)]
 pub enum Record {
     Item(Item),
     Refused(usize),
@@ -71,7 +74,7 @@ pub enum Record {
 // ---- what goes by a node's kind, but for its rows
 
 // A node's kind, inputs, width and lists.
-#[derive(Drop)]
+#[derive(Clone, Copy)]
 pub struct Parts {
     pub kind: usize,
     // Whether it has inputs, and the first and the last of them, 0 if it has none.

@@ -1,4 +1,7 @@
 // Opening: refusals 1 to 7, or every named word set to 0.
+
+#![tactic(auto)]
+
 ghost use Rattle.std.specs.Prelude.{◌≡◌, true};
 ghost use Rattle.model.specs.Areas.{layout, long_enough, cleared};
 ghost use Rattle.model.specs.Calls.{open_call};

@@ -1,4 +1,7 @@
 // Answers for C: a verdict and a value in 64 bits, and the reader's answer in words.
+
+#![tactic(auto)]
+
 ghost use Rattle.std.specs.Prelude.{◌≡◌, ◌++◌, ◌+◌, ◌≤◌, ◌<◌, length, drop};
 ghost use Rattle.std.proofs.lemmas.List.Edits.{sets};
 ghost use Rattle.model.specs.Record.{refused, SmallVerdict};

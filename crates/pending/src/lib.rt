@@ -1,4 +1,7 @@
 // The pending area: rows that wait for the adviser, and whether it is of good form.
+
+#![tactic(auto)]
+
 ghost use Rattle.std.specs.Prelude.{◌≡◌, ℕ, ◌≤◌, ◌<◌, length, get_or, take};
 ghost use Rattle.model.specs.Row.{max_nodes, Narrow, all_of, numbers_below};
 ghost use Rattle.model.specs.Network.{Network, sign_of};

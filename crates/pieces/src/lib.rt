@@ -1,4 +1,7 @@
 // A file of batches, cut at its marks.
+
+#![tactic(auto)]
+
 ghost use Rattle.std.specs.Prelude.{◌≡◌, ◌+◌, ◌≤◌, length};
 ghost use Rattle.model.specs.Text.{is_mark};
 ghost use Rattle.pieces.specs.Pieces.{Next};
@@ -10,7 +13,7 @@ const MARK: usize = 34;
 
 // What comes next in a file: a batch that ends at the mark with an offset, a broken length at an offset from the
 // batch's first byte, whole records without a mark, or nothing.
-#[derive(Drop)]
+#[derive(Clone, Copy)]
 pub enum Piece {
     Batch(usize),
     Broken(usize),

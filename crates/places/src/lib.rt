@@ -1,4 +1,7 @@
 // Places that operators fill: how many rows were made, a row put among the rows of a place, two places compared.
+
+#![tactic(auto)]
+
 ghost use Rattle.std.specs.Prelude.{◌≡◌, true, ℕ, ◌+◌, ◌*◌, ◌≤◌, length};
 ghost use Rattle.model.specs.Row.{ascending, insert_row, same_rows, max_rows};
 ghost use Rattle.model.specs.Areas.{place_size, stride};
@@ -9,7 +12,7 @@ use insertions::Inserted;
 use rows::{MAX_ROWS, STRIDE};
 
 // How many rows an operator made, or that they are more than 64.
-#[derive(Drop)]
+#[derive(Clone, Copy)]
 pub enum Made {
     Rows(usize),
     Over,

@@ -1,4 +1,7 @@
 // A node's place of an area written over with other rows.
+
+#![tactic(auto)]
+
 ghost use Rattle.std.specs.Prelude.{◌≡◌, ℕ, ◌≤◌, ◌<◌, length};
 ghost use Rattle.model.specs.Row.{max_nodes, max_rows};
 ghost use Rattle.model.specs.Areas.{area_size, place_size};

@@ -1,4 +1,7 @@
 // The station program on slices: a small step at a time, from both files to the last line.
+
+#![tactic(auto)]
+
 ghost use Rattle.std.specs.Prelude.{◌≤◌, length};
 ghost use Rattle.areas.specs.Lent.{lent};
 ghost use Rattle.station_lines.specs.Lines.{node_room};

@@ -1,4 +1,7 @@
 // Projection (kind 4) on places.
+
+#![tactic(auto)]
+
 ghost use Rattle.std.specs.Prelude.{◌≡◌, true, ℕ, ◌*◌, ◌≤◌, length, take};
 ghost use Rattle.model.specs.Row.{max_width};
 ghost use Rattle.model.specs.Algebra.{project_rows};

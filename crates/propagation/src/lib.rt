@@ -1,4 +1,7 @@
 // The nodes' rows after a batch: tables by their events, derived nodes in number order from the nodes before them.
+
+#![tactic(auto)]
+
 ghost use Rattle.std.specs.Prelude.{◌≡◌};
 ghost use Rattle.verdicts.specs.Verdicts.{verdict_of};
 ghost use Rattle.new_rows.specs.Working.{working};
@@ -9,7 +12,7 @@ use network::Network;
 use verdicts::Verdict;
 
 // Whether every node is worked, or the lowest node with more than 64 rows.
-#[derive(Drop)]
+#[derive(Clone, Copy)]
 pub enum Propagated {
     All,
     Over(usize),

@@ -1,4 +1,7 @@
 // The reader: what it answers of a network's bytes.
+
+#![tactic(auto)]
+
 ghost use Rattle.std.specs.Prelude.{◌≡◌, map};
 ghost use Rattle.model.specs.Network.{kind_of};
 ghost use Rattle.model.specs.Areas.{padded};
@@ -11,7 +14,7 @@ use network::Network;
 use rows::MAX_NODES;
 
 // What the reader answers: the node count, each node's kind, width and level, 0 past the last; zeros beside a refusal.
-#[derive(Drop)]
+#[derive(Clone, Copy)]
 pub struct Answer {
     pub number: usize,
     pub place: usize,

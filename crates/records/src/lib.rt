@@ -1,4 +1,7 @@
 // Records in bytes: little-endian numbers, and the header that networks, batches and the station's file share.
+
+#![tactic(auto)]
+
 ghost use Rattle.std.specs.Prelude.{◌≡◌, ◌+◌, ◌*◌, ◌≤◌, length};
 ghost use Rattle.model.specs.Record.{u32, is_broken};
 ghost use Rattle.records.specs.Numbers.{Is16};

@@ -1,4 +1,7 @@
 // A file of batches applied from opening on.
+
+#![tactic(auto)]
+
 ghost use Rattle.std.specs.Prelude.{◌+◌, ◌<◌};
 ghost use Rattle.model.specs.Text.{pieces};
 ghost use Rattle.areas.specs.Lent.{lent};

@@ -1,4 +1,7 @@
 // A report: refusals 1 to 8, 15 and 16, or the gained and lost rows of a watched node in bytes.
+
+#![tactic(auto)]
+
 ghost use Rattle.std.specs.Prelude.{◌≡◌, [], ◌≤◌, length, get_or, take};
 ghost use Rattle.model.specs.Calls.{report_call, report_in};
 ghost use Rattle.network.specs.Reading.{Built, network_of};
@@ -10,7 +13,7 @@ use areas::{GAINED_COUNTS, LOST_COUNTS};
 use network::Network;
 
 // A verdict, and how many bytes the report takes (0 beside a refusal).
-#[derive(Drop)]
+#[derive(Clone, Copy)]
 pub struct ReportAnswer {
     pub number: usize,
     pub place: usize,

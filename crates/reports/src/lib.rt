@@ -1,4 +1,7 @@
 // Reports: the records of a watched node's gained and lost rows, written into lent bytes.
+
+#![tactic(auto)]
+
 ghost use Rattle.std.specs.Prelude.{◌≡◌, true, cond, ◌+◌, ◌*◌, ◌≤◌, ◌<◌, length};
 ghost use mathlib.Core.List.{flat_map};
 ghost use Rattle.std.proofs.lemmas.List.Edits.{sets};
@@ -18,7 +21,7 @@ const GAINED_RECORD: usize = 64;
 const LOST_RECORD: usize = 65;
 
 // Whether a row was gained or lost.
-#[derive(Drop)]
+#[derive(Clone, Copy)]
 pub enum Direction {
     Gained,
     Lost,

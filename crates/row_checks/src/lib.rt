@@ -1,4 +1,7 @@
 // Rows of good form: strictly ascending, with zeros past the width.
+
+#![tactic(auto)]
+
 ghost use Rattle.std.specs.Prelude.{◌≡◌, ◌&&◌, ◌+◌, ◌*◌, ◌<◌, ◌≤◌, length};
 ghost use Rattle.model.specs.Row.{order, is_less, ascending};
 ghost use Rattle.model.specs.Areas.{stride};

@@ -1,5 +1,8 @@
 // Relations as rows of words in a slice. A place for a relation is lent as a part of its area, so that nothing outside
 // it can be touched.
+
+#![tactic(auto)]
+
 ghost use Rattle.std.specs.Prelude.{◌≡◌, true, ◌+◌, ◌*◌, ◌≤◌, length};
 ghost use Rattle.model.specs.Row.{order, ascending};
 ghost use Rattle.model.specs.Areas.{stride};
@@ -21,7 +24,7 @@ pub const MAX_ROWS: usize = 64;
 pub const MAX_NODES: usize = 32;
 
 // How a row compares with another.
-#[derive(Drop)]
+#[derive(Clone, Copy)]
 pub enum Order {
     Less,
     Equal,
@@ -29,7 +32,7 @@ pub enum Order {
 }
 
 // Where a row stands in a relation, or where it belongs.
-#[derive(Drop)]
+#[derive(Clone, Copy)]
 pub enum Found {
     At(usize),
     Missing(usize),

@@ -1,4 +1,7 @@
 // Select (kinds 2 and 3) on places.
+
+#![tactic(auto)]
+
 ghost use Rattle.std.specs.Prelude.{◌≡◌, ℕ, ◌+◌, ◌*◌, ◌≤◌, ◌<◌, length};
 ghost use Rattle.model.specs.Algebra.{operand_in, passes, select_rows};
 ghost use Rattle.model.specs.Row.{max_rows};

@@ -1,4 +1,7 @@
 // Difference and intersection (kinds 7 and 8) on places, by one pass over both.
+
+#![tactic(auto)]
+
 ghost use Rattle.std.specs.Prelude.{◌≡◌, true, [], ℕ, ◌+◌, ◌*◌, ◌<◌, ◌≤◌, length};
 ghost use Rattle.model.specs.Row.{ascending, keep_if, max_rows};
 ghost use Rattle.model.specs.Algebra.{difference_rows, intersect_rows};

@@ -1,4 +1,7 @@
 // Where the station program stands, and what a step of it says.
+
+#![tactic(auto)]
+
 ghost use Rattle.std.specs.Prelude.{◌≡◌, ◌<◌};
 ghost use Rattle.stages.specs.declared.Stage.TheVariants.{Begin, Cut, Tell};
 ghost use Rattle.stages.specs.Stages.{files, has_input, is_over};
@@ -8,7 +11,7 @@ const MAX_FILE: usize = 65536;
 
 // Where the program stands: before everything; at the piece of the file that starts at an offset; at a node's lines of
 // the batch just applied, and then the piece that starts at an offset; at the end.
-#[derive(Drop)]
+#[derive(Clone, Copy)]
 pub enum Stage {
     Begin,
     Cut(usize),
@@ -17,7 +20,7 @@ pub enum Stage {
 }
 
 // How many bytes a step wrote, and where the program then stands.
-#[derive(Drop)]
+#[derive(Clone, Copy)]
 pub struct Said {
     pub size: usize,
     pub stage: Stage,

@@ -1,6 +1,9 @@
 // The station program: reads network.bin and batch.bin of the folder that it runs in, and prints what each batch gave.
 // What it prints comes from `program::step`; here files are opened and read, and what a step wrote is handed to the
 // system.
+
+#![tactic(auto)]
+
 ghost use Rattle.std.specs.Prelude.{◌≡◌, true, false, ◌≤◌, length};
 ghost use Rattle.model.specs.Areas.{layout, long_enough};
 ghost use Rattle.areas.specs.Lent.{lent};

@@ -1,4 +1,7 @@
 // The station program's lines of a node's watched changes, written into lent bytes.
+
+#![tactic(auto)]
+
 ghost use Rattle.std.specs.Prelude.{◌≡◌, cond, ◌+◌, ◌*◌, ◌≤◌, ◌<◌, length};
 ghost use mathlib.Core.List.{◌∷◌, [], flat_map};
 ghost use Rattle.model.specs.Areas.{layout, fields, held_in, padded, area_size};

@@ -1,4 +1,7 @@
 // Events on a table's rows.
+
+#![tactic(auto)]
+
 ghost use Rattle.std.specs.Prelude.{◌≡◌, cond, ◌+◌, ◌*◌, ◌≤◌, ◌<◌, eqb, length};
 ghost use Rattle.model.specs.Record.{field_at, offsets};
 ghost use Rattle.model.specs.Batch.{row_in, folded_rows};

@@ -1,4 +1,7 @@
 // Taking: refusals 1 to 8, 17 and 18, or the next pending row, taken out of the pending area.
+
+#![tactic(auto)]
+
 ghost use Rattle.std.specs.Prelude.{◌≡◌, ℕ, ◌≤◌, ◌<◌, eqb, length, get_or};
 ghost use Rattle.model.specs.Row.{max_nodes, keep, numbers_below};
 ghost use Rattle.model.specs.Areas.{layout};
@@ -14,7 +17,7 @@ use pending::COUNTS;
 use rows::STRIDE;
 
 // A verdict, the node and the words of the row taken (0 beside a refusal).
-#[derive(Drop)]
+#[derive(Clone, Copy)]
 pub struct TakeAnswer {
     pub number: usize,
     pub place: usize,

@@ -1,4 +1,7 @@
 // Steps of the station program: a node's lines of the batch just applied.
+
+#![tactic(auto)]
+
 ghost use Rattle.std.specs.Prelude.{◌≡◌, ◌&&◌, ◌≤◌, ◌<◌, eqb, length};
 ghost use Rattle.model.specs.Network.{read_network};
 ghost use Rattle.model.specs.Areas.{gained_count, lost_count, head_words};

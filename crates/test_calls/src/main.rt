@@ -1,4 +1,7 @@
 // Runs a script of calls from standard input and prints what each operation gave.
+
+#![tactic(auto)]
+
 mod runs;
 mod script;
 mod values;

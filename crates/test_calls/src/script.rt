@@ -4,7 +4,7 @@ ghost use Rattle.std.specs.Prelude.{◌≡◌, ◌<◌, length, set};
 ghost use Rattle.test_calls.specs.Script.{ReadsOperation};
 
 // An operation, and where its text begins and ends.
-#[derive(Drop)]
+#[derive(Clone, Copy)]
 pub struct Operation {
     pub kind: usize,
     pub area: usize,

@@ -1,6 +1,9 @@
 // Reads networks from standard input and prints what the reader answers of each: a refusal's number and place, or 0 and
 // 0, the node count, and every node's kind, width and level, 0 past the last. A case is a byte (the length of its
 // name), 2 bytes (the length of the network), the name, the network.
+
+#![tactic(auto)]
+
 ghost use Rattle.std.specs.Prelude.{◌≡◌, ◌+◌, ◌<◌, length};
 ghost use Rattle.model.specs.Row.{max_nodes};
 ghost use Rattle.model.specs.Calls.{read_call};
@@ -12,7 +15,7 @@ use libc::STDOUT_FILENO;
 use rows::MAX_NODES;
 
 // Where a case's name and its network begin, and where the next case does.
-#[derive(Drop)]
+#[derive(Clone, Copy)]
 pub struct Case {
     pub name: usize,
     pub net: usize,

@@ -1,4 +1,7 @@
 // An accepted batch written: each node's new rows and its change, and the head.
+
+#![tactic(auto)]
+
 ghost use Rattle.std.specs.Prelude.{◌≡◌, cond, List, ◌*◌, ◌≤◌, length};
 ghost use Rattle.model.specs.Row.{Relation, max_nodes};
 ghost use Rattle.model.specs.Station.{advance_rows};

@@ -1,4 +1,7 @@
 // Union (kind 6) on places, by one pass over both.
+
+#![tactic(auto)]
+
 ghost use Rattle.std.specs.Prelude.{◌≡◌, true, ℕ, ◌*◌, ◌≤◌, length};
 ghost use Rattle.model.specs.Row.{ascending, max_rows};
 ghost use Rattle.model.specs.Algebra.{union_rows};

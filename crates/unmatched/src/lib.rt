@@ -1,4 +1,7 @@
 // No match (kind 10) on places.
+
+#![tactic(auto)]
+
 ghost use Rattle.std.specs.Prelude.{◌≡◌, true, ℕ, ◌*◌, ◌≤◌, length};
 ghost use Rattle.model.specs.Row.{max_rows};
 ghost use Rattle.model.specs.Algebra.{unmatched_rows};

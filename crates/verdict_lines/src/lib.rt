@@ -1,4 +1,7 @@
 // The station program's lines of a verdict, an accepted batch's number or a refusal, written into lent bytes.
+
+#![tactic(auto)]
+
 ghost use Rattle.std.specs.Prelude.{◌∷◌, [], ◌≤◌, length};
 ghost use Rattle.model.specs.Text.{line, batch_word, refused_line};
 ghost use Rattle.lines.specs.Written.{Put, PutIfRoom};

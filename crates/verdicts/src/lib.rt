@@ -1,10 +1,13 @@
 // Verdicts: what a call is refused by, and where, or that it is accepted.
+
+#![tactic(auto)]
+
 ghost use Rattle.std.specs.Prelude.{◌≡◌};
 ghost use Rattle.model.specs.Record.{accepted, refused};
 ghost use Rattle.verdicts.specs.Verdicts.{verdict_of};
 
 // 0 and 0, or a refusal's number and its place.
-#[derive(Drop)]
+#[derive(Clone, Copy)]
 pub struct Verdict {
     pub number: usize,
     pub place: usize,

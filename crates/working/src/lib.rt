@@ -1,4 +1,7 @@
 // A node worked: its new rows put beside the old ones, if they are others, with their count and the change.
+
+#![tactic(auto)]
+
 ghost use Rattle.std.specs.Prelude.{◌≡◌, true, false, List, ℕ, ◌*◌, ◌≤◌, ◌<◌, length, get_or, set};
 ghost use Rattle.model.specs.Row.{ascending, max_nodes, max_rows};
 ghost use Rattle.rows.specs.Rows.{first_rows};

@@ -1,4 +1,7 @@
 // The derived nodes with an input that changed, and the list of the due ones by level, then number.
+
+#![tactic(auto)]
+
 ghost use Rattle.std.specs.Prelude.{◌≡◌, ℕ, ◌+◌, ◌≤◌, ◌<◌, length, replicate, get_or};
 ghost use Rattle.model.specs.Row.{max_nodes};
 ghost use Rattle.model.specs.Network.{left_of, right_of};

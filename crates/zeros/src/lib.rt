@@ -1,5 +1,8 @@
 // Whether words are 0: two fields are taken as one 64-bit word at a time, a field left over by itself. Bits are
 // gathered with no test in between, so that the compiler can take several such words at once.
+
+#![tactic(auto)]
+
 ghost use Rattle.std.specs.Prelude.{◌≡◌, ◌+◌, ◌≤◌, length};
 ghost use Rattle.std.proofs.Math.Seq.{slice};
 ghost use Rattle.model.specs.Areas.{all_zero};
@@ -12,7 +15,7 @@ const WORD: u64 = 4294967296;
 const TURN: usize = 128;
 
 // The bits of every other pair, and of the pairs between them: two 64-bit words, side by side in one register.
-#[derive(Drop)]
+#[derive(Clone, Copy)]
 struct Bits {
     even: u64,
     odd: u64,
