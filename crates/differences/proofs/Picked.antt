@@ -1,5 +1,5 @@
 -- One pass over two ascending places: the numbers of the rows that stand in one of them alone. Assumes nothing.
-use mathlib.Core.Path.{◌≡◌, refl, sym, ap, ap₂, ◌∙◌}
+use mathlib.Core.Path.{subst, ◌≡◌, refl, sym, ap, ap₂, ◌∙◌}
 use mathlib.Core.Bool.{true, false}
 use mathlib.Core.List.{List, [], ◌∷◌, ◌++◌, append_assoc, append-nil}
 use Prim.Native.Nat.{ℕ, zero, suc, ◌+◌, ◌-◌, ◌≤◌, ◌<◌, Ordering, zero-le}
@@ -74,7 +74,9 @@ module _ (s : List ℕ) (n : ℕ) (t : List ℕ) (m : ℕ) where
       pub picked_same : i < n → order (row_at stride s i) (row_at stride t j) ≡ Ordering.eq → Picked s n t m (i + 1) (j + 1) numbers
       picked_same h e =
           passed (i + 1) (j + 1)
-          (rw (rows_cons stride s n i h, rows_cons stride t m j g) ((kept-passes false).equal (row_at stride s i) (row_at stride t j) (left_from (i + 1)) (right_from (j + 1)) e))
+          (subst (λ (r : List Row). Gives (kept_by false) (left_from i) r [] (left_from (i + 1)) (right_from (j + 1))) (sym (rows_cons stride t m j g))
+          (subst (λ (l : List Row). Gives (kept_by false) l (row_at stride t j ∷ right_from (j + 1)) [] (left_from (i + 1)) (right_from (j + 1))) (sym (rows_cons stride s n i h))
+          ((kept-passes false).equal (row_at stride s i) (row_at stride t j) (left_from (i + 1)) (right_from (j + 1)) e)))
 
     pub picked_all : n ≤ i → Ascending (first_rows s n) → Ascending (first_rows t m) → Told s n (first_rows t m) numbers
     picked_all h hl hr =

@@ -116,11 +116,8 @@ pub reads-size : (count : ℕ) (ws ls : List ℕ) (bs : Bytes) (before at : ℕ)
 reads-size count ws ls bs before at r n e f = sym (ap size_of f) ∙ e.size (ap number_of f)
 
 -- what is no event has a number
-pub refused-number : (r : EventRecord) → OneOf (1 ∷ 2 ∷ 3 ∷ 4 ∷ []) (tag_of the_type r) → number_of r ≡ 0 → ⊥
-refused-number (Brought n) (inl k) e = omega arith
-refused-number (Brought n) (inr (inl k)) e = omega arith
-refused-number (Brought n) (inr (inr (inl k))) e = omega arith
-refused-number (Brought n) (inr (inr (inr k))) e = omega arith
+pub refused-number : (r : EventRecord) → ((n : ℕ) → r ≡ Brought n → ⊥) → number_of r ≡ 0 → ⊥
+refused-number (Brought n) k e = k n refl
 refused-number Broken k e = omega arith
 refused-number NoEvent k e = omega arith
 refused-number TooMany k e = omega arith

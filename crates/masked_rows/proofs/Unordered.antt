@@ -1,5 +1,5 @@
 -- Masked rows in no order: a row's slot, and rows added or left out one by one. Assumes nothing.
-use mathlib.Core.Path.{◌≡◌, refl, sym, ap, ◌∙◌}
+use mathlib.Core.Path.{subst, ◌≡◌, refl, sym, ap, ◌∙◌}
 use mathlib.Core.Bool.{Bool, true, ◌&&◌, ◌||◌, or-true}
 use mathlib.Core.List.{List, [], ◌∷◌, ◌++◌, map}
 use Prim.Native.Nat.{ℕ, zero, suc, ◌+◌, ◌*◌, ◌%◌, ◌≤◌, ◌<◌}
@@ -61,10 +61,13 @@ rows_pushed out after row n e h f =
 -- a row is among the rows that it is one of
 row-member : (s : List ℕ) (j i n : ℕ) → i < n → member (row_at stride s (j + i)) (rows_from stride s j n) ≡ true
 unfolding rows_from
-row-member s j zero (suc n) h = let e : j + 0 ≡ j = omega arith in rw e (ap (λ (t : Bool). t || member (row_at stride s j) (rows_from stride s (suc j) n)) (same_row_refl (row_at stride s j)))
+row-member s j zero (suc n) h = let e : j + 0 ≡ j = omega arith in
+    subst (λ (k : ℕ). member (row_at stride s k) (rows_from stride s j (suc n)) ≡ true) (sym e)
+    (ap (λ (t : Bool). t || member (row_at stride s j) (rows_from stride s (suc j) n)) (same_row_refl (row_at stride s j)))
 row-member s j (suc i) (suc n) h =
     let e : j + suc i ≡ suc j + i = omega arith in
-    rw e (ap (λ (t : Bool). same_row (row_at stride s (suc j + i)) (row_at stride s j) || t) (row-member s (suc j) i n (le_of_suc-le-suc h))
+    subst (λ (k : ℕ). member (row_at stride s k) (rows_from stride s j (suc n)) ≡ true) (sym e)
+    (ap (λ (t : Bool). same_row (row_at stride s (suc j + i)) (row_at stride s j) || t) (row-member s (suc j) i n (le_of_suc-le-suc h))
     ∙ or-true (same_row (row_at stride s (suc j + i)) (row_at stride s j)))
 row-member s j i zero h = absurd (omega arith)
 

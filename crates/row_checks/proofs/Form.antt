@@ -86,8 +86,10 @@ module _ (n : ℕ) where
   past_one : (c : ℕ) (l : List Row) → Wide n l → c < n → zero_past c l ≡ (zero_field c l && zero_past (c + 1) l)
   past_one c [] wide h = refl
   past_one c (r ∷ l) wide h =
-      rw (drop-cons r c 0 (rw wide.0 h), past_one c l wide.1 h, add-one)
-      (and_four (eqb (get_or r c 0) 0) (all_zero (drop (suc c) r)) (zero_field c l) (zero_past (suc c) l))
+      let x = eqb (get_or r c 0) 0 in
+      rw (drop-cons r c 0 (rw wide.0 h), past_one c l wide.1 h)
+      (and_four x (all_zero (drop (suc c) r)) (zero_field c l) (zero_past (c + 1) l)
+      ∙ ap (λ (k : ℕ). x && zero_field c l && (all_zero (drop k r) && zero_past (c + 1) l)) (sym (add-one c)))
 
   -- two, and those behind them
   pub past_two : (c : ℕ) (l : List Row) → Wide n l → c + 2 ≤ n → zero_past c l ≡ (zero_field c l && zero_field (c + 1) l && zero_past (c + 2) l)

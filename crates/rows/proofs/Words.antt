@@ -179,7 +179,10 @@ rows_words w [] t h = refl
 rows_words w (r ∷ l) t h =
     let f : fields w (r ++ (words l ++ t)) 0 ≡ r =
     fields-part w (r ++ (words l ++ t)) 0 (simp (length-append, h.0) (omega arith)) ∙ take_at r (words l ++ t) w h.0 in
-    rw (zero-mul, append_assoc, f, ← (rows_shift w (r ++ (words l ++ t)) 0 (length l)), drop_at r (words l ++ t) w h.0, rows_words w l t h.1)
+    let a : words (r ∷ l) ++ t ≡ r ++ (words l ++ t) = rw append_assoc in
+    let split : rows_from w (r ++ (words l ++ t)) 0 (length (r ∷ l)) ≡ r ∷ l =
+    rw (zero-mul, f, ← (rows_shift w (r ++ (words l ++ t)) 0 (length l)), drop_at r (words l ++ t) w h.0, rows_words w l t h.1) in
+    ap (λ (s : List ℕ). rows_from w s 0 (length (r ∷ l))) a ∙ split
 
 pub rows-stored : (w : ℕ) (l : List Row) (s : List ℕ) → Wide w l → rows_from w (stored l s) 0 (length l) ≡ l
 unfolding stored

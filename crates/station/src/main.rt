@@ -12,8 +12,11 @@ ghost use Rattle.stages.specs.Stages.{files};
 ghost use Rattle.station.specs.Moves.{Told, Within};
 
 use areas::{AREA, HEAD};
-use libc::STDOUT_FILENO;
 use stages::Stage;
+use std::fs::File;
+use std::io::{Eprint, Error, ErrorKind, Read, Stdout, Write};
+use std::rt::Files;
+use std::thread;
 
 // One byte more than a file may have.
 const ABOVE: usize = 65537;
@@ -22,7 +25,7 @@ const ABOVE: usize = 65537;
 const TRIES: usize = 10000000;
 
 // What a call that moves bytes came to: so many were moved; a failure that may pass; another failure.
-#[derive(Drop)]
+#[derive(Clone, Copy)]
 pub enum Outcome {
     Moved(usize),
     Again,
@@ -30,60 +33,61 @@ pub enum Outcome {
 }
 
 // A file that was read: whether it could be read to its end or over the limit, and how many bytes.
-#[derive(Drop)]
+#[derive(Clone, Copy)]
 pub struct Contents {
     found: bool,
     size: usize,
 }
 
-// A failure, by its errno: an interrupted call and a full pipe that does not wait may pass; others get their turn
+// A failure, by its kind: an interrupted call and a full pipe that does not wait may pass; others get their turn
 // first.
-fn failure() -> Outcome
+fn failure(error: &Error) -> Outcome
     ensures { Within 0 result }
 {
-    let error = os::errno();
-    if error == libc::EINTR {
-        return Outcome::Again;
+    match error.kind() {
+        ErrorKind::Interrupted => Outcome::Again,
+        ErrorKind::WouldBlock => {
+            thread::yield_now();
+            Outcome::Again
+        }
+        _ => Outcome::Failed,
     }
-    if error == libc::EAGAIN {
-        libc::sched_yield();
-        return Outcome::Again;
-    }
-    Outcome::Failed
 }
 
 // One read.
-fn read_once(fd: i32, bytes: &mut [u8]) -> Outcome
+fn read_once(file: &mut File, bytes: &mut [u8]) -> Outcome
     ensures { Within (length bytes.old) result }
 {
-    let got = libc::read(fd, bytes);
-    if got < 0 {
-        return failure();
+    match file.read(bytes) {
+        Ok(n) => Outcome::Moved(n),
+        Err(error) => failure(&error),
     }
-    Outcome::Moved(io::count(got, bytes))
 }
 
-// One write.
-fn write_once(bytes: &[u8]) -> Outcome
+// One write, and the failure that it came to, if any.
+fn write_once(out: &mut Stdout, bytes: &[u8], last: &mut Option<Error>) -> Outcome
     ensures { Within (length bytes.now) result }
 {
-    let put = libc::write(STDOUT_FILENO, bytes);
-    if put < 0 {
-        return failure();
+    match out.write(bytes) {
+        Ok(n) => Outcome::Moved(n),
+        Err(error) => {
+            let outcome = failure(&error);
+            *last = Some(error);
+            outcome
+        }
     }
-    Outcome::Moved(io::count(put, bytes))
 }
 
 // Reads until the file ends or there is no room left. A read that fails is not the end of the file: then nothing is
 // found.
-fn read_all(fd: i32, bytes: &mut [u8]) -> Contents
+fn read_all(file: &mut File, bytes: &mut [u8]) -> Contents
     ensures { result.size ≤ length bytes.old }
 {
     let mut at = 0;
     let mut tries = TRIES;
     while at < bytes.len() {
         let from = at;
-        match read_once(fd, &mut bytes[from..]) {
+        match read_once(file, &mut bytes[from..]) {
             Outcome::Moved(n) => {
                 if n == 0 {
                     return Contents {
@@ -118,7 +122,7 @@ fn read_all(fd: i32, bytes: &mut [u8]) -> Contents
 
 // A file's bytes, as far as there is room; not found where it is missing or cannot be read. An open that was
 // interrupted is tried again.
-fn read_file(path: &[u8], bytes: &mut [u8]) -> Contents
+fn read_file<R: Files<File = File>>(rt: &R, path: &str, bytes: &mut [u8]) -> Contents
     ensures { result.size ≤ length bytes.old }
 {
     let none = Contents {
@@ -127,14 +131,15 @@ fn read_file(path: &[u8], bytes: &mut [u8]) -> Contents
     };
     let mut tries = TRIES;
     while 0 < tries {
-        let fd = os::open_read(path);
-        if fd >= 0 {
-            let read = read_all(fd, bytes);
-            libc::close(fd);
-            return read;
-        }
-        if os::errno() != libc::EINTR {
-            return none;
+        match File::open(rt, path) {
+            Ok(mut file) => {
+                return read_all(&mut file, bytes);
+            }
+            Err(error) => {
+                if error.kind() != ErrorKind::Interrupted {
+                    return none;
+                }
+            }
         }
         tries -= 1;
     }
@@ -142,14 +147,14 @@ fn read_file(path: &[u8], bytes: &mut [u8]) -> Contents
 }
 
 // Writes the bytes to standard output: how many of them the system took, all unless a write failed.
-fn write_out(bytes: &[u8]) -> usize
+fn write_out(out: &mut Stdout, bytes: &[u8], last: &mut Option<Error>) -> usize
     ensures { result ≤ length bytes.now }
 {
     let mut at = 0;
     let mut tries = TRIES;
     while at < bytes.len() {
         let from = at;
-        match write_once(&bytes[from..]) {
+        match write_once(out, &bytes[from..], last) {
             Outcome::Moved(n) => {
                 if n == 0 {
                     return from;
@@ -171,22 +176,27 @@ fn write_out(bytes: &[u8]) -> usize
 }
 
 // How many bytes of the output the system took, and whether the program came to its end.
-#[derive(Drop)]
+#[derive(Clone, Copy)]
 pub struct Ran {
     told: usize,
     whole: bool,
 }
 
 // A run that stopped: one line on the error output says that a write failed, and why.
-fn stopped(told: usize) -> Ran
+fn stopped<R: Eprint>(rt: &R, last: &Option<Error>, told: usize) -> Ran
     ensures { result ≡ record { told = told; whole = false } }
 {
-    os::fail(b"station: the output was not written");
+    let _ = match last {
+        Some(error) => eprintln!(rt; "station: the output was not written: {error}"),
+        None => eprintln!(rt; "station: the output was not written"),
+    };
     Ran { told, whole: false }
 }
 
 // The steps from the beginning to the end; where a write fails it stops, and one line on the error output says so.
-fn run(
+fn run<R: Eprint>(
+    rt: &R,
+    output: &mut Stdout,
     n: bool,
     b: bool,
     net: &[u8],
@@ -203,14 +213,15 @@ fn run(
     ensures { Told (files n b net.now file.now) result }
 {
     let mut told = 0;
+    let mut last = None;
     let mut stage = Stage::Begin;
     while !stages::is_over(stage) {
         let said = program::step(n, b, net, file, stage, rows, gained, lost, head, out);
         let size = said.size;
-        let taken = write_out(&out[..size]);
+        let taken = write_out(output, &out[..size], &mut last);
         told += taken;
         if taken < size {
-            return stopped(told);
+            return stopped(rt, &last, told);
         }
         stage = said.stage;
     }
@@ -218,7 +229,7 @@ fn run(
 }
 
 // Reads both files, then steps through the program.
-fn main() {
+fn main(rt: HostRuntime) {
     let mut net = [0u8; ABOVE];
     let mut file = [0u8; ABOVE];
     let mut out = [0u8; program::ROOM];
@@ -226,11 +237,14 @@ fn main() {
     let mut gained = [0u32; AREA];
     let mut lost = [0u32; AREA];
     let mut head = [0u32; HEAD];
-    let first = read_file(b"network.bin", &mut net);
-    let second = read_file(b"batch.bin", &mut file);
+    let first = read_file(&rt, "network.bin", &mut net);
+    let second = read_file(&rt, "batch.bin", &mut file);
     let n = first.size;
     let m = second.size;
+    let mut output = rt.stdout();
     run(
+        &rt,
+        &mut output,
         first.found,
         second.found,
         &net[..n],

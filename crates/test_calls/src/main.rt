@@ -14,9 +14,11 @@ ghost use Rattle.areas.specs.Lent.{lent};
 ghost use Rattle.test_calls.specs.Operations.{Changing, Grouped, Runs, Showing, kind_of, stored};
 
 use areas::{AREA, HEAD};
-use libc::STDOUT_FILENO;
 use script::Operation;
 use values::{TEXT, VALUES};
+
+// Standard output's number.
+const STDOUT: i32 = 1;
 
 // The kind of an operation that holds a network.
 const NETWORK: usize = 2;
@@ -91,7 +93,7 @@ fn show(part: &[u8], op: Operation, out: &mut [u8], text: &mut [u8; TEXT]) -> us
     let kind = op.kind;
     let size = values::room(op.value);
     match kind {
-        1 => bytes::copy(part, text),
+        1 => values::copy(part, text),
         2 => 0,
         7 => values::values_line(text, 0, b"bytes", &out[..size], &[]),
         _ => values::clear(out),
@@ -160,6 +162,6 @@ fn main() {
             &mut out,
             &mut text,
         );
-        io::write_all(STDOUT_FILENO, &text[..k]);
+        io::write_all(STDOUT, &text[..k]);
     }
 }

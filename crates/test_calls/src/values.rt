@@ -1,5 +1,5 @@
 // Lines of bytes and words, and the bytes that are lent for a report.
-ghost use Rattle.std.specs.Prelude.{◌≡◌, [], ◌∷◌, ◌++◌, ◌+◌, ◌*◌, ◌≤◌, ◌<◌, length, get_or, replicate};
+ghost use Rattle.std.specs.Prelude.{◌≡◌, [], ◌∷◌, ◌++◌, ◌+◌, ◌*◌, ◌≤◌, ◌<◌, length, get_or, replicate, take, drop};
 ghost use Rattle.std.proofs.lemmas.List.Edits.{sets};
 ghost use Rattle.model.specs.Text.{line};
 ghost use Rattle.verdicts.specs.Verdicts.{verdict_of};
@@ -88,6 +88,17 @@ pub(crate) fn answer_line(text: &mut [u8; TEXT], v: ReportAnswer) -> usize
     lines::put_line(text, b"", &[v.number, v.place, v.size])
 }
 
+// Bytes copied to the start of others: how many.
+pub(crate) fn copy(from: &[u8], to: &mut [u8]) -> usize
+    requires { length from.now ≤ length to.old }
+    ensures count { result ≡ length from.now }
+    ensures bytes { to.new ≡ take (length from.now) from.now ++ drop (length from.now) to.old }
+{
+    let n = from.len();
+    to[..n].copy_from_slice(from);
+    n
+}
+
 // The bytes that are lent for a report set to 0: nothing is printed.
 pub(crate) fn clear(out: &mut [u8]) -> usize
     requires { length out.old ≡ longest_report }
@@ -95,6 +106,6 @@ pub(crate) fn clear(out: &mut [u8]) -> usize
     ensures nothing { result ≡ 0 }
 {
     let none = [0u8; VALUES];
-    bytes::copy(&none, out);
+    copy(&none, out);
     0
 }

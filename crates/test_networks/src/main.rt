@@ -11,8 +11,10 @@ ghost use Rattle.model.specs.Text.{line};
 ghost use Rattle.lines.specs.Written.{Put, PutLine};
 ghost use Rattle.test_networks.specs.Cases.{ReadsCase, answer_lines};
 
-use libc::STDOUT_FILENO;
 use rows::MAX_NODES;
+
+// Standard output's number.
+const STDOUT: i32 = 1;
 
 // Where a case's name and its network begin, and where the next case does.
 #[derive(Clone, Copy)]
@@ -81,8 +83,8 @@ fn main() {
         at = case.next;
         let name = case.name;
         let net = case.net;
-        io::write_all(STDOUT_FILENO, &input[name..net]);
+        io::write_all(STDOUT, &input[name..net]);
         let k = answer_lines(&input[net..at], &mut text);
-        io::write_all(STDOUT_FILENO, &text[..k]);
+        io::write_all(STDOUT, &text[..k]);
     }
 }

@@ -1,0 +1,14 @@
+use Prim.Native.Nat.{◌≤◌, ◌<◌, ◌-◌, zero-le}
+use native.Mathlib.Omega.{arith}
+use mathlib.Core.Path.{◌≡◌}
+use Rattle.network.specs.Reading.{nodes_of}
+use Rattle.changes.specs.Written.{Writing, WritesNodes}
+use Rattle.changes.proofs.Out.{writes_none, can_write, writes_more, writes_lengths}
+use Rattle.changes.proofs.write_nodes.Given as goal
+
+abbrev pub invariant-loop-i : goal.invariant-loop-i
+invariant-loop-i l = (l.i ≤ l.n)
+    × ((o : Writing l.n l.initial.rows l.initial.gained l.initial.lost l.head l.work l.counts l.changed l.picks l.sizes) → WritesNodes (nodes_of o.net) o.out.new l.initial.rows l.initial.gained l.initial.lost l.head l.rows l.gained l.lost l.i)
+
+abbrev pub decreases-loop-i : goal.decreases-loop-i
+decreases-loop-i l = l.n - l.i

@@ -1,0 +1,16 @@
+use mathlib.Core.Path.{refl, sym, ◌∙◌, ◌≡◌}
+use Prim.Native.Nat.{◌+◌, ◌-◌, ◌≤◌}
+use native.Mathlib.Omega.{arith}
+use lib.ListN.{get_or}
+use Rattle.laws.proofs.All.{AllTo, all_none, all_more, all_done, all_not}
+use Rattle.coherence.proofs.Coherent.{coherent_is, level_derived, level_table}
+use Rattle.coherence.proofs.Agree.{fewer}
+use Rattle.network.specs.Reading.{no_slot}
+use Rattle.coherence.specs.Held.{slot_agrees}
+use Rattle.coherence.proofs.is_coherent.Given as goal
+
+abbrev pub invariant-loop-i : goal.invariant-loop-i
+invariant-loop-i l = (l.i ≤ l.count) × (l.count ≡ l.net.count) × AllTo (λ j. slot_agrees (get_or l.net.slots j no_slot) l.net.widths l.head l.rows j) l.count l.i
+
+abbrev pub decreases-loop-i : goal.decreases-loop-i
+decreases-loop-i l = l.count - l.i

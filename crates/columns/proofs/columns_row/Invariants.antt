@@ -1,0 +1,15 @@
+use mathlib.Core.Path.{refl, ap, sym, ◌∙◌, ◌≡◌}
+use Prim.Native.Nat.{ℕ, ◌+◌, ◌*◌, ◌-◌, ◌≤◌, zero-le}
+use native.Mathlib.Omega.{arith}
+use lib.ListN.{length, length-set, get_or, replicate}
+use Rattle.columns.proofs.Rows.{both_field, column-below, filled, row-filled, row_started}
+use Rattle.columns.specs.Columns.{joined_field}
+use Rattle.rows.specs.Rows.{row_at}
+use Rattle.model.specs.Areas.{stride}
+use Rattle.columns.proofs.columns_row.Given as goal
+
+abbrev pub invariant-loop-k : goal.invariant-loop-k
+invariant-loop-k l = (l.k ≤ l.n) × (l.row ≡ filled (joined_field l.split (row_at stride l.left l.i) (row_at stride l.right l.j)) l.columns l.k) × (length l.row ≡ stride)
+
+abbrev pub decreases-loop-k : goal.decreases-loop-k
+decreases-loop-k l = l.n - l.k

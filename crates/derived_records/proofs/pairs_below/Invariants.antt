@@ -1,0 +1,11 @@
+use mathlib.Core.Path.{sym}
+use Prim.Native.Nat.{◌-◌, ◌≤◌}
+use Rattle.derived_records.proofs.Lists.{PairsTo, pairs_start, pairs_more, pairs-not-left, pairs-not-right, pairs_all}
+use native.Mathlib.Omega.{arith}
+use Rattle.derived_records.proofs.pairs_below.Given as goal
+
+abbrev pub invariant-loop-i : goal.invariant-loop-i
+invariant-loop-i l = (l.i ≤ l.n) × PairsTo l.left l.right l.bytes l.at 3 l.n l.i
+
+abbrev pub decreases-loop-i : goal.decreases-loop-i
+decreases-loop-i l = l.n - l.i

@@ -1,0 +1,64 @@
+use mathlib.Core.List.{◌++◌, [], ◌∷◌}
+use mathlib.Core.Path.{ap, refl, ◌∙◌, ◌≡◌}
+use Prim.Native.Nat.{◌+◌}
+use native.Mathlib.Omega.{arith}
+use lib.ListN.{length, length-append, length-set, set}
+use lib.Seq.{length-sets, sets}
+use borrow.Author.Rules.{rules}
+use Rattle.lines.proofs.Digits.{line_is}
+use Rattle.model.specs.Text.{newline}
+use Rattle.lines.specs.Numbers.{numbers_text}
+use Rattle.laws.proofs.Parts.{sets_more}
+use Rattle.lines.proofs.put_line_at.Goals as goal
+
+pub put_numbers-end-requires : goal.put_numbers-end-requires
+put_numbers-end-requires c = let a = c.args in omega
+    (arith, c.put_bytes-from.ensures.next, ap length c.put_bytes-from.ensures.bytes, length-sets a.out.now a.at a.word.now)
+
+pub bounds-out-end : goal.bounds-out-end
+bounds-out-end c = let a = c.args in omega (
+  arith,
+  c.put_numbers-end.ensures.short,
+  c.put_bytes-from.ensures.next,
+  ap length c.put_numbers-end.ensures.bytes,
+  length-sets c.put_bytes-from.new.out c.put_bytes-from.result
+      (numbers_text a.numbers.now),
+  ap length c.put_bytes-from.ensures.bytes,
+  length-sets a.out.now a.at a.word.now,
+)
+
+pub overflow_add-result : goal.overflow_add-result
+overflow_add-result c = let a = c.args in omega
+    (arith, c.put_numbers-end.ensures.short, c.put_bytes-from.ensures.next)
+
+pub shape_of-out : goal.shape_of-out
+shape_of-out c = let a = c.args in omega (
+  arith,
+  ap length c.put_numbers-end.ensures.bytes,
+  length-sets c.put_bytes-from.new.out
+      c.put_bytes-from.result (numbers_text a.numbers.now),
+  ap length c.put_bytes-from.ensures.bytes,
+  length-sets a.out.now a.at a.word.now,
+  length-set c.put_numbers-end.new.out c.put_numbers-end.result 10,
+)
+
+pub returns : goal.returns
+returns c =
+    let a = c.args in
+    let two = sets_more a.out.now c.put_bytes-from.new.out c.put_numbers-end.new.out a.at
+    c.put_bytes-from.result a.word.now (numbers_text a.numbers.now)
+    c.put_bytes-from.ensures.bytes c.put_bytes-from.ensures.next
+    c.put_numbers-end.ensures.bytes in
+    let end : c.put_numbers-end.result ≡ a.at + length (a.word.now ++ numbers_text a.numbers.now) = omega (
+      arith,
+      c.put_numbers-end.ensures.next,
+      c.put_bytes-from.ensures.next,
+      length-append a.word.now (numbers_text a.numbers.now),
+    ) in
+    let three = sets_more a.out.now c.put_numbers-end.new.out (set c.put_numbers-end.new.out c.put_numbers-end.result 10) a.at
+    c.put_numbers-end.result (a.word.now ++ numbers_text a.numbers.now) (newline ∷ []) two end refl in
+    let same = line_is a.word.now a.numbers.now in record {
+      bytes = three ∙ ap (sets a.out.now a.at) same;
+      next = omega (arith, end, ap length same, length-append (a.word.now ++ numbers_text a.numbers.now) (newline ∷ []));
+      short = omega (arith, c.put_numbers-end.ensures.short, c.put_bytes-from.ensures.next);
+    }

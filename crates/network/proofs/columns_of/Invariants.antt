@@ -1,0 +1,18 @@
+use mathlib.Core.Path.{◌≡◌, refl, ap, ◌∙◌}
+use Prim.Native.Nat.{◌-◌, ◌≤◌}
+use lib.ListN.{length, take, length-set}
+use Rattle.model.specs.Areas.{padded}
+use Rattle.model.specs.Record.{fields_at}
+use Rattle.model.specs.Row.{max_width}
+use Rattle.network.specs.Reading.{Ends}
+use Rattle.network.proofs.Building.{set_ends, zero_at}
+use Rattle.network.proofs.Kept.{ends_padded}
+use Rattle.derived_records.proofs.Lists.{fields-turn}
+use native.Mathlib.Omega.{arith}
+use Rattle.network.proofs.columns_of.Given as goal
+
+abbrev pub invariant-loop-i : goal.invariant-loop-i
+invariant-loop-i l = (l.i ≤ l.n) × (length l.fields ≡ max_width) × (take l.i l.fields ≡ fields_at l.bytes l.at l.k l.i) × Ends l.i l.fields
+
+abbrev pub decreases-loop-i : goal.decreases-loop-i
+decreases-loop-i l = l.n - l.i

@@ -1,0 +1,14 @@
+use Prim.Native.Nat.{◌≤◌, ◌-◌, zero-le, ◌+◌, ℕ}
+use mathlib.Core.Path.{◌≡◌, refl, ◌∙◌, ap}
+use lib.ListN.{length, take, length-set, get_or}
+use lib.Seq.{sets, take_all}
+use native.Mathlib.Omega.{arith}
+use mathlib.Core.List.{List}
+use Rattle.packing.proofs.Packed.{list_more}
+use Rattle.packing.proofs.write_list.Given as goal
+
+abbrev pub invariant-loop-k : goal.invariant-loop-k
+invariant-loop-k l = (l.k ≤ l.n) × (l.n ≡ length l.list) × (length l.answer ≡ length l.initial.answer) × (l.answer ≡ sets l.initial.answer l.at (take l.k l.list))
+
+abbrev pub decreases-loop-k : goal.decreases-loop-k
+decreases-loop-k l = l.n - l.k

@@ -1,0 +1,17 @@
+use lib.ListN.{length}
+use mathlib.Core.Path.{◌≡◌, refl, ap}
+use Prim.Native.Nat.{◌-◌}
+use borrow.Author.Rules.{rules}
+use native.Mathlib.Omega.{arith}
+use Rattle.replay.proofs.Replaying.{Replaying, replay_start, replay_more, replay_done, replay_end}
+use Rattle.areas.specs.Lent.{lent}
+use Rattle.network.specs.Reading.{result_with}
+use Rattle.replay.specs.Replayed.{calls_of}
+use Rattle.replay.proofs.replay_batches.Given as goal
+
+abbrev pub invariant-loop-start : goal.invariant-loop-start
+invariant-loop-start l = Replaying l.net l.file (lent l.initial.rows l.initial.gained l.initial.lost l.initial.head) (lent l.rows l.gained l.lost l.head) l.start
+    × (length l.rows ≡ length l.initial.rows) × (length l.gained ≡ length l.initial.gained) × (length l.lost ≡ length l.initial.lost) × (length l.head ≡ length l.initial.head)
+
+abbrev pub decreases-loop-start : goal.decreases-loop-start
+decreases-loop-start l = length l.file - l.start

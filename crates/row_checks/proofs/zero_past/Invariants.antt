@@ -1,0 +1,17 @@
+use Prim.Native.Nat.{◌≤◌, ◌-◌, ◌+◌}
+use mathlib.Core.Path.{◌≡◌, refl, sym, ◌∙◌}
+use mathlib.Core.Bool.{◌&&◌}
+use borrow.Author.Tests.{not-true, not-false}
+use native.Mathlib.Omega.{arith}
+use Rattle.model.specs.Areas.{stride}
+use Rattle.rows.specs.Rows.{first_rows}
+use Rattle.rows.proofs.Words.{wide_rows}
+use Rattle.row_checks.specs.RowChecks.{zero_field, zero_past}
+use Rattle.row_checks.proofs.Form.{past_two, past_more, past_not, past_last, past_all}
+use Rattle.row_checks.proofs.zero_past.Given as goal
+
+abbrev pub invariant-loop-c : goal.invariant-loop-c
+invariant-loop-c l = (l.c ≤ stride) × (zero_past l.width (first_rows l.words l.n) ≡ zero_past l.c (first_rows l.words l.n))
+
+abbrev pub decreases-loop-c : goal.decreases-loop-c
+decreases-loop-c l = stride - l.c

@@ -1,0 +1,17 @@
+use Rattle.model.specs.Row.{max_width}
+use Prim.Native.Nat.{◌≤◌, ◌-◌, zero-le, ◌+◌}
+use mathlib.Core.Path.{◌≡◌, refl, ap, ◌∙◌}
+use mathlib.Core.List.{◌∷◌}
+use native.Mathlib.Omega.{arith}
+use lib.ListN.{length, get_or}
+use Rattle.model.specs.Areas.{padded, fields}
+use Rattle.rows.proofs.Place.{length-padded}
+use Rattle.rows.proofs.Words.{length_fields}
+use Rattle.station_lines.proofs.Changes.{numbers_more}
+use Rattle.station_lines.proofs.change_numbers.Given as goal
+
+abbrev pub invariant-loop-k : goal.invariant-loop-k
+invariant-loop-k l = (l.k ≤ l.w) × (l.numbers ≡ padded (1 + max_width) (l.node ∷ fields l.k l.words l.from))
+
+abbrev pub decreases-loop-k : goal.decreases-loop-k
+decreases-loop-k l = l.w - l.k

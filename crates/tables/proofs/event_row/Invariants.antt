@@ -1,0 +1,15 @@
+use mathlib.Core.Path.{refl, ◌∙◌, ◌≡◌}
+use Prim.Native.Nat.{◌+◌, ◌-◌, ◌≤◌}
+use native.Mathlib.Omega.{arith}
+use lib.ListN.{length, length-set}
+use borrow.Author.Rules.{rules}
+use Rattle.model.specs.Areas.{padded, stride}
+use Rattle.tables.proofs.Folds.{row-filled}
+use Rattle.model.specs.Batch.{row_in}
+use Rattle.tables.proofs.event_row.Given as goal
+
+abbrev pub invariant-loop-k : goal.invariant-loop-k
+invariant-loop-k l = (l.k ≤ l.width) × (length l.row ≡ stride) × (l.row ≡ padded stride (row_in l.bytes (l.at + 6) l.k))
+
+abbrev pub decreases-loop-k : goal.decreases-loop-k
+decreases-loop-k l = l.width - l.k

@@ -1,0 +1,13 @@
+use mathlib.Core.Path.{ap, ap₂, refl, sym, ◌∙◌, ◌≡◌}
+use Prim.Native.Nat.{ℕ, ◌-◌, ◌≤◌, max}
+use native.Mathlib.Omega.{arith}
+use borrow.Author.Rules.{rules}
+use Rattle.taking.specs.Taking.{highest_in}
+use Rattle.taking.proofs.Ranks.{highest-next}
+use Rattle.taking.proofs.highest_rank.Given as goal
+
+abbrev pub invariant-loop-i : goal.invariant-loop-i
+invariant-loop-i l = (l.i ≤ l.n) × (l.highest ≡ highest_in l.priorities l.pending l.i)
+
+abbrev pub decreases-loop-i : goal.decreases-loop-i
+decreases-loop-i l = l.n - l.i
