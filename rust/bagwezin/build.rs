@@ -2,7 +2,7 @@
 //! `rt` proves and writes now.
 //!
 //! cargo runs this again when a file of the proved crates changes; `rt` itself proves only what changed. The copy stands in cargo's own folder, so
-//! that nothing that is done to target/ afterwards can change what is linked.
+//! that nothing that is done to crates/bagwezin/out/ afterwards can change what is linked.
 use std::path::{Path, PathBuf};
 use std::process::{exit, Command};
 
@@ -18,15 +18,15 @@ fn find_rt() -> Option<PathBuf> {
     std::env::split_paths(&path).map(|folder| folder.join("rt")).find(|file| file.is_file())
 }
 
-/// Runs `rt staticlib bagwezin` at the root; its words are shown where it fails.
+/// Runs `rt lib` in the crate's folder; its words are shown where it fails.
 fn staticlib(rt: &Path, root: &Path) {
-    let ran = Command::new(rt).args(["staticlib", "bagwezin"]).current_dir(root).output();
+    let ran = Command::new(rt).arg("lib").current_dir(root.join("crates/bagwezin")).output();
     let ran = ran.unwrap_or_else(|e| fail(&format!("{} cannot be run: {e}", rt.display())));
     if !ran.status.success() {
         eprintln!("{}{}", String::from_utf8_lossy(&ran.stdout), String::from_utf8_lossy(&ran.stderr));
         fail(&format!(
-            "`rt staticlib bagwezin` failed in {} ({}): the static library is not proved or not built",
-            root.display(),
+            "`rt lib` failed in {} ({}): the static library is not proved or not built",
+            root.join("crates/bagwezin").display(),
             ran.status
         ));
     }
@@ -42,7 +42,17 @@ fn proved_library(root: &Path) -> PathBuf {
     };
     println!("cargo::rerun-if-changed={}", rt.display());
     staticlib(&rt, root);
-    root.join("target/staticlib/libbagwezin.a")
+    root.join("crates/bagwezin/out/libbagwezin.a")
+}
+
+/// The folders of the crates that hold what is proved; what `rt` writes stands beside them.
+fn sources(crates: &Path) -> Vec<PathBuf> {
+    let Ok(folders) = std::fs::read_dir(crates) else {
+        fail(&format!("no folder {}", crates.display()));
+    };
+    let folders = folders.flatten().map(|folder| folder.path());
+    let parts = folders.flat_map(|folder| ["src", "specs", "proofs"].map(|part| folder.join(part)));
+    parts.filter(|part| part.is_dir()).collect()
 }
 
 fn main() {
@@ -51,8 +61,9 @@ fn main() {
     let Some(root) = Path::new(&here).ancestors().nth(2) else {
         fail(&format!("{here} is not rust/bagwezin of a repository"));
     };
-    for name in ["crates", "crates.txt"] {
-        println!("cargo::rerun-if-changed={}", root.join(name).display());
+    println!("cargo::rerun-if-changed={}", root.join("crates.txt").display());
+    for file in sources(&root.join("crates")) {
+        println!("cargo::rerun-if-changed={}", file.display());
     }
     println!("cargo::rerun-if-env-changed=RATTLE_HOME");
     if var("CARGO_CFG_TARGET_ARCH") != "x86_64" || var("CARGO_CFG_TARGET_OS") != "linux" {

@@ -35,8 +35,8 @@ returns-then-not-all_fit c =
     let good = g.ensures.tells (network_of net) b.sound.widths (sign_at net b) in
     let o = ready net b a.gained.now a.lost.now a.head.now a.pending.now c.requires.1 g.result good (rw c.if-not-good_pending.false) in
     let f = c.all_fit in
-    folded_over net b a.gained.now a.lost.now a.head.now a.pending.now c.requires.1 g.result good c.if-not-good_pending.false f.result
-    (f.ensures (network_of net) o (nodes-count net b)) c.if-not-all_fit.true
+    folded_over net b a.gained.now a.lost.now a.head.now a.pending.now c.requires.1 g.result good (rw c.if-not-good_pending.false) f.result
+    (f.ensures (network_of net) o (nodes-count net b)) (rw c.if-not-all_fit.true)
     c.refused-then-not-all_fit.result c.refused-then-not-all_fit.ensures
 
 pub write_nodes-requires : goal.write_nodes-requires
@@ -52,8 +52,8 @@ write_nodes-requires c =
       o,
       signed net b a.gained.now a.lost.now a.head.now a.pending.now c.requires.1,
       nodes-count net b,
-      fit_to net b a.gained.now a.lost.now a.head.now a.pending.now c.requires.1 g.result good c.if-not-good_pending.false f.result
-          (f.ensures (network_of net) o (nodes-count net b)) c.if-not-all_fit.false,
+      fit_to net b a.gained.now a.lost.now a.head.now a.pending.now c.requires.1 g.result good (rw c.if-not-good_pending.false) f.result
+          (f.ensures (network_of net) o (nodes-count net b)) (rw c.if-not-all_fit.false),
     )
 
 pub returns : goal.returns
@@ -67,11 +67,11 @@ returns c =
     (rw c.if-not-good_pending.false) in
     let f = c.all_fit in
     let fits = fit_to net b a.gained.now a.lost.now a.head.now a.pending.now c.requires.1 g.result good
-    c.if-not-good_pending.false f.result (f.ensures (network_of net) o (nodes-count net b))
-    c.if-not-all_fit.false in
+    (rw c.if-not-good_pending.false) f.result (f.ensures (network_of net) o (nodes-count net b))
+    (rw c.if-not-all_fit.false) in
     let w = c.write_nodes in
     folded_all net b a.gained.now a.lost.now a.head.now a.pending.now c.requires.1 g.result good
-    c.if-not-good_pending.false f.result (f.ensures (network_of net) o (nodes-count net b))
-    c.if-not-all_fit.false
+    (rw c.if-not-good_pending.false) f.result (f.ensures (network_of net) o (nodes-count net b))
+    (rw c.if-not-all_fit.false)
     w.new.pending (w.ensures (network_of net) o (signed net b a.gained.now a.lost.now a.head.now a.pending.now c.requires.1) (nodes-count net b) fits)
     c.accepted.result c.accepted.ensures

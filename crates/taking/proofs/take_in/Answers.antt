@@ -71,5 +71,5 @@ returns c =
     let good = g.ensures.tells (network_of net) c.requires.sound.widths (sign_at net c.requires) in
     takes net c.requires p g.result good (rw c.if-not-good_pending.false) top.result top.ensures
     c.if-rank-eq0.false low.result low.ensures row.new.pending row.result
-    (row.ensures w (held net c.requires p g.result good c.if-not-good_pending.false top.result
+    (row.ensures w (held net c.requires p g.result good (rw c.if-not-good_pending.false) top.result
     top.ensures c.if-rank-eq0.false low.result low.ensures))

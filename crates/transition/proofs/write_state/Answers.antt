@@ -45,12 +45,12 @@ write_head-requires c =
     let few = rw o.count_is at o.out.built.sound.few in
     let l = c.list_worked-k in
     let stamps = c.new_stamps-stamps in
-    let listed : length (due_list a.levels.now a.due.now a.n) ≤ max_nodes = omega (arith, l.ensures.counts.0, l.ensures.counts.1) in (
+    let listed : length (due_list a.levels.now a.due.now a.n) ≤ max_nodes = omega (arith, l.ensures.counts, l.ensures.few) in (
       head-long o.net a.rows.now a.gained.now a.lost.now a.head.now a.work.now a.counts.now a.changed.now a.picks.now a.sizes.now o.out,
       o.out.worked.sized.counts,
       stamps-long a.head.now a.changed.now _ a.n stamps.result stamps.ensures few,
       o.out.worked.told.sizes,
-      l.ensures.counts.1,
+      l.ensures.few,
       ap length l.ensures.lists ∙ padded-length max_nodes (due_list a.levels.now a.due.now a.n) listed,
     )
 
@@ -64,4 +64,4 @@ returns c =
     record { writes = λ o copy. state_written o.net a.rows.now a.gained.now a.lost.now a.head.now a.work.now a.counts.now a.changed.now a.picks.now a.sizes.now o.out
     o.fit w.new.rows w.new.gained w.new.lost h.new.head stamps.result l.new.entries a.levels.now
     a.due.now a.n _ l.result copy o.count_is refl (w.ensures (record { net = o.net; out = o.out; count_is = o.count_is })) stamps.ensures o.levels-are o.marked
-    l.ensures.lists l.ensures.counts.0 h.ensures }
+    l.ensures.lists l.ensures.counts h.ensures }
