@@ -1,7 +1,7 @@
 -- A node's place written over: what stands there, and that nothing else changed. Assumes nothing.
 use mathlib.Core.List.{List, [], ◌∷◌, ◌++◌, append_assoc}
 use Prim.Native.Nat.{ℕ, zero, suc, ◌+◌, ◌≤◌, ◌-◌, ◌*◌, ◌<◌}
-use native.Mathlib.Nat.{zero-add, le_refl}
+use native.Mathlib.Nat.{zero-add}
 use lib.ListN.{length, take, drop, length-drop, take-append-drop}
 use mathlib.Core.Path.{◌≡◌, ap, ap₂, ◌∙◌, sym, refl}
 use lib.Seq.{length-take-le, drop-append-le, take-append-le, paste, length_paste_head, drop_at, take_at, drop-drop, drop-paste, take-add, take-nil, take_all}

@@ -1,7 +1,7 @@
 -- All nodes worked, one after the other, from areas of good form. Assumes nothing.
 use mathlib.Core.List.{List, [], ◌∷◌}
 use Prim.Native.Nat.{ℕ, ◌<◌, ◌≤◌, ◌+◌, ◌-◌, ◌*◌, zero-le}
-use lib.ListN.{length, get_or, set, length-set, take, replicate, length-replicate, replicate-append-replicate}
+use lib.ListN.{length, get_or, length-set, take, replicate, length-replicate, replicate-append-replicate}
 use lib.Seq.{get_or-set_same, get_or-set_other, take_at}
 use mathlib.Core.Path.{◌≡◌, ◌∙◌, refl, sym, ap, ap₂}
 use lib.Dec.{ltb, eqb}

@@ -1,8 +1,8 @@
 -- A node's report after refusals 1 to 8. Assumes nothing.
-use mathlib.Core.Bool.{◌&&◌, Bool, cond, false, not, true}
+use mathlib.Core.Bool.{◌&&◌, Bool, false, not, true}
 use mathlib.Core.List.{List, []}
 use mathlib.Core.Path.{ap, ap₂, refl, sym, ◌∙◌, ◌≡◌}
-use Prim.Native.Nat.{◌*◌, ◌+◌, ◌<◌, ℕ, ◌≤◌}
+use Prim.Native.Nat.{◌<◌, ℕ, ◌≤◌}
 use native.Mathlib.Omega.{arith}
 use lib.ListN.{get_or-eq_default, get_or, length, take}
 use lib.Dec.{eqb, leb, ltb}

@@ -1,4 +1,3 @@
-use borrow.Author.Rules.{rules}
 use Rattle.applying.proofs.Applied.{apply-refused, applicable, applied}
 use Rattle.network.specs.Reading.{result_with}
 use Rattle.areas.specs.Lent.{lent}
@@ -18,5 +17,7 @@ pub returns : goal.returns
 returns c =
     let a = c.args in
     let last = c.apply_batch.new in
-    record { applies = applied a.net.now a.rows.now a.gained.now a.lost.now a.head.now c.read_areas-reading.result c.read_areas-reading.ensures.admits a.batch.now c.if-verdict-ne0.false
-    (result_with c.apply_batch.result (lent last.rows last.gained last.lost last.head)) c.apply_batch.ensures.applies }
+    record {
+      applies = applied a.net.now a.rows.now a.gained.now a.lost.now a.head.now c.read_areas-reading.result c.read_areas-reading.ensures.admits a.batch.now c.if-verdict-ne0.false
+          (result_with c.apply_batch.result (lent last.rows last.gained last.lost last.head)) c.apply_batch.ensures.applies;
+    }

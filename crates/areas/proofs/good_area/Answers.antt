@@ -1,13 +1,10 @@
 use mathlib.Core.Bool.{true}
-use mathlib.Core.Logic.{⊎_elim}
 use mathlib.Core.Path.{◌≡◌, sym, ◌∙◌}
-use Prim.Native.Nat.{◌≤◌, ◌-◌, ◌+◌, ◌*◌}
+use Prim.Native.Nat.{◌+◌}
 use native.Mathlib.Omega.{arith}
-use borrow.Author.Tests.{not-true, not-false}
-use Rattle.model.specs.Areas.{place_size}
 use Rattle.areas.specs.Lent.{counts_from}
 use Rattle.areas.proofs.Good.{area_is}
-use Rattle.areas.proofs.Gaps.{GapTo, gap_none, gap_empty, gap_rows, gap_not, gap_end, asked_few, node_asked}
+use Rattle.areas.proofs.Gaps.{gap_none, gap_empty, gap_rows, gap_not, gap_end, asked_few, node_asked}
 use Rattle.areas.proofs.good_area.Goals as goal
 use Rattle.areas.proofs.good_area.Goals.{then-count-ne0+else-not-good_node, else-count-ne0}
 
@@ -50,14 +47,14 @@ loop-i-preserved c =
     let w = a.widths.now in
     let count = counts_from a.words.now a.first in
     elim c.if-count-ne0.branch [
-      then-count-ne0+else-not-good_node came ↦
-        let asked : node_asked w a.n count a.area.now l.from l.i ≡ true = sym came.good_node.ensures ∙ came.if-not-good_node.false in (
-          omega arith,
-          omega (arith, came.from-is, asked_few w a.n count a.area.now l.from l.i asked),
-          rw came.from-is
-              (gap_rows w a.n count a.area.now (omega arith) l.from l.i (omega arith) (omega arith) (c.requires.3 l.i) asked l.invariant.2),
-        )
-    | else-count-ne0 came ↦ (
+      | then-count-ne0+else-not-good_node came ↦
+          let asked : node_asked w a.n count a.area.now l.from l.i ≡ true = sym came.good_node.ensures ∙ came.if-not-good_node.false in (
+            omega arith,
+            omega (arith, came.from-is, asked_few w a.n count a.area.now l.from l.i asked),
+            rw came.from-is
+                (gap_rows w a.n count a.area.now (omega arith) l.from l.i (omega arith) (omega arith) (c.requires.3 l.i) asked l.invariant.2),
+          )
+      | else-count-ne0 came ↦ (
         omega arith,
         omega (arith, came.from-is),
         rw came.from-is

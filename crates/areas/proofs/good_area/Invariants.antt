@@ -1,13 +1,7 @@
-use mathlib.Core.Bool.{true}
-use mathlib.Core.Logic.{⊎_elim}
-use mathlib.Core.Path.{◌≡◌, sym, ◌∙◌}
-use Prim.Native.Nat.{◌≤◌, ◌-◌, ◌+◌, ◌*◌}
-use native.Mathlib.Omega.{arith}
-use borrow.Author.Tests.{not-true, not-false}
+use Prim.Native.Nat.{◌≤◌, ◌-◌, ◌*◌}
 use Rattle.model.specs.Areas.{place_size}
 use Rattle.areas.specs.Lent.{counts_from}
-use Rattle.areas.proofs.Good.{area_is}
-use Rattle.areas.proofs.Gaps.{GapTo, gap_none, gap_empty, gap_rows, gap_not, gap_end, asked_few, node_asked}
+use Rattle.areas.proofs.Gaps.{GapTo}
 use Rattle.areas.proofs.good_area.Given as goal
 
 abbrev pub invariant-loop-i : goal.invariant-loop-i

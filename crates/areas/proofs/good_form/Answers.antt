@@ -11,8 +11,10 @@ good_area-requires c =
 pub returns-then-not-good_area : goal.returns-then-not-good_area
 returns-then-not-good_area c =
     let a = c.args in
-    record { tells = judges_rows a.n a.widths.now a.rows.now a.gained.now a.lost.now a.head.now c.requires.0
-    c.good_area.result c.good_area.ensures (rw c.if-not-good_area.true) }
+    record {
+      tells = judges_rows a.n a.widths.now a.rows.now a.gained.now a.lost.now a.head.now c.requires.0
+          c.good_area.result c.good_area.ensures (rw c.if-not-good_area.true);
+    }
 
 pub good_area-requires-2 : goal.good_area-requires-2
 good_area-requires-2 c =
@@ -23,9 +25,11 @@ good_area-requires-2 c =
 pub returns-then-not-good_area-2 : goal.returns-then-not-good_area-2
 returns-then-not-good_area-2 c =
     let a = c.args in
-    record { tells = judges_gained a.n a.widths.now a.rows.now a.gained.now a.lost.now a.head.now c.requires.0
-    c.good_area.result c.good_area.ensures (rw c.if-not-good_area.false)
-    c.good_area-2.result c.good_area-2.ensures (rw c.if-not-good_area-2.true) }
+    record {
+      tells = judges_gained a.n a.widths.now a.rows.now a.gained.now a.lost.now a.head.now c.requires.0
+          c.good_area.result c.good_area.ensures (rw c.if-not-good_area.false)
+          c.good_area-2.result c.good_area-2.ensures (rw c.if-not-good_area-2.true);
+    }
 
 pub good_area-requires-3 : goal.good_area-requires-3
 good_area-requires-3 c =
@@ -36,10 +40,12 @@ good_area-requires-3 c =
 pub returns-then-not-good_area-3 : goal.returns-then-not-good_area-3
 returns-then-not-good_area-3 c =
     let a = c.args in
-    record { tells = judges_lost a.n a.widths.now a.rows.now a.gained.now a.lost.now a.head.now c.requires.0
-    c.good_area.result c.good_area.ensures (rw c.if-not-good_area.false)
-    c.good_area-2.result c.good_area-2.ensures (rw c.if-not-good_area-2.false)
-    c.good_area-3.result c.good_area-3.ensures (rw c.if-not-good_area-3.true) }
+    record {
+      tells = judges_lost a.n a.widths.now a.rows.now a.gained.now a.lost.now a.head.now c.requires.0
+          c.good_area.result c.good_area.ensures (rw c.if-not-good_area.false)
+          c.good_area-2.result c.good_area-2.ensures (rw c.if-not-good_area-2.false)
+          c.good_area-3.result c.good_area-3.ensures (rw c.if-not-good_area-3.true);
+    }
 
 pub good_stamps-requires : goal.good_stamps-requires
 good_stamps-requires c =
@@ -50,12 +56,14 @@ good_stamps-requires c =
 pub returns-then-not-good_stamps : goal.returns-then-not-good_stamps
 returns-then-not-good_stamps c =
     let a = c.args in
-    record { tells = judges_stamps a.n a.widths.now a.rows.now a.gained.now a.lost.now a.head.now c.requires.0
-    c.good_area.result
-    c.good_area.ensures (rw c.if-not-good_area.false)
-    c.good_area-2.result c.good_area-2.ensures (rw c.if-not-good_area-2.false)
-    c.good_area-3.result c.good_area-3.ensures (rw c.if-not-good_area-3.false)
-    c.good_stamps.result c.good_stamps.ensures (rw c.if-not-good_stamps.true) }
+    record {
+      tells = judges_stamps a.n a.widths.now a.rows.now a.gained.now a.lost.now a.head.now c.requires.0
+          c.good_area.result
+          c.good_area.ensures (rw c.if-not-good_area.false)
+          c.good_area-2.result c.good_area-2.ensures (rw c.if-not-good_area-2.false)
+          c.good_area-3.result c.good_area-3.ensures (rw c.if-not-good_area-3.false)
+          c.good_stamps.result c.good_stamps.ensures (rw c.if-not-good_stamps.true);
+    }
 
 pub good_worked-requires : goal.good_worked-requires
 good_worked-requires c =
@@ -66,11 +74,13 @@ good_worked-requires c =
 pub returns : goal.returns
 returns c =
     let a = c.args in
-    record { tells = judges_worked a.n a.widths.now a.rows.now a.gained.now a.lost.now a.head.now c.requires.0
-    c.good_area.result
-    c.good_area.ensures (rw c.if-not-good_area.false)
-    c.good_area-2.result
-    c.good_area-2.ensures (rw c.if-not-good_area-2.false)
-    c.good_area-3.result c.good_area-3.ensures (rw c.if-not-good_area-3.false)
-    c.good_stamps.result c.good_stamps.ensures (rw c.if-not-good_stamps.false)
-    c.good_worked.result c.good_worked.ensures }
+    record {
+      tells = judges_worked a.n a.widths.now a.rows.now a.gained.now a.lost.now a.head.now c.requires.0
+          c.good_area.result
+          c.good_area.ensures (rw c.if-not-good_area.false)
+          c.good_area-2.result
+          c.good_area-2.ensures (rw c.if-not-good_area-2.false)
+          c.good_area-3.result c.good_area-3.ensures (rw c.if-not-good_area-3.false)
+          c.good_stamps.result c.good_stamps.ensures (rw c.if-not-good_stamps.false)
+          c.good_worked.result c.good_worked.ensures;
+    }

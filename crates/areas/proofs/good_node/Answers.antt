@@ -1,8 +1,7 @@
 use mathlib.Core.Path.{sym, ◌∙◌}
 use native.Mathlib.Omega.{arith}
-use borrow.Author.Tests.{le-leb, lt-leb, not-false, not-true}
+use borrow.Author.Tests.{le-leb, lt-leb}
 use Rattle.model.specs.Row.{max_rows}
-use borrow.Author.Rules.{rules}
 use Rattle.areas.proofs.good_node.Goals as goal
 
 pub returns-then-count-gt-MAX_ROWS : goal.returns-then-count-gt-MAX_ROWS

@@ -1,12 +1,9 @@
-use mathlib.Core.Bool.{false, true}
-use mathlib.Core.Path.{◌≡◌, refl, sym, ◌∙◌}
-use Prim.Native.Nat.{◌≤◌, ◌-◌, ◌+◌}
-use native.Mathlib.Omega.{arith}
-use borrow.Author.Tests.{le-leb, le-ltb, lt-leb, lt-ltb}
-use Rattle.laws.proofs.All.{AllTo, all_none, all_not, all_more}
-use Rattle.model.specs.Areas.{good_worked, worked_at, worked_count}
+use mathlib.Core.Path.{◌≡◌}
+use Prim.Native.Nat.{◌≤◌, ◌-◌}
+use Rattle.laws.proofs.All.{AllTo}
+use Rattle.model.specs.Areas.{worked_count}
 use Rattle.model.specs.Row.{max_nodes}
-use Rattle.areas.proofs.Gaps.{entry_good, entry_is, entries_left}
+use Rattle.areas.proofs.Gaps.{entry_good}
 use Rattle.areas.proofs.good_worked.Given as goal
 
 abbrev pub invariant-loop-k : goal.invariant-loop-k

@@ -4,7 +4,6 @@ use Rattle.model.specs.Calls.{FoldAnswer}
 use Rattle.areas.specs.Lent.{lent}
 use Rattle.packing.specs.Packing.{Answers}
 use Rattle.bagwezin.proofs.Answered.{fold_fits}
-use borrow.Author.Rules.{rules}
 use Rattle.bagwezin.proofs.bagwezin_fold.Goals as goal
 
 pub pack-requires : goal.pack-requires

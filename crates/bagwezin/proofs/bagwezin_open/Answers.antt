@@ -1,4 +1,3 @@
-use borrow.Author.Rules.{rules}
 use mathlib.Core.Path.{ap, subst}
 use native.Mathlib.Omega.{arith}
 use Rattle.model.specs.Calls.{Result}
@@ -10,7 +9,7 @@ use Rattle.bagwezin.proofs.bagwezin_open.Goals as goal
 pub pack-requires : goal.pack-requires
 pack-requires c =
     let a = c.args in (
-      open_fits a.net.now (λ i. omega (arith, c.type_inv.net i)) (lent a.rows.now a.gained.now a.lost.now a.head.now) _ call.«open».ensures,
+      open_fits a.net.now (λ i. omega (arith, c.type_inv.net i)) (lent a.rows.now a.gained.now a.lost.now a.head.now) _ c.open-v.ensures.opens,
       omega arith,
     )
 

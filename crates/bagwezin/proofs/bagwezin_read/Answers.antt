@@ -1,4 +1,3 @@
-use borrow.Author.Rules.{rules}
 use native.Mathlib.Omega.{arith}
 use Prim.Native.Nat.{◌≤◌}
 use lib.ListN.{length}
@@ -10,7 +9,10 @@ pub pack-requires : goal.pack-requires
 pack-requires c = (record { number = omega arith; place = omega arith }, omega arith)
 
 pub returns-then-answer-lt-WORDS : goal.returns-then-answer-lt-WORDS
-returns-then-answer-lt-WORDS c = let a = c.args in read_short a.net.now a.answer.now c.pack.result (omega (arith, c.if-answer-lt-WORDS.true)) c.pack.ensures
+returns-then-answer-lt-WORDS c = let a = c.args in
+    let told = read_short a.net.now a.answer.now c.pack.result (omega (arith, c.if-answer-lt-WORDS.true)) c.pack.ensures in
+    let told = record { answers = told.0; words = told.1 } in
+    record { answers = told.0; words = told.1 }
 
 pub pack-requires-then-read-ne0 : goal.pack-requires-then-read-ne0
 pack-requires-then-read-ne0 c =
@@ -22,7 +24,9 @@ returns-then-read-ne0 c =
     let a = c.args in
     let long : 97 ≤ length a.answer.now = omega (arith, c.if-answer-lt-WORDS.false) in
     let answer = answer_of c.read-read.result in
-    read_refused a.net.now a.answer.now answer c.read-read.ensures.answers long c.pack-then-read-ne0.result c.pack-then-read-ne0.ensures c.if-read-ne0.true
+    let told = read_refused a.net.now a.answer.now answer c.read-read.ensures.answers long c.pack-then-read-ne0.result c.pack-then-read-ne0.ensures c.if-read-ne0.true in
+    let told = record { answers = told.0; words = told.1 } in
+    record { answers = told.0; words = told.1 }
 
 pub write_answer-requires : goal.write_answer-requires
 write_answer-requires c =
@@ -35,5 +39,7 @@ pack-requires-2 c = (record { number = omega arith; place = omega arith }, omega
 pub returns : goal.returns
 returns c =
     let a = c.args in
-    read_written a.net.now a.answer.now (answer_of c.read-read.result) c.read-read.ensures.answers (omega (arith, c.if-answer-lt-WORDS.false)) c.pack-2.result
-    c.write_answer.new.answer c.pack-2.ensures c.if-read-ne0.false c.write_answer.ensures
+    let told = read_written a.net.now a.answer.now (answer_of c.read-read.result) c.read-read.ensures.answers (omega (arith, c.if-answer-lt-WORDS.false)) c.pack-2.result
+    c.write_answer.new.answer c.pack-2.ensures c.if-read-ne0.false c.write_answer.ensures in
+    let told = record { answers = told.0; words = told.1 } in
+    record { answers = told.0; words = told.1 }

@@ -4,7 +4,6 @@ use lib.ListN.{length}
 use Rattle.model.specs.Areas.{stride}
 use Rattle.areas.specs.Lent.{lent}
 use Rattle.bagwezin.proofs.Answered.{take-fits, take_short, take-refused, take_written}
-use borrow.Author.Rules.{rules}
 use Rattle.bagwezin.proofs.bagwezin_take.Goals as goal
 
 pub returns-then-answer-lt-STRIDE : goal.returns-then-answer-lt-STRIDE
@@ -12,7 +11,7 @@ returns-then-answer-lt-STRIDE c =
     let a = c.args in
     let told = take_short a.net.now (lent a.rows.now a.gained.now a.lost.now a.head.now) a.pending.now a.answer.now c.pack.result
     (omega (arith, c.if-answer-lt-STRIDE.true)) c.pack.ensures in
-    (told.0, (told.1, told.2))
+    record { answers = told.0; pending = told.1; row = told.2 }
 
 pub pack-packed-requires : goal.pack-packed-requires
 pack-packed-requires c =
@@ -30,7 +29,7 @@ returns-then-v-ne0 c =
     let told = take-refused a.net.now (lent a.rows.now a.gained.now a.lost.now a.head.now) a.pending.now a.answer.now t.result t.new.pending
     t.ensures.takes long
     c.pack-packed.result c.pack-packed.ensures c.if-v-ne0.true in
-    (told.0, (told.1, told.2))
+    record { answers = told.0; pending = told.1; row = told.2 }
 
 pub copy_run-requires : goal.copy_run-requires
 copy_run-requires c = (
@@ -49,4 +48,4 @@ returns c =
     t.ensures.takes long
     c.pack-packed.result c.pack-packed.ensures
     c.if-v-ne0.false copied.new.dst copied.ensures in
-    (told.0, (told.1, told.2))
+    record { answers = told.0; pending = told.1; row = told.2 }

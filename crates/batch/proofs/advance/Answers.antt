@@ -9,7 +9,6 @@ use Rattle.verdicts.specs.Verdicts.{verdict_of}
 use Rattle.differences.specs.Differences.{picks_size}
 use Rattle.propagation.specs.Propagated.{tables_after, verdict_by}
 use Rattle.batch.proofs.Promised.{names, ready, worked-out, over-refused, accepted-kept}
-use borrow.Author.Rules.{rules}
 use Rattle.batch.proofs.advance.Goals as goal
 
 pub named_nodes-due-requires : goal.named_nodes-due-requires

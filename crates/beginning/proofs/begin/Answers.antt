@@ -1,6 +1,4 @@
-use borrow.Author.Rules.{rules}
 use Rattle.stages.proofs.Steps.{says_no_input, says-opened, says-refused}
-use borrow.Author.Tests.{not-false, not-true}
 use mathlib.Core.Path.{sym, ◌∙◌}
 use Rattle.stages.specs.Stages.{files}
 use Rattle.network.specs.Reading.{result_with}

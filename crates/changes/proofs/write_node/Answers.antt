@@ -2,7 +2,6 @@ use native.Mathlib.Omega.{arith}
 use Prim.Native.Nat.{◌+◌}
 use Rattle.changes.proofs.Node.{came-few, gone-few, gained-few, lost-few, new-few, old-few, numbers_long, node-changed, node_kept}
 use Rattle.areas.proofs.Pasted.{place-long}
-use borrow.Author.Rules.{rules}
 use Rattle.changes.proofs.write_node.Goals as goal
 
 pub overflow_cast-g : goal.overflow_cast-g

@@ -1,9 +1,6 @@
-use Prim.Native.Nat.{◌≤◌, ◌<◌, ◌-◌, zero-le}
-use native.Mathlib.Omega.{arith}
-use mathlib.Core.Path.{◌≡◌}
+use Prim.Native.Nat.{◌≤◌, ◌-◌}
 use Rattle.network.specs.Reading.{nodes_of}
 use Rattle.changes.specs.Written.{Writing, WritesNodes}
-use Rattle.changes.proofs.Out.{writes_none, can_write, writes_more, writes_lengths}
 use Rattle.changes.proofs.write_nodes.Given as goal
 
 abbrev pub invariant-loop-i : goal.invariant-loop-i

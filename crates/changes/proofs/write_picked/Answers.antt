@@ -2,7 +2,6 @@ use native.Mathlib.Omega.{arith}
 use mathlib.Core.Path.{◌∙◌}
 use lib.ListN.{drop}
 use Rattle.changes.proofs.Node.{picked_over}
-use borrow.Author.Rules.{rules}
 use Rattle.changes.proofs.write_picked.Goals as goal
 
 pub returns : goal.returns

@@ -1,4 +1,3 @@
-use borrow.Author.Rules.{rules}
 use Rattle.admission.proofs.Admitted.{checkable}
 use Rattle.checking.proofs.Checked.{check_answered, check_refused}
 use Rattle.checking.proofs.check.Goals as goal
@@ -16,5 +15,7 @@ is_coherent-yes-requires c =
 pub returns : goal.returns
 returns c =
     let a = c.args in
-    record { checks = check_answered a.net.now a.rows.now a.gained.now a.lost.now a.head.now c.read_areas-reading.result c.read_areas-reading.ensures.admits c.if-number-ne0.false
-    c.is_coherent-yes.result c.is_coherent-yes.ensures.tells }
+    record {
+      checks = check_answered a.net.now a.rows.now a.gained.now a.lost.now a.head.now c.read_areas-reading.result c.read_areas-reading.ensures.admits c.if-number-ne0.false
+          c.is_coherent-yes.result c.is_coherent-yes.ensures.tells;
+    }

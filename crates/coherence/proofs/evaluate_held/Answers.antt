@@ -4,7 +4,6 @@ use mathlib.Core.Path.{◌≡◌}
 use Prim.Native.Nat.{ℕ}
 use native.Mathlib.Omega.{arith}
 use lib.ListN.{get_or}
-use borrow.Author.Rules.{rules}
 use Rattle.evaluation.specs.declared.Held.{Held}
 use Rattle.areas.specs.Lent.{place_at}
 use Rattle.coherence.specs.Held.{Derived, Places, held_at}

@@ -1,10 +1,7 @@
-use mathlib.Core.Path.{refl, sym, ◌∙◌, ◌≡◌}
-use Prim.Native.Nat.{◌+◌, ◌-◌, ◌≤◌}
-use native.Mathlib.Omega.{arith}
+use mathlib.Core.Path.{◌≡◌}
+use Prim.Native.Nat.{◌-◌, ◌≤◌}
 use lib.ListN.{get_or}
-use Rattle.laws.proofs.All.{AllTo, all_none, all_more, all_done, all_not}
-use Rattle.coherence.proofs.Coherent.{coherent_is, level_derived, level_table}
-use Rattle.coherence.proofs.Agree.{fewer}
+use Rattle.laws.proofs.All.{AllTo}
 use Rattle.network.specs.Reading.{no_slot}
 use Rattle.coherence.specs.Held.{slot_agrees}
 use Rattle.coherence.proofs.is_coherent.Given as goal

@@ -2,7 +2,6 @@ use mathlib.Core.Path.{refl, sym}
 use Prim.Native.Nat.{◌+◌}
 use native.Mathlib.Omega.{arith}
 use lib.ListN.{get_or}
-use borrow.Author.Rules.{rules}
 use Rattle.model.specs.Areas.{row_count}
 use Rattle.areas.specs.Lent.{place_at}
 use Rattle.places.proofs.Places.{place-few}

@@ -1,8 +1,7 @@
-use mathlib.Core.Path.{refl, ap, sym, ◌∙◌, ◌≡◌}
-use Prim.Native.Nat.{ℕ, ◌+◌, ◌*◌, ◌-◌, ◌≤◌, zero-le}
-use native.Mathlib.Omega.{arith}
-use lib.ListN.{length, length-set, get_or, replicate}
-use Rattle.columns.proofs.Rows.{both_field, column-below, filled, row-filled, row_started}
+use mathlib.Core.Path.{◌≡◌}
+use Prim.Native.Nat.{◌-◌, ◌≤◌}
+use lib.ListN.{length}
+use Rattle.columns.proofs.Rows.{filled}
 use Rattle.columns.specs.Columns.{joined_field}
 use Rattle.rows.specs.Rows.{row_at}
 use Rattle.model.specs.Areas.{stride}

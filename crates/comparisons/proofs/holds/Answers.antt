@@ -3,7 +3,6 @@ use Prim.Native.Nat.{Ordering}
 use Prim.Native.Nat.{◌*◌, ◌+◌}
 use Rattle.comparisons.proofs.Truth.{truth}
 use native.Mathlib.Omega.{arith}
-use borrow.Author.Rules.{rules}
 use Rattle.comparisons.proofs.holds.Goals as goal
 
 pub returns-in-Less : goal.returns-in-Less

@@ -1,4 +1,3 @@
-use borrow.Author.Rules.{rules}
 use Rattle.stages.proofs.Steps.{accepted-batch, applied-head, refused-batch}
 use native.Mathlib.Omega.{arith}
 use Rattle.network.specs.Reading.{result_with}

@@ -1,4 +1,3 @@
-use borrow.Author.Rules.{rules}
 use Rattle.stages.proofs.Steps.{says-batch, says-broken, says-end, says-unfinished}
 use native.Mathlib.Omega.{arith}
 use Rattle.stages.specs.Stages.{files}

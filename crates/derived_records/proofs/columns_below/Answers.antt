@@ -1,6 +1,5 @@
 use mathlib.Core.Path.{sym}
-use Prim.Native.Nat.{◌-◌, ◌≤◌}
-use Rattle.derived_records.proofs.Lists.{BelowTo, below_none, below_more, below-not, below_all}
+use Rattle.derived_records.proofs.Lists.{below_none, below_more, below-not, below_all}
 use native.Mathlib.Omega.{arith}
 use Rattle.derived_records.proofs.columns_below.Goals as goal
 
@@ -14,10 +13,10 @@ returns-then-width-field_at c = let a = c.args in sym
 
 pub loop-i-preserved : goal.loop-i-preserved
 loop-i-preserved c = let a = c.args in (
-      omega arith,
-      below_more a.width a.bytes.now a.at a.k a.n c.loop-i.i c.field_at.result (omega arith)
-          c.field_at.ensures.is c.if-width-field_at.false c.loop-i.invariant.1,
-    )
+  omega arith,
+  below_more a.width a.bytes.now a.at a.k a.n c.loop-i.i c.field_at.result (omega arith)
+      c.field_at.ensures.is c.if-width-field_at.false c.loop-i.invariant.1,
+)
 
 pub returns : goal.returns
 returns c = let a = c.args in sym (below_all a.width a.bytes.now a.at a.k a.n c.loop-i.i (omega arith) c.loop-i.invariant.1)

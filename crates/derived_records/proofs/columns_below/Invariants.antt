@@ -1,7 +1,5 @@
-use mathlib.Core.Path.{sym}
 use Prim.Native.Nat.{◌-◌, ◌≤◌}
-use Rattle.derived_records.proofs.Lists.{BelowTo, below_none, below_more, below-not, below_all}
-use native.Mathlib.Omega.{arith}
+use Rattle.derived_records.proofs.Lists.{BelowTo}
 use Rattle.derived_records.proofs.columns_below.Given as goal
 
 abbrev pub invariant-loop-i : goal.invariant-loop-i

@@ -3,7 +3,6 @@ use Rattle.records.proofs.Header.{whole}
 use Rattle.derived_records.proofs.Body.{counted-short, counted_none, counted_many, counted-size}
 use native.Mathlib.Nat.{mul-le-mul_right}
 use native.Mathlib.Omega.{arith}
-use borrow.Author.Rules.{rules}
 use Rattle.derived_records.proofs.counted_shape.Goals as goal
 
 pub u16_at-size-requires : goal.u16_at-size-requires

@@ -2,7 +2,6 @@ use mathlib.Core.Path.{sym}
 use Rattle.records.proofs.Header.{whole}
 use Rattle.derived_records.proofs.Body.{join-short, join-pairs, join_no_count, join_none, join_many, join-size}
 use native.Mathlib.Omega.{arith}
-use borrow.Author.Rules.{rules}
 use Rattle.derived_records.proofs.join_shape.Goals as goal
 
 pub u16_at-size-requires : goal.u16_at-size-requires

@@ -1,6 +1,5 @@
 use mathlib.Core.Path.{sym}
-use Prim.Native.Nat.{◌-◌, ◌≤◌}
-use Rattle.derived_records.proofs.Lists.{PairsTo, pairs_start, pairs_more, pairs-not-left, pairs-not-right, pairs_all}
+use Rattle.derived_records.proofs.Lists.{pairs_start, pairs_more, pairs-not-left, pairs-not-right, pairs_all}
 use native.Mathlib.Omega.{arith}
 use Rattle.derived_records.proofs.pairs_below.Goals as goal
 
@@ -20,11 +19,11 @@ returns-then-right-field_at c = let a = c.args in sym
 
 pub loop-i-preserved : goal.loop-i-preserved
 loop-i-preserved c = let a = c.args in (
-      omega arith,
-      pairs_more a.left a.right a.bytes.now a.at 3 a.n c.loop-i.i c.field_at.result
-          c.field_at-in-loop-i.result (omega arith) c.field_at.ensures.is c.field_at-in-loop-i.ensures.is c.if-left-field_at.false c.if-right-field_at.false
-          c.loop-i.invariant.1,
-    )
+  omega arith,
+  pairs_more a.left a.right a.bytes.now a.at 3 a.n c.loop-i.i c.field_at.result
+      c.field_at-in-loop-i.result (omega arith) c.field_at.ensures.is c.field_at-in-loop-i.ensures.is c.if-left-field_at.false c.if-right-field_at.false
+      c.loop-i.invariant.1,
+)
 
 pub returns : goal.returns
 returns c = let a = c.args in sym (pairs_all a.left a.right a.bytes.now a.at 3 a.n c.loop-i.i (omega arith) c.loop-i.invariant.1)

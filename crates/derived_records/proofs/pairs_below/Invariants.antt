@@ -1,7 +1,5 @@
-use mathlib.Core.Path.{sym}
 use Prim.Native.Nat.{◌-◌, ◌≤◌}
-use Rattle.derived_records.proofs.Lists.{PairsTo, pairs_start, pairs_more, pairs-not-left, pairs-not-right, pairs_all}
-use native.Mathlib.Omega.{arith}
+use Rattle.derived_records.proofs.Lists.{PairsTo}
 use Rattle.derived_records.proofs.pairs_below.Given as goal
 
 abbrev pub invariant-loop-i : goal.invariant-loop-i

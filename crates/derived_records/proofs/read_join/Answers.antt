@@ -1,11 +1,9 @@
 use mathlib.Core.Path.{◌≡◌, sym, ◌∙◌}
 use Prim.Native.Nat.{◌+◌, ◌*◌}
 use Rattle.model.specs.Record.{field_at}
-use borrow.Author.Tests.{not-true, not-false}
 use Rattle.records.proofs.Header.{whole}
 use Rattle.derived_records.proofs.Body.{join-shaped, join_unshaped, join_no_left, join_no_right, join_bad_pair, join_high, join_ok, reads_as}
 use native.Mathlib.Omega.{arith}
-use borrow.Author.Rules.{rules}
 use Rattle.derived_records.proofs.read_join.Goals as goal
 
 pub returns-then-not-join_shape : goal.returns-then-not-join_shape

@@ -1,10 +1,8 @@
 use mathlib.Core.Path.{sym, ◌∙◌}
-use borrow.Author.Tests.{not-true, not-false}
 use Rattle.records.proofs.Header.{whole}
 use Rattle.derived_records.proofs.Body.{reads_as, shape-counted}
 use Rattle.derived_records.proofs.NoMatch.{no_match_unshaped, no_match_no_left, no_match_no_right, no_match_bad_pair, no_match_ok}
 use native.Mathlib.Omega.{arith}
-use borrow.Author.Rules.{rules}
 use Rattle.model.specs.Network.{max_pairs}
 use Rattle.derived_records.proofs.read_no_match.Goals as goal
 

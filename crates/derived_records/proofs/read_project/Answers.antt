@@ -1,9 +1,7 @@
 use mathlib.Core.Path.{sym, ◌∙◌}
-use borrow.Author.Tests.{not-true, not-false}
 use Rattle.records.proofs.Header.{whole}
 use Rattle.derived_records.proofs.Body.{shape-counted, project_unshaped, project_no_input, project_high, project_ok, reads_as}
 use native.Mathlib.Omega.{arith}
-use borrow.Author.Rules.{rules}
 use Rattle.model.specs.Row.{max_width}
 use Rattle.derived_records.proofs.read_project.Goals as goal
 

@@ -1,11 +1,9 @@
 use mathlib.Core.Path.{sym, ◌∙◌}
 use Prim.Native.Nat.{◌<◌}
 use lib.ListN.{take}
-use borrow.Author.Tests.{not-true, not-false}
 use Rattle.records.proofs.Header.{whole}
 use Rattle.derived_records.proofs.Body.{column-size, column-not, column_high, column_ok, select_input, first_at, reads_as}
 use native.Mathlib.Omega.{arith}
-use borrow.Author.Rules.{rules}
 use Rattle.derived_records.proofs.read_select_column.Goals as goal
 
 pub u16_at-requires : goal.u16_at-requires

@@ -1,6 +1,5 @@
 use mathlib.Core.Path.{sym, ◌∙◌}
 use lib.ListN.{take}
-use borrow.Author.Tests.{not-true, not-false}
 use Rattle.records.proofs.Header.{whole}
 use Rattle.derived_records.proofs.Body.{constant-size, constant-not, constant_ok, reads_as}
 use native.Mathlib.Omega.{arith}

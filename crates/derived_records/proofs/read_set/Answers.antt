@@ -1,7 +1,6 @@
 use Rattle.records.proofs.Header.{whole}
 use Rattle.derived_records.proofs.Body.{set-size, set_no_left, set_no_right, set_unequal, set_ok, reads_as}
 use native.Mathlib.Omega.{arith}
-use borrow.Author.Rules.{rules}
 use Rattle.derived_records.proofs.read_set.Goals as goal
 
 pub u16_at-requires : goal.u16_at-requires

@@ -1,6 +1,5 @@
 use mathlib.Core.Path.{sym}
 use Rattle.derived_records.proofs.Body.{select_no_input, select_no_column, select_code}
-use borrow.Author.Rules.{rules}
 use Rattle.derived_records.proofs.select_fits.Goals as goal
 
 pub returns-then-count-input : goal.returns-then-count-input

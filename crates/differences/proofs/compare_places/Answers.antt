@@ -1,10 +1,9 @@
 use Prim.Native.Nat.{Ordering}
-use Prim.Native.Nat.{◌<◌, ◌-◌, ◌+◌}
+use Prim.Native.Nat.{◌-◌}
 use native.Mathlib.Omega.{arith}
-use borrow.Author.Rules.{rules}
 use Rattle.laws.proofs.Order.{lt≢gt}
 use Rattle.merges.proofs.Merged.{told}
-use Rattle.differences.proofs.Picked.{Comparing, comparing_end, comparing_equal, comparing_greater, comparing_less, comparing_start, old-left}
+use Rattle.differences.proofs.Picked.{comparing_end, comparing_equal, comparing_greater, comparing_less, comparing_start, old-left}
 use Rattle.differences.proofs.compare_places.Goals as goal
 
 pub loop-j-init : goal.loop-j-init
@@ -31,24 +30,33 @@ overflow_cast-picks-in-Greater c =
     let a = c.args in
     let l = c.loop-j in
     -- past the last old row a new one is less
-    omega (arith, old-left a.old.now a.m a.new.now a.n c.requires.1 c.requires.0 l.i l.j l.picks l.gained l.lost l.invariant (omega arith)
-    Ordering.gt (told c.in-Greater.is c.compare_first.ensures) lt≢gt)
+    omega (
+      arith,
+      old-left a.old.now a.m a.new.now a.n c.requires.1 c.requires.0 l.i l.j l.picks l.gained l.lost l.invariant (omega arith)
+          Ordering.gt (told c.in-Greater.is c.compare_first.ensures) lt≢gt,
+    )
 
 pub bounds-picks-lost : goal.bounds-picks-lost
 bounds-picks-lost c =
     let a = c.args in
     let l = c.loop-j in
     -- past the last old row a new one is less
-    omega (arith, old-left a.old.now a.m a.new.now a.n c.requires.1 c.requires.0 l.i l.j l.picks l.gained l.lost l.invariant (omega arith)
-    Ordering.gt (told c.in-Greater.is c.compare_first.ensures) lt≢gt)
+    omega (
+      arith,
+      old-left a.old.now a.m a.new.now a.n c.requires.1 c.requires.0 l.i l.j l.picks l.gained l.lost l.invariant (omega arith)
+          Ordering.gt (told c.in-Greater.is c.compare_first.ensures) lt≢gt,
+    )
 
 pub loop-j-smaller : goal.loop-j-smaller
 loop-j-smaller c =
     let a = c.args in
     let l = c.loop-j in
     -- past the last old row a new one is less
-    omega (arith, old-left a.old.now a.m a.new.now a.n c.requires.1 c.requires.0 l.i l.j l.picks l.gained l.lost l.invariant (omega arith)
-    Ordering.gt (told c.in-Greater.is c.compare_first.ensures) lt≢gt)
+    omega (
+      arith,
+      old-left a.old.now a.m a.new.now a.n c.requires.1 c.requires.0 l.i l.j l.picks l.gained l.lost l.invariant (omega arith)
+          Ordering.gt (told c.in-Greater.is c.compare_first.ensures) lt≢gt,
+    )
 
 pub loop-j-preserved : goal.loop-j-preserved
 loop-j-preserved c =

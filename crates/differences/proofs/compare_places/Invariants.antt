@@ -1,10 +1,5 @@
-use Prim.Native.Nat.{Ordering}
-use Prim.Native.Nat.{◌<◌, ◌-◌, ◌+◌}
-use native.Mathlib.Omega.{arith}
-use borrow.Author.Rules.{rules}
-use Rattle.laws.proofs.Order.{lt≢gt}
-use Rattle.merges.proofs.Merged.{told}
-use Rattle.differences.proofs.Picked.{Comparing, comparing_end, comparing_equal, comparing_greater, comparing_less, comparing_start, old-left}
+use Prim.Native.Nat.{◌-◌, ◌+◌}
+use Rattle.differences.proofs.Picked.{Comparing}
 use Rattle.differences.proofs.compare_places.Given as goal
 
 abbrev pub invariant-loop-j : goal.invariant-loop-j

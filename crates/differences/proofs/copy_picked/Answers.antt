@@ -1,11 +1,7 @@
-use mathlib.Core.Path.{◌≡◌, refl}
-use Prim.Native.Nat.{◌≤◌, ◌-◌, ◌+◌}
+use mathlib.Core.Path.{refl}
+use Prim.Native.Nat.{◌-◌, ◌+◌}
 use native.Mathlib.Omega.{arith}
 use borrow.Author.Rules.{rules}
-use lib.ListN.{length, take, drop}
-use lib.Seq.{sets}
-use Rattle.rows.specs.Rows.{words}
-use Rattle.differences.specs.Differences.{chosen}
 use Rattle.differences.proofs.Chosen.{copy_all, copy_turn, row_in}
 use Rattle.differences.proofs.copy_picked.Goals as goal
 

@@ -1,12 +1,9 @@
-use mathlib.Core.Path.{◌≡◌, refl}
-use Prim.Native.Nat.{◌≤◌, ◌-◌, ◌+◌}
-use native.Mathlib.Omega.{arith}
-use borrow.Author.Rules.{rules}
+use mathlib.Core.Path.{◌≡◌}
+use Prim.Native.Nat.{◌≤◌, ◌-◌}
 use lib.ListN.{length, take, drop}
 use lib.Seq.{sets}
 use Rattle.rows.specs.Rows.{words}
 use Rattle.differences.specs.Differences.{chosen}
-use Rattle.differences.proofs.Chosen.{copy_all, copy_turn, row_in}
 use Rattle.differences.proofs.copy_picked.Given as goal
 
 abbrev pub invariant-loop-k : goal.invariant-loop-k

@@ -1,9 +1,7 @@
 use mathlib.Core.Path.{◌≡◌, refl, ◌∙◌}
-use Prim.Native.Nat.{◌≤◌, ◌-◌}
+use Prim.Native.Nat.{◌-◌}
 use native.Mathlib.Omega.{arith}
-use lib.ListN.{length, length-set}
-use lib.Seq.{sets}
-use Rattle.model.specs.Row.{count_from}
+use lib.ListN.{length-set}
 use Rattle.differences.proofs.Chosen.{put-turn}
 use Rattle.differences.proofs.put_numbers.Goals as goal
 

@@ -1,6 +1,5 @@
 use native.Mathlib.Omega.{arith}
 use lib.ListN.{take}
-use borrow.Author.Rules.{rules}
 use Rattle.columns.proofs.Rows.{columns_more}
 use Rattle.model.specs.Network.{evaluate_on, evaluate_set}
 use Rattle.evaluation.proofs.Inside.{fills_none, join-fits, join-inside, no_match_inside, operand_narrow, pairs_more, project-inside, select-inside}

@@ -1,5 +1,4 @@
 use lib.ListN.{take}
-use borrow.Author.Rules.{rules}
 use Rattle.nodes.specs.Nodes.{lists_of, pairs_of}
 use Rattle.evaluation.proofs.inputs_of.Goals as goal
 

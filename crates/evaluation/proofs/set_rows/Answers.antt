@@ -1,4 +1,3 @@
-use borrow.Author.Rules.{rules}
 use Rattle.model.specs.Network.{evaluate_set}
 use native.Mathlib.Omega.{arith}
 use Rattle.places.proofs.Places.{place-few, rows_ascend}

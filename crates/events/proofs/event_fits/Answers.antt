@@ -4,7 +4,6 @@ use Prim.Native.Nat.{◌*◌, ◌+◌, ℕ}
 use native.Mathlib.Omega.{arith}
 use lib.Dec.{eqb, leb, ltb}
 use lib.ListN.{get_or}
-use borrow.Author.Rules.{rules}
 use borrow.Author.Tests.{eq-eqb, le-leb, le-ltb, lt-leb, lt-ltb, ne_eqb}
 use Rattle.model.specs.Record.{field_at, length_at}
 use Rattle.events.proofs.Events.{fits-first, fits_last, fits-second, fits_third}

@@ -1,13 +1,10 @@
-use mathlib.Core.Path.{ap, sym, ◌∙◌, ◌≡◌}
-use Prim.Native.Nat.{◌+◌, ◌-◌, ℕ, ◌≤◌}
+use mathlib.Core.Path.{ap, sym, ◌∙◌}
+use Prim.Native.Nat.{◌+◌, ◌-◌, ℕ}
 use native.Mathlib.Omega.{arith}
-use lib.ListN.{length}
-use borrow.Author.Rules.{rules}
-use Rattle.events.proofs.Events.{Left, brought_few, brought_whole, left_end, left-next, left-refused, left_start, reads-number, reads-size, refused-number}
+use Rattle.events.proofs.Events.{brought_few, brought_whole, left_end, left-next, left-refused, left_start, reads-number, reads-size, refused-number}
 use Rattle.network.specs.Reading.{nodes_of}
-use Rattle.model.specs.Record.{length_at, refused}
-use Rattle.events.specs.Reading.{NumbersOf, number_of}
-use Rattle.model.specs.Batch.{max_events}
+use Rattle.model.specs.Record.{refused}
+use Rattle.events.specs.Reading.{number_of}
 use Rattle.events.proofs.read_batch.Goals as goal
 
 pub loop-at-init : goal.loop-at-init
@@ -26,11 +23,13 @@ returns-in_default c =
     let a = c.args in
     let l = c.loop-at in
     let e = c.read_event-reading in
-    record { reads = λ o.
-    let n = reads-number o a.bytes.now l.before l.at e.result e.ensures in
-    c.refused.ensures
-    ∙ ap (λ (k : ℕ). refused k l.at) (c.number_of.ensures ∙ n)
-    ∙ left-refused (nodes_of o.net) a.bytes.now l.before l.at (l.invariant.1 o) c.loop-at-test.true (λ z. refused-number e.result c.in_default.not-Event (n ∙ z)) }
+    record {
+      reads = λ o.
+          let n = reads-number o a.bytes.now l.before l.at e.result e.ensures in
+          c.refused.ensures
+          ∙ ap (λ (k : ℕ). refused k l.at) (c.number_of.ensures ∙ n)
+          ∙ left-refused (nodes_of o.net) a.bytes.now l.before l.at (l.invariant.1 o) c.loop-at-test.true (λ z. refused-number e.result c.in_default.not-Event (n ∙ z));
+    }
 
 pub overflow_add-before : goal.overflow_add-before
 overflow_add-before c = omega (arith, c.loop-at.invariant.0)

@@ -1,12 +1,8 @@
-use mathlib.Core.Path.{ap, sym, ◌∙◌, ◌≡◌}
-use Prim.Native.Nat.{◌+◌, ◌-◌, ℕ, ◌≤◌}
-use native.Mathlib.Omega.{arith}
+use Prim.Native.Nat.{◌-◌, ◌≤◌}
 use lib.ListN.{length}
-use borrow.Author.Rules.{rules}
-use Rattle.events.proofs.Events.{Left, brought_few, brought_whole, left_end, left-next, left-refused, left_start, reads-number, reads-size, refused-number}
+use Rattle.events.proofs.Events.{Left}
 use Rattle.network.specs.Reading.{nodes_of}
-use Rattle.model.specs.Record.{length_at, refused}
-use Rattle.events.specs.Reading.{NumbersOf, number_of}
+use Rattle.events.specs.Reading.{NumbersOf}
 use Rattle.model.specs.Batch.{max_events}
 use Rattle.events.proofs.read_batch.Given as goal
 

@@ -1,7 +1,6 @@
 use mathlib.Core.Path.{ap, sym, ◌∙◌}
 use native.Mathlib.Omega.{arith}
-use borrow.Author.Rules.{rules}
-use borrow.Author.Tests.{le-leb, lt-leb, not-false, not-true}
+use borrow.Author.Tests.{le-leb, lt-leb}
 use Rattle.events.proofs.Events.{reads-broken, reads_no_event, reads_too_many, reads_misfit, reads_event}
 use Rattle.model.specs.Batch.{is_event_kind, max_events}
 use Rattle.records.proofs.Header.{whole}

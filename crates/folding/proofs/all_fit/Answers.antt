@@ -1,10 +1,6 @@
-use mathlib.Core.Path.{◌≡◌}
-use Prim.Native.Nat.{◌-◌, ◌≤◌}
+use Prim.Native.Nat.{◌-◌}
 use native.Mathlib.Omega.{arith}
-use lib.ListN.{length}
-use Rattle.model.specs.Network.{Network}
-use Rattle.laws.proofs.All.{AllTo, all_done, all_more, all_none, all_not}
-use Rattle.folding.specs.Folding.{Ready}
+use Rattle.laws.proofs.All.{all_done, all_more, all_none, all_not}
 use Rattle.folding.proofs.Ready.{all_fitted, fits_at}
 use Rattle.folding.proofs.all_fit.Goals as goal
 

@@ -6,7 +6,6 @@ use Rattle.areas.proofs.Good.{long_parts}
 use Rattle.network.specs.Reading.{nodes_of}
 use Rattle.states.proofs.Fitted.{form_parts}
 use Rattle.admission.proofs.Admitted.{after_admitted, after-refused}
-use borrow.Author.Rules.{rules}
 use Rattle.folding.proofs.fold.Goals as goal
 
 pub returns-then-verdict-ne0 : goal.returns-then-verdict-ne0
@@ -14,8 +13,10 @@ unfolding fold_call
 returns-then-verdict-ne0 c =
     let a = c.args in
     let read = c.read_areas-reading in
-    record { folds = sym (after-refused a.net.now a.rows.now a.gained.now a.lost.now a.head.now read.result read.ensures.admits (λ n. fold_in layout n (lent a.rows.now a.gained.now
-    a.lost.now a.head.now) a.pending.now) (λ v. record { verdict = v; pending = a.pending.now }) c.if-verdict-ne0.true) }
+    record {
+      folds = sym (after-refused a.net.now a.rows.now a.gained.now a.lost.now a.head.now read.result read.ensures.admits (λ n. fold_in layout n (lent a.rows.now a.gained.now
+          a.lost.now a.head.now) a.pending.now) (λ v. record { verdict = v; pending = a.pending.now }) c.if-verdict-ne0.true);
+    }
 
 pub fold_in-requires : goal.fold_in-requires
 fold_in-requires c =
@@ -33,7 +34,9 @@ unfolding fold_call fold_in changes_in
 returns c =
     let a = c.args in
     let read = c.read_areas-reading in
-    record { folds = c.fold_in.ensures
-    ∙ sym (after_admitted a.net.now a.rows.now a.gained.now a.lost.now a.head.now read.result read.ensures.admits c.if-verdict-ne0.false
-    (λ n. fold_in layout n (lent a.rows.now
-    a.gained.now a.lost.now a.head.now) a.pending.now) (λ v. record { verdict = v; pending = a.pending.now })) }
+    record {
+      folds = c.fold_in.ensures
+          ∙ sym (after_admitted a.net.now a.rows.now a.gained.now a.lost.now a.head.now read.result read.ensures.admits c.if-verdict-ne0.false
+          (λ n. fold_in layout n (lent a.rows.now
+          a.gained.now a.lost.now a.head.now) a.pending.now) (λ v. record { verdict = v; pending = a.pending.now }));
+    }

@@ -2,7 +2,6 @@ use Rattle.network.specs.Reading.{network_of}
 use Rattle.network.proofs.Building.{sign_at}
 use Rattle.network.proofs.Nodes.{nodes-count}
 use Rattle.folding.proofs.Answered.{signed, folded_17, ready, folded_over, fit_to, folded_all}
-use borrow.Author.Rules.{rules}
 use Rattle.folding.proofs.fold_in.Goals as goal
 
 pub returns-then-not-good_pending : goal.returns-then-not-good_pending

@@ -1,7 +1,6 @@
 use mathlib.Core.Path.{refl}
 use native.Mathlib.Omega.{arith}
 use Rattle.folding.proofs.Folded.{had_few, gone-few, came-few, gone_ascends, came_ascends, kept-place, folds}
-use borrow.Author.Rules.{rules}
 use Rattle.folding.proofs.fold_node.Goals as goal
 
 pub overflow_cast-had : goal.overflow_cast-had

@@ -7,7 +7,6 @@ use Rattle.model.specs.Row.{Relation, max_rows}
 use Rattle.model.specs.Network.{widths}
 use Rattle.folding.specs.Folding.{folded_at, folded_words}
 use Rattle.folding.proofs.Ready.{made_fits, over-fits-not, node_counts, node_foldable, folded_is, most_fits, crowded_alerts}
-use borrow.Author.Rules.{rules}
 use Rattle.folding.proofs.node_fits.Goals as goal
 
 pub bounds-pending-i : goal.bounds-pending-i

@@ -1,10 +1,8 @@
 use mathlib.Core.Path.{refl, sym, ◌∙◌}
 use lib.ListN.{get_or}
-use borrow.Author.Tests.{not-false, not-true}
 use Rattle.model.specs.Network.{widths}
 use Rattle.folding.proofs.Ready.{node_counts, node_foldable}
 use Rattle.folding.proofs.Written.{made_place, write_none, write_some, write_fits}
-use borrow.Author.Rules.{rules}
 use Rattle.folding.proofs.write_node.Goals as goal
 
 pub is_touched-requires : goal.is_touched-requires

@@ -1,10 +1,8 @@
-use mathlib.Core.Path.{refl, ◌≡◌}
-use Prim.Native.Nat.{◌-◌, ◌≤◌, ◌<◌}
+use mathlib.Core.Path.{refl}
+use Prim.Native.Nat.{◌-◌, ◌<◌}
 use native.Mathlib.Omega.{arith}
 use lib.ListN.{length}
-use Rattle.model.specs.Network.{Network}
-use Rattle.folding.specs.Folding.{FitTo, Ready, Signed}
-use Rattle.folding.proofs.Loop.{Going, going_none, going_ready, next_fits, going_more, going_all}
+use Rattle.folding.proofs.Loop.{going_none, going_ready, next_fits, going_more, going_all}
 use Rattle.folding.proofs.write_nodes.Goals as goal
 
 pub loop-i-init : goal.loop-i-init

@@ -1,14 +1,13 @@
-use mathlib.Core.Path.{refl, ◌≡◌}
-use Prim.Native.Nat.{◌-◌, ◌≤◌, ◌<◌}
-use native.Mathlib.Omega.{arith}
+use mathlib.Core.Path.{◌≡◌}
+use Prim.Native.Nat.{◌-◌, ◌≤◌}
 use lib.ListN.{length}
 use Rattle.model.specs.Network.{Network}
 use Rattle.folding.specs.Folding.{FitTo, Ready, Signed}
-use Rattle.folding.proofs.Loop.{Going, going_none, going_ready, next_fits, going_more, going_all}
+use Rattle.folding.proofs.Loop.{Going}
 use Rattle.folding.proofs.write_nodes.Given as goal
 
 abbrev pub invariant-loop-i : goal.invariant-loop-i
-invariant-loop-i l = 
+invariant-loop-i l =
     (l.i ≤ l.n) × (length l.pending ≡ length l.initial.pending)
     × ((net : Network) → Ready net l.gained l.lost l.head l.initial.pending → Signed net l.signs → length net.nodes ≡ l.n → FitTo (length net.nodes) net l.gained l.lost l.head l.initial.pending → Going net l.gained l.lost l.head
     l.initial.pending l.pending l.i)

@@ -1,7 +1,7 @@
 use mathlib.Core.Path.{◌≡◌, refl, ◌∙◌}
-use Prim.Native.Nat.{◌≤◌, ◌-◌, ◌+◌}
-use lib.ListN.{length, length-set}
-use Rattle.insertions.proofs.Gaps.{shut, shut_none, shut_turn}
+use Prim.Native.Nat.{◌-◌, ◌+◌}
+use lib.ListN.{length-set}
+use Rattle.insertions.proofs.Gaps.{shut_none, shut_turn}
 use native.Mathlib.Omega.{arith}
 use Rattle.model.specs.Areas.{stride}
 use Rattle.insertions.proofs.close_gap.Goals as goal

@@ -6,7 +6,6 @@ use Rattle.model.specs.Areas.{stride}
 use Rattle.rows.specs.Rows.{row_at, first_rows, order_of}
 use Rattle.rows.proofs.Search.{narrowed_all, narrowed_found, narrowed_greater, narrowed_none}
 use Rattle.insertions.proofs.Shorter.{ascending_shorter, located_shorter, none_located}
-use borrow.Author.Rules.{rules}
 use Rattle.insertions.proofs.find_from_end.Goals as goal
 
 pub returns-then-n-eq0 : goal.returns-then-n-eq0

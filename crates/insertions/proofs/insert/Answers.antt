@@ -4,7 +4,7 @@ use mathlib.Core.List.{List}
 use lib.ListN.{drop}
 use lib.Seq.{paste}
 use Prim.Native.Nat.{ℕ, ◌≤◌, ◌*◌}
-use Rattle.laws.proofs.Sets.{Ascending, ascending-holds}
+use Rattle.laws.proofs.Sets.{ascending-holds}
 use Rattle.model.specs.Row.{Row, ascending}
 use Rattle.model.specs.Areas.{stride}
 use Rattle.rows.specs.Rows.{row_at, first_rows, locate}
@@ -15,7 +15,6 @@ use Rattle.rows.proofs.Words.{length-rows}
 use Rattle.insertions.proofs.Gaps.{put_copied}
 use Rattle.insertions.proofs.Edit.{inserts_present, inserts_full, inserts_new}
 use native.Mathlib.Omega.{arith}
-use borrow.Author.Rules.{rules}
 use Rattle.insertions.proofs.insert.Goals as goal
 
 -- the row is missing: its place is within the rows

@@ -1,8 +1,7 @@
-use mathlib.Core.Path.{◌≡◌, refl, ◌∙◌}
+use mathlib.Core.Path.{◌≡◌}
 use Prim.Native.Nat.{◌≤◌}
-use lib.ListN.{length, length-set}
-use Rattle.insertions.proofs.Gaps.{gap, gap_none, gap_turn}
-use native.Mathlib.Omega.{arith}
+use lib.ListN.{length}
+use Rattle.insertions.proofs.Gaps.{gap}
 use Rattle.model.specs.Areas.{stride}
 use Rattle.insertions.proofs.open_gap.Given as goal
 

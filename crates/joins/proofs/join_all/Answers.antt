@@ -1,13 +1,11 @@
 use mathlib.Core.List.{[]}
 use mathlib.Core.Path.{refl, ap, ◌∙◌, ◌≡◌}
-use Prim.Native.Nat.{◌-◌, ℕ, ◌≤◌}
+use Prim.Native.Nat.{ℕ}
 use native.Mathlib.Omega.{arith}
 use lib.ListN.{length, length-replicate}
-use borrow.Author.Rules.{rules}
-use Rattle.places.specs.Places.{Stands}
 use Rattle.joins.specs.Joins.{joined_with}
 use Rattle.joins.proofs.Joins.{wide_with}
-use Rattle.places.proofs.Puts.{put_all, put_exceeds, put_ready, put-stands, put_start, put_up_to, stands_none}
+use Rattle.places.proofs.Puts.{put_all, put_exceeds, put_ready, put-stands, put_start, stands_none}
 use Rattle.rows.specs.Rows.{first_rows}
 use Rattle.model.specs.Areas.{place_size, stride}
 use Rattle.rows.proofs.Words.{wide_rows}

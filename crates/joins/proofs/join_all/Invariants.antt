@@ -1,16 +1,12 @@
 use mathlib.Core.List.{[]}
-use mathlib.Core.Path.{refl, ap, ◌∙◌, ◌≡◌}
-use Prim.Native.Nat.{◌-◌, ℕ, ◌≤◌}
-use native.Mathlib.Omega.{arith}
-use lib.ListN.{length, length-replicate}
-use borrow.Author.Rules.{rules}
+use mathlib.Core.Path.{◌≡◌}
+use Prim.Native.Nat.{◌-◌, ◌≤◌}
+use lib.ListN.{length}
 use Rattle.places.specs.Places.{Stands}
 use Rattle.joins.specs.Joins.{joined_with}
-use Rattle.joins.proofs.Joins.{wide_with}
-use Rattle.places.proofs.Puts.{put_all, put_exceeds, put_ready, put-stands, put_start, put_up_to, stands_none}
+use Rattle.places.proofs.Puts.{put_up_to}
 use Rattle.rows.specs.Rows.{first_rows}
-use Rattle.model.specs.Areas.{place_size, stride}
-use Rattle.rows.proofs.Words.{wide_rows}
+use Rattle.model.specs.Areas.{place_size}
 use Rattle.joins.proofs.join_all.Given as goal
 
 abbrev pub invariant-loop-i : goal.invariant-loop-i

@@ -6,7 +6,6 @@ use Rattle.model.specs.Areas.{stride}
 use Rattle.rows.specs.Rows.{first_rows}
 use Rattle.masks.proofs.Masks.{uses}
 use Rattle.joins.proofs.Masked.{masked_few, masked_long, masked_rows_lem, right_masked}
-use borrow.Author.Rules.{rules}
 use Rattle.joins.proofs.join_masked.Goals as goal
 
 pub mask_unordered-k-requires : goal.mask_unordered-k-requires

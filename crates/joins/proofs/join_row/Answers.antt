@@ -1,8 +1,7 @@
 use mathlib.Core.Path.{ap}
-use Prim.Native.Nat.{ℕ, ◌-◌, ◌<◌}
+use Prim.Native.Nat.{ℕ, ◌<◌}
 use native.Mathlib.Omega.{arith}
 use lib.ListN.{length, get_or, take}
-use borrow.Author.Rules.{rules}
 use Rattle.model.specs.Row.{max_rows}
 use Rattle.model.specs.Areas.{stride}
 use Rattle.laws.proofs.Sets.{ascending-holds}
@@ -11,7 +10,7 @@ use Rattle.rows.proofs.Words.{wide_rows}
 use Rattle.columns.proofs.Rows.{joined_length}
 use Rattle.keys.proofs.Chains.{slot_below, head_most}
 use Rattle.joins.proofs.Joins.{few_given}
-use Rattle.joins.proofs.Walk.{Walked, walk_ends, walk_exceeds, walk_less, walk_passes, walk_puts, walk_ready, walk_starts}
+use Rattle.joins.proofs.Walk.{walk_ends, walk_exceeds, walk_less, walk_passes, walk_puts, walk_ready, walk_starts}
 use Rattle.joins.proofs.join_row.Goals as goal
 
 pub key_of-key-requires : goal.key_of-key-requires

@@ -11,7 +11,6 @@ use Rattle.rows.specs.Rows.{first_rows}
 use Rattle.masks.proofs.Masks.{uses}
 use Rattle.joins.proofs.Joins.{join_makes}
 use Rattle.joins.proofs.Masked.{left_masked, masked_long, masked_rows_lem}
-use borrow.Author.Rules.{rules}
 use Rattle.joins.proofs.join_rows.Goals as goal
 
 -- the left rows are few where the first test fails

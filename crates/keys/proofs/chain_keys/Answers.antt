@@ -1,7 +1,6 @@
 use mathlib.Core.Path.{◌≡◌}
-use Prim.Native.Nat.{◌+◌, ◌-◌, ◌≤◌}
+use Prim.Native.Nat.{◌+◌, ◌-◌}
 use native.Mathlib.Omega.{arith}
-use Rattle.keys.specs.Chains.{Chained}
 use Rattle.keys.proofs.Chains.{slot_below, chained_none, chained_more}
 use Rattle.keys.proofs.chain_keys.Goals as goal
 

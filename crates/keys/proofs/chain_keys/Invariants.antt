@@ -1,8 +1,5 @@
-use mathlib.Core.Path.{◌≡◌}
-use Prim.Native.Nat.{◌+◌, ◌-◌, ◌≤◌}
-use native.Mathlib.Omega.{arith}
+use Prim.Native.Nat.{◌≤◌}
 use Rattle.keys.specs.Chains.{Chained}
-use Rattle.keys.proofs.Chains.{slot_below, chained_none, chained_more}
 use Rattle.keys.proofs.chain_keys.Given as goal
 
 abbrev pub invariant-loop-j : goal.invariant-loop-j

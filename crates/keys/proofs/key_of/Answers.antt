@@ -3,7 +3,6 @@ use Rattle.model.specs.Areas.{stride}
 use Rattle.rows.specs.Rows.{row_at}
 use Rattle.masks.proofs.Masks.{side_below}
 use Rattle.keys.proofs.Keys.{key_none, key_one, key_two}
-use borrow.Author.Rules.{rules}
 use Rattle.keys.proofs.key_of.Goals as goal
 
 pub returns-then-p-lt1 : goal.returns-then-p-lt1

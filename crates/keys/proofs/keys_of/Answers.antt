@@ -1,9 +1,8 @@
 use mathlib.Core.Path.{◌≡◌}
-use Prim.Native.Nat.{ℕ, ◌≤◌, ◌-◌, zero-le}
+use Prim.Native.Nat.{zero-le}
 use native.Mathlib.Omega.{arith}
-use lib.ListN.{length}
 use Rattle.nodes.specs.Nodes.{pairs_of}
-use Rattle.keys.specs.Keys.{side_columns, KeyedRows}
+use Rattle.keys.specs.Keys.{side_columns}
 use Rattle.keys.proofs.Keys.{keys_none, keys_more}
 use Rattle.keys.proofs.keys_of.Goals as goal
 

@@ -1,10 +1,6 @@
-use mathlib.Core.Path.{◌≡◌}
-use Prim.Native.Nat.{ℕ, ◌≤◌, ◌-◌, zero-le}
-use native.Mathlib.Omega.{arith}
-use lib.ListN.{length}
+use Prim.Native.Nat.{◌≤◌, ◌-◌}
 use Rattle.nodes.specs.Nodes.{pairs_of}
 use Rattle.keys.specs.Keys.{side_columns, KeyedRows}
-use Rattle.keys.proofs.Keys.{keys_none, keys_more}
 use Rattle.keys.proofs.keys_of.Given as goal
 
 abbrev pub invariant-loop-i : goal.invariant-loop-i

@@ -1,5 +1,5 @@
 use native.Mathlib.Omega.{arith}
-use Rattle.lines.proofs.Digits.{Counted, count_done, count_more, count_start}
+use Rattle.lines.proofs.Digits.{count_done, count_more, count_start}
 use Rattle.lines.proofs.digit_count.Goals as goal
 
 pub loop-rest-init : goal.loop-rest-init

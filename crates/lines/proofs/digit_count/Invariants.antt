@@ -1,5 +1,4 @@
-use native.Mathlib.Omega.{arith}
-use Rattle.lines.proofs.Digits.{Counted, count_done, count_more, count_start}
+use Rattle.lines.proofs.Digits.{Counted}
 use Rattle.lines.proofs.digit_count.Given as goal
 
 abbrev pub invariant-loop-rest : goal.invariant-loop-rest

@@ -1,10 +1,8 @@
-use mathlib.Core.List.{[]}
-use mathlib.Core.Path.{ap, refl, sym, ◌∙◌, ◌≡◌}
-use Prim.Native.Nat.{◌%◌, ◌+◌, ◌-◌, ◌≤◌}
-use native.Mathlib.Omega.{arith}
-use lib.ListN.{drop, drop_of_length-le, length, length-set}
+use mathlib.Core.Path.{◌≡◌}
+use Prim.Native.Nat.{◌+◌, ◌-◌, ◌≤◌}
+use lib.ListN.{drop, length}
 use lib.Seq.{sets}
-use Rattle.lines.proofs.Digits.{Left, digit_more, left_all}
+use Rattle.lines.proofs.Digits.{Left}
 use Rattle.model.specs.Text.{decimal}
 use Rattle.lines.proofs.put_digits.Given as goal
 

@@ -4,7 +4,6 @@ use Prim.Native.Nat.{◌+◌}
 use native.Mathlib.Omega.{arith}
 use lib.ListN.{length, length-append, length-set, set}
 use lib.Seq.{length-sets, sets}
-use borrow.Author.Rules.{rules}
 use Rattle.lines.proofs.Digits.{line_is}
 use Rattle.model.specs.Text.{newline}
 use Rattle.lines.specs.Numbers.{numbers_text}

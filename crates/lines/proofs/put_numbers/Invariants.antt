@@ -1,13 +1,8 @@
-use mathlib.Core.List.{◌++◌, List, [], ◌∷◌}
-use mathlib.Core.Path.{ap, refl, sym, ◌∙◌, ◌≡◌}
-use Prim.Native.Nat.{◌*◌, ◌+◌, ◌-◌, ℕ, ◌≤◌}
-use native.Mathlib.Omega.{arith}
-use lib.ListN.{get_or, length, length-append, length-set, set, take}
-use lib.Seq.{length-sets, sets, take_all}
-use Rattle.model.specs.Text.{decimal, space}
-use Rattle.lines.proofs.Digits.{numbers_end, numbers_none, numbers_step}
+use mathlib.Core.Path.{◌≡◌}
+use Prim.Native.Nat.{◌*◌, ◌+◌, ◌-◌, ◌≤◌}
+use lib.ListN.{length, take}
+use lib.Seq.{sets}
 use Rattle.lines.specs.Numbers.{numbers_text}
-use Rattle.laws.proofs.Parts.{sets_more}
 use Rattle.lines.proofs.put_numbers.Given as goal
 
 abbrev pub invariant-loop-k : goal.invariant-loop-k

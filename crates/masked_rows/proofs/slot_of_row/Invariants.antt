@@ -1,12 +1,8 @@
-use mathlib.Core.Path.{◌≡◌, refl, sym, ap, ◌∙◌}
-use Prim.Native.Nat.{ℕ, ◌+◌, ◌-◌, ◌*◌, ◌%◌, ◌≤◌}
-use native.Mathlib.Omega.{arith}
-use lib.ListN.{get_or, take}
-use lib.Seq.{take_all}
-use Rattle.model.specs.Row.{max_rows}
+use mathlib.Core.Path.{◌≡◌}
+use Prim.Native.Nat.{◌-◌, ◌≤◌}
+use lib.ListN.{take}
 use Rattle.model.specs.Areas.{stride}
-use Rattle.masked_rows.specs.MaskedRows.{row_slot, slot_from}
-use Rattle.masked_rows.proofs.Unordered.{slot_more, slots_below}
+use Rattle.masked_rows.specs.MaskedRows.{slot_from}
 use Rattle.masked_rows.proofs.slot_of_row.Given as goal
 
 abbrev pub invariant-loop-k : goal.invariant-loop-k

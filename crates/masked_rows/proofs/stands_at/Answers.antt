@@ -7,7 +7,6 @@ use borrow.Author.Tests.{le-ltb, lt-ltb}
 use Rattle.model.specs.Row.{same_row}
 use Rattle.model.specs.Areas.{stride}
 use Rattle.rows.specs.Rows.{order_of, row_at}
-use borrow.Author.Rules.{rules}
 use Rattle.masked_rows.proofs.stands_at.Goals as goal
 
 -- a row below the count is there if it is the same

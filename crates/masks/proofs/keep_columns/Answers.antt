@@ -1,5 +1,5 @@
 use mathlib.Core.Path.{◌≡◌, sym, ap, ◌∙◌}
-use Prim.Native.Nat.{ℕ, ◌+◌, ◌-◌, ◌≤◌}
+use Prim.Native.Nat.{ℕ, ◌+◌, ◌-◌}
 use native.Mathlib.Omega.{arith}
 use lib.Dec.{leb, ltb}
 use lib.ListN.{get_or, set, take}
@@ -27,12 +27,12 @@ loop-j-preserved c =
     let after : List ℕ = with (columns_from a.first a.end (take (l.j + 1) columns)) in
     let passed : (leb a.first d && ltb d a.end) ≡ false → l.used ≡ after = λ e. l.invariant.1 ∙ ap with (sym (column_passed a.first a.end columns l.j (omega arith) e)) in
     let more : c.if-first-c.used ≡ after = elim c.if-first-c.branch [
-      then-first-c+then-c-end w ↦ w.used-is ∙ ap (λ (u : List ℕ). set u (d - a.first) (d - a.first)) l.invariant.1
+      | then-first-c+then-c-end w ↦ w.used-is ∙ ap (λ (u : List ℕ). set u (d - a.first) (d - a.first)) l.invariant.1
           ∙ keeping_more (columns_from a.first a.end (take l.j columns)) a.used.now (d - a.first) (omega arith)
           ∙ ap with (sym (column-kept a.first a.end columns l.j (omega arith) w.if-first-c.true w.if-c-end.true))
-    | then-first-c+else-c-end w ↦ w.used-is
+      | then-first-c+else-c-end w ↦ w.used-is
           ∙ passed (ap (λ (t : Bool). leb a.first d && t) (le-ltb d a.end w.if-c-end.false) ∙ and-false (leb a.first d))
-    | else-first-c w ↦ w.used-is ∙ passed (ap (λ (t : Bool). t && ltb d a.end) (lt-leb a.first d w.if-first-c.false))
+      | else-first-c w ↦ w.used-is ∙ passed (ap (λ (t : Bool). t && ltb d a.end) (lt-leb a.first d w.if-first-c.false))
     ] in
     (omega arith, more)
 

@@ -1,13 +1,6 @@
-use mathlib.Core.Path.{◌≡◌, sym, ap, ◌∙◌}
-use mathlib.Core.Logic.{⊎_elim}
-use Prim.Native.Nat.{ℕ, ◌+◌, ◌-◌, ◌≤◌}
-use native.Mathlib.Omega.{arith}
-use lib.Dec.{leb, ltb}
-use lib.ListN.{get_or, set, take}
-use borrow.Author.Tests.{le-ltb, lt-leb}
-use mathlib.Core.Bool.{Bool, ◌&&◌, false, and-false}
-use mathlib.Core.List.{List}
-use Rattle.masks.proofs.Masks.{column-kept, column_passed, keeping_more, keeping_none}
+use mathlib.Core.Path.{◌≡◌}
+use Prim.Native.Nat.{◌-◌, ◌≤◌}
+use lib.ListN.{take}
 use Rattle.masks.specs.Masks.{columns_from, keeping}
 use Rattle.masks.proofs.keep_columns.Given as goal
 

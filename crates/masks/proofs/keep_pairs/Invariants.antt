@@ -1,9 +1,5 @@
-use mathlib.Core.Path.{◌≡◌, sym, ap, ◌∙◌}
-use Prim.Native.Nat.{ℕ, ◌+◌, ◌-◌, ◌*◌, ◌≤◌}
-use native.Mathlib.Omega.{arith}
-use lib.ListN.{get_or, set}
-use mathlib.Core.List.{List}
-use Rattle.masks.proofs.Masks.{keeping_more, keeping_none, pairs_more, side_below}
+use mathlib.Core.Path.{◌≡◌}
+use Prim.Native.Nat.{◌-◌, ◌≤◌}
 use Rattle.masks.specs.Masks.{keeping, pair_columns}
 use Rattle.masks.proofs.keep_pairs.Given as goal
 

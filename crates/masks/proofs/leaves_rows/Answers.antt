@@ -1,9 +1,8 @@
-use Prim.Native.Nat.{◌-◌, ◌≤◌}
 use mathlib.Core.Path.{sym}
 use native.Mathlib.Omega.{arith}
 use Rattle.model.specs.Areas.{stride}
 use Rattle.rows.specs.Rows.{first_rows}
-use Rattle.laws.proofs.All.{AllTo, all_none, all_more, all_done, all_not}
+use Rattle.laws.proofs.All.{all_none, all_more, all_done, all_not}
 use Rattle.masks.specs.Masks.{leaves_column}
 use Rattle.masks.proofs.leaves_rows.Goals as goal
 

@@ -1,5 +1,4 @@
 use native.Mathlib.Omega.{arith}
-use borrow.Author.Rules.{rules}
 use Rattle.merges.proofs.Merged.{appended, stands-long}
 use Rattle.merges.proofs.append_rows.Goals as goal
 

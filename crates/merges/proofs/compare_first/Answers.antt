@@ -1,6 +1,5 @@
 use mathlib.Core.Path.{◌∙◌, sym, ap}
 use native.Mathlib.Omega.{arith}
-use borrow.Author.Rules.{rules}
 use Rattle.model.specs.Areas.{stride}
 use Rattle.rows.specs.Rows.{row_at}
 use Rattle.rows.proofs.Words.{rows_cons, rows_none}

@@ -1,8 +1,7 @@
 use mathlib.Core.Path.{ap}
-use Prim.Native.Nat.{ℕ, ◌+◌, ◌-◌}
+use Prim.Native.Nat.{ℕ, ◌+◌}
 use native.Mathlib.Omega.{arith}
-use lib.ListN.{length}
-use Rattle.named_tables.proofs.Marks.{Marking, marking_start, marking_whole, marking_inside, marking_node, marking_more, marking_end}
+use Rattle.named_tables.proofs.Marks.{marking_start, marking_whole, marking_inside, marking_node, marking_more, marking_end}
 use Rattle.named_tables.proofs.named_nodes.Goals as goal
 
 pub loop-at-init : goal.loop-at-init

@@ -1,8 +1,6 @@
-use mathlib.Core.Path.{ap}
-use Prim.Native.Nat.{ℕ, ◌+◌, ◌-◌}
-use native.Mathlib.Omega.{arith}
+use Prim.Native.Nat.{◌-◌}
 use lib.ListN.{length}
-use Rattle.named_tables.proofs.Marks.{Marking, marking_start, marking_whole, marking_inside, marking_node, marking_more, marking_end}
+use Rattle.named_tables.proofs.Marks.{Marking}
 use Rattle.named_tables.proofs.named_nodes.Given as goal
 
 abbrev pub invariant-loop-at : goal.invariant-loop-at

@@ -1,14 +1,9 @@
-use mathlib.Core.Path.{◌≡◌, refl, ap, ◌∙◌}
+use mathlib.Core.Path.{◌≡◌}
 use Prim.Native.Nat.{◌-◌, ◌≤◌}
-use lib.ListN.{length, take, length-set}
-use Rattle.model.specs.Areas.{padded}
+use lib.ListN.{length, take}
 use Rattle.model.specs.Record.{fields_at}
 use Rattle.model.specs.Row.{max_width}
 use Rattle.network.specs.Reading.{Ends}
-use Rattle.network.proofs.Building.{set_ends, zero_at}
-use Rattle.network.proofs.Kept.{ends_padded}
-use Rattle.derived_records.proofs.Lists.{fields-turn}
-use native.Mathlib.Omega.{arith}
 use Rattle.network.proofs.columns_of.Given as goal
 
 abbrev pub invariant-loop-i : goal.invariant-loop-i

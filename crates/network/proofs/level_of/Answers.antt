@@ -1,5 +1,4 @@
 use native.Mathlib.Omega.{arith}
-use borrow.Author.Rules.{rules}
 use Rattle.network.proofs.Building.{level_next, level_none}
 use Rattle.network.proofs.level_of.Goals as goal
 

@@ -1,10 +1,8 @@
 use mathlib.Core.Path.{◌≡◌, refl, ap, ◌∙◌}
-use Prim.Native.Nat.{◌*◌, ◌-◌, ◌≤◌}
-use lib.ListN.{length, take, length-set}
+use Prim.Native.Nat.{◌*◌}
+use lib.ListN.{length-set}
 use Rattle.model.specs.Areas.{padded}
-use Rattle.model.specs.Record.{fields_at}
 use Rattle.model.specs.Network.{max_pairs}
-use Rattle.network.specs.Reading.{Ends}
 use Rattle.network.proofs.Building.{set_ends, zero_at}
 use Rattle.network.proofs.Kept.{ends_padded}
 use Rattle.derived_records.proofs.Lists.{fields-turn}

@@ -1,12 +1,10 @@
 use mathlib.Core.Path.{sym, ap, ◌∙◌}
-use Prim.Native.Nat.{ℕ, ◌-◌, ◌+◌, ◌<◌}
-use lib.ListN.{length}
+use Prim.Native.Nat.{ℕ, ◌+◌}
 use Rattle.nodes.specs.Nodes.{number_of}
 use Rattle.network.specs.Reading.{network_of}
 use Rattle.network.proofs.Building.{as_item, extends_node, extends_watch, fits_inputs, next_slot}
-use Rattle.network.proofs.ReadAll.{Reached, reached_start, reached_refused, reached_whole, reached_next, reached_end, reached_empty, follows}
+use Rattle.network.proofs.ReadAll.{reached_start, reached_refused, reached_whole, reached_next, reached_end, reached_empty, follows}
 use native.Mathlib.Omega.{arith}
-use borrow.Author.Rules.{rules}
 use Rattle.network.proofs.read_network.Goals as goal
 
 pub returns-then-bytes-eq0 : goal.returns-then-bytes-eq0
@@ -19,14 +17,16 @@ pub read_record-reading-requires : goal.read_record-reading-requires
 read_record-reading-requires c = let b = c.loop-at.invariant.built in (omega arith, rw b.widths-length b.sound.few, rw b.signs-length b.sound.few, b.narrow)
 
 pub returns-in_default : goal.returns-in_default
-returns-in_default c = let a = c.args in let fits = rw c.in_default.is at c.read_record-reading.ensures.fits in record { reads = record {
-      is = c.refused_reading-in_default.ensures.refuses ∙ reached_refused a.bytes.now c.loop-at.net
-          c.loop-at.at
-          c.loop-at.invariant
-          c.loop-at-test.true c.read_record-reading.result
-          c.read_record-reading.ensures c.number_of.result (sym c.number_of.ensures) (rw (c.number_of.ensures, c.in_default.is) fits);
-      built = c.refused_reading-in_default.ensures.built;
-    } }
+returns-in_default c = let a = c.args in let fits = rw c.in_default.is at c.read_record-reading.ensures.fits in record {
+  reads = record {
+    is = c.refused_reading-in_default.ensures.refuses ∙ reached_refused a.bytes.now c.loop-at.net
+        c.loop-at.at
+        c.loop-at.invariant
+        c.loop-at-test.true c.read_record-reading.result
+        c.read_record-reading.ensures c.number_of.result (sym c.number_of.ensures) (rw (c.number_of.ensures, c.in_default.is) fits);
+    built = c.refused_reading-in_default.ensures.built;
+  };
+}
 
 pub u16_at-requires : goal.u16_at-requires
 u16_at-requires c = let a = c.args in let w = reached_whole
@@ -255,8 +255,10 @@ loop-at-preserved c =
 pub returns : goal.returns
 returns c =
     let l = c.loop-at in
-    record { reads = record {
-      is = (λ i. record { verdict = c.accepted.ensures i; network = network_of l.net })
-          ∙ reached_end c.args.bytes.now l.net l.at l.invariant c.loop-at-test.false;
-      built = l.invariant.built;
-    } }
+    record {
+      reads = record {
+        is = (λ i. record { verdict = c.accepted.ensures i; network = network_of l.net })
+            ∙ reached_end c.args.bytes.now l.net l.at l.invariant c.loop-at-test.false;
+        built = l.invariant.built;
+      };
+    }

@@ -1,12 +1,6 @@
-use mathlib.Core.Path.{sym, ap, ◌∙◌}
-use Prim.Native.Nat.{ℕ, ◌-◌, ◌+◌, ◌<◌}
+use Prim.Native.Nat.{◌-◌}
 use lib.ListN.{length}
-use Rattle.nodes.specs.Nodes.{number_of}
-use Rattle.network.specs.Reading.{network_of}
-use Rattle.network.proofs.Building.{as_item, extends_node, extends_watch, fits_inputs, next_slot}
-use Rattle.network.proofs.ReadAll.{Reached, reached_start, reached_refused, reached_whole, reached_next, reached_end, reached_empty, follows}
-use native.Mathlib.Omega.{arith}
-use borrow.Author.Rules.{rules}
+use Rattle.network.proofs.ReadAll.{Reached}
 use Rattle.network.proofs.read_network.Given as goal
 
 abbrev pub invariant-loop-at : goal.invariant-loop-at

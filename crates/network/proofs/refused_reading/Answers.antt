@@ -1,5 +1,3 @@
-use Rattle.model.specs.Network as model
-use borrow.Author.Rules.{rules}
 use Rattle.network.proofs.refused_reading.Goals as goal
 
 pub returns : goal.returns

@@ -1,5 +1,4 @@
 use native.Mathlib.Omega.{arith}
-use borrow.Author.Rules.{rules}
 use Rattle.network.proofs.Kept.{slot_is}
 use Rattle.network.proofs.slot_at.Goals as goal
 

@@ -1,5 +1,4 @@
 use native.Mathlib.Omega.{arith}
-use borrow.Author.Rules.{rules}
 use Rattle.network.proofs.Building.{width-first, width_own}
 use Rattle.network.proofs.width_of.Goals as goal
 

@@ -1,4 +1,3 @@
-use borrow.Author.Rules.{rules}
 use native.Mathlib.Omega.{arith}
 use Rattle.new_rows.proofs.Inputs.{as_present}
 use Rattle.new_rows.specs.Working.{working}

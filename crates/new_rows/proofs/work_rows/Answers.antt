@@ -1,4 +1,3 @@
-use borrow.Author.Rules.{rules}
 use native.Mathlib.Omega.{arith}
 use Prim.Native.Nat.{◌+◌}
 use borrow.Author.Tests.{eq-eqb, ne_eqb}
@@ -18,18 +17,18 @@ overflow_cast-head c = let a = c.args in omega (arith, c.type_inv.head (1 + a.i)
 
 pub work_table-requires : goal.work_table-requires
 work_table-requires c = let w = c.requires.0 in (
-      w.table c.if-level-eq0.true,
-      w.inside,
-      w.sized.rows,
-      w.old,
-      c.requires.1,
-    )
+  w.table c.if-level-eq0.true,
+  w.inside,
+  w.sized.rows,
+  w.old,
+  c.requires.1,
+)
 
 pub returns-then-level-eq0 : goal.returns-then-level-eq0
 returns-then-level-eq0 c = let a = c.args in rw (
-      eq-eqb a.level 0 c.if-level-eq0.true,
-      ← c.requires.0.old_is,
-    ) c.work_table.ensures
+  eq-eqb a.level 0 c.if-level-eq0.true,
+  ← c.requires.0.old_is,
+) c.work_table.ensures
 
 pub work_derived-requires : goal.work_derived-requires
 work_derived-requires c = let w = c.requires.0 in let d = w.derived

@@ -1,4 +1,3 @@
-use borrow.Author.Rules.{rules}
 use native.Mathlib.Omega.{arith}
 use mathlib.Core.Path.{ap, ◌∙◌}
 use lib.ListN.{length}
@@ -29,12 +28,12 @@ fold-count-requires c = let a = c.args in let r = table_ready a.bytes.now a.tabl
 
 pub returns-then-count-gt-MAX_ROWS : goal.returns-then-count-gt-MAX_ROWS
 returns-then-count-gt-MAX_ROWS c = let a = c.args in (
-      after-over a.bytes.now a.table a.width a.rows.now a.n c.requires.1
-          c.requires.2 c.requires.3
-          c.requires.0 c.fold-count.new.words c.fold-count.result
-          (rw (← c.copy_run.ensures) c.fold-count.ensures) c.if-count-gt-MAX_ROWS.true,
-      ap length c.requires.4,
-    )
+  after-over a.bytes.now a.table a.width a.rows.now a.n c.requires.1
+      c.requires.2 c.requires.3
+      c.requires.0 c.fold-count.new.words c.fold-count.result
+      (rw (← c.copy_run.ensures) c.fold-count.ensures) c.if-count-gt-MAX_ROWS.true,
+  ap length c.requires.4,
+)
 
 pub overflow_mul-count : goal.overflow_mul-count
 overflow_mul-count c = omega (arith, c.if-count-gt-MAX_ROWS.false)

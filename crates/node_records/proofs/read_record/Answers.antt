@@ -5,7 +5,6 @@ use Rattle.records.proofs.Header.{whole}
 use Rattle.node_records.proofs.ByKind.{record_3, record_4, record_5, record_node, record_watch, unknown_low, unknown_high}
 use Rattle.derived_records.proofs.Body.{as_kind}
 use native.Mathlib.Omega.{arith}
-use borrow.Author.Rules.{rules}
 use Rattle.node_records.proofs.read_record.Goals as goal
 
 pub returns-then-is_broken : goal.returns-then-is_broken

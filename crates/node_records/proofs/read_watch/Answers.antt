@@ -1,9 +1,7 @@
 use mathlib.Core.Path.{sym, ◌∙◌}
-use borrow.Author.Tests.{not-false, not-true}
 use Rattle.records.proofs.Header.{whole}
 use Rattle.node_records.proofs.Body.{watch_least, watch_size, watch_no_node, watch_low, watch_high, watch_second, watch_above, watch_ok}
 use native.Mathlib.Omega.{arith}
-use borrow.Author.Rules.{rules}
 use Rattle.node_records.proofs.read_watch.Goals as goal
 
 pub returns-then-not-watch_shape : goal.returns-then-not-watch_shape

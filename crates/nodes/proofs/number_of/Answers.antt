@@ -1,4 +1,3 @@
-use borrow.Author.Rules.{rules}
 use Rattle.nodes.proofs.number_of.Goals as goal
 
 pub returns-in-Item : goal.returns-in-Item

@@ -1,6 +1,5 @@
 use mathlib.Core.Path.{◌≡◌, refl, sym}
 use Prim.Native.Nat.{ℕ}
-use borrow.Author.Rules.{rules}
 use Rattle.model.specs.Network.{kind_of, select, set_operation}
 use Rattle.nodes.specs.Nodes.{operand_of, operation_of, select_kind, set_kind}
 use Rattle.nodes.specs.declared.Operand.{Operand}

@@ -1,6 +1,5 @@
 use mathlib.Core.Path.{◌∙◌}
 use native.Mathlib.Omega.{arith}
-use borrow.Author.Rules.{rules}
 use Rattle.model.specs.Areas.{cleared, area_size, head_words}
 use Rattle.opening.proofs.Opening.{cleared_run}
 use Rattle.areas.proofs.Good.{long_parts}

@@ -1,6 +1,6 @@
-use Prim.Native.Nat.{◌≤◌, ◌-◌, zero-le, ◌+◌, ℕ}
+use Prim.Native.Nat.{◌-◌, zero-le, ◌+◌, ℕ}
 use mathlib.Core.Path.{◌≡◌, refl, ◌∙◌, ap}
-use lib.ListN.{length, take, length-set, get_or}
+use lib.ListN.{take, length-set, get_or}
 use lib.Seq.{sets, take_all}
 use native.Mathlib.Omega.{arith}
 use mathlib.Core.List.{List}

@@ -1,10 +1,7 @@
-use Prim.Native.Nat.{◌≤◌, ◌-◌, zero-le, ◌+◌, ℕ}
-use mathlib.Core.Path.{◌≡◌, refl, ◌∙◌, ap}
-use lib.ListN.{length, take, length-set, get_or}
-use lib.Seq.{sets, take_all}
-use native.Mathlib.Omega.{arith}
-use mathlib.Core.List.{List}
-use Rattle.packing.proofs.Packed.{list_more}
+use Prim.Native.Nat.{◌≤◌, ◌-◌}
+use mathlib.Core.Path.{◌≡◌}
+use lib.ListN.{length, take}
+use lib.Seq.{sets}
 use Rattle.packing.proofs.write_list.Given as goal
 
 abbrev pub invariant-loop-k : goal.invariant-loop-k

@@ -1,5 +1,4 @@
 use native.Mathlib.Omega.{arith}
-use borrow.Author.Rules.{rules}
 use Rattle.pending.proofs.Judged.{judged_short, judged_places, judged_held}
 use Rattle.pending.proofs.good_pending.Goals as goal
 
@@ -16,5 +15,7 @@ pub returns : goal.returns
 returns c =
     let a = c.args in
     let g = c.good_area in
-    record { tells = λ net is are. judged_held net a.pending.now (omega (arith, c.if-pending-lt-PENDING.false)) a.n a.widths.now is g.result g.ensures (rw c.if-not-good_area.false) a.signs.now are
-    c.held_by_alerts.result c.held_by_alerts.ensures }
+    record {
+      tells = λ net is are. judged_held net a.pending.now (omega (arith, c.if-pending-lt-PENDING.false)) a.n a.widths.now is g.result g.ensures (rw c.if-not-good_area.false) a.signs.now are
+          c.held_by_alerts.result c.held_by_alerts.ensures;
+    }

@@ -1,8 +1,7 @@
 use mathlib.Core.Path.{sym}
-use Prim.Native.Nat.{◌-◌, ◌≤◌}
+use Prim.Native.Nat.{◌-◌}
 use native.Mathlib.Omega.{arith}
-use borrow.Author.Rules.{rules}
-use Rattle.laws.proofs.All.{AllTo, all_done, all_more, all_none, all_not}
+use Rattle.laws.proofs.All.{all_done, all_more, all_none, all_not}
 use Rattle.model.specs.Row.{max_nodes}
 use Rattle.pending.specs.Placed.{may_hold}
 use Rattle.pending.proofs.held_by_alerts.Goals as goal

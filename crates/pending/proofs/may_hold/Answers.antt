@@ -1,5 +1,4 @@
 use mathlib.Core.Path.{sym, ◌∙◌}
-use borrow.Author.Rules.{rules}
 use Rattle.pending.proofs.may_hold.Goals as goal
 
 pub returns-then-alerts : goal.returns-then-alerts

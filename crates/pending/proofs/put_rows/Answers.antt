@@ -1,6 +1,5 @@
 use mathlib.Core.Path.{sym, ◌∙◌}
 use native.Mathlib.Omega.{arith}
-use borrow.Author.Rules.{rules}
 use Rattle.model.specs.Areas.{layout}
 use Rattle.model.specs.Pending.{pending_count}
 use Rattle.areas.specs.Lent.{place_at}

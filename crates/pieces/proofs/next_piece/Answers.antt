@@ -1,8 +1,7 @@
-use lib.ListN.{length}
 use Prim.Native.Nat.{◌-◌, ◌+◌, ℕ}
 use native.Mathlib.Omega.{arith}
 use mathlib.Core.Path.{sym, ◌∙◌, ap}
-use Rattle.pieces.proofs.Cut.{Seeking, seek_start, cut_broken, whole_here, cut_mark, cut_on, cut_unfinished, cut_end}
+use Rattle.pieces.proofs.Cut.{seek_start, cut_broken, whole_here, cut_mark, cut_on, cut_unfinished, cut_end}
 use Rattle.pieces.proofs.next_piece.Goals as goal
 
 pub loop-at-init : goal.loop-at-init

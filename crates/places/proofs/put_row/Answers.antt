@@ -1,7 +1,6 @@
 use mathlib.Core.Path.{ap, ◌∙◌}
 use native.Mathlib.Omega.{arith}
 use lib.ListN.{length}
-use borrow.Author.Rules.{rules}
 use Rattle.laws.proofs.Sets.{ascending-holds}
 use Rattle.model.specs.Row.{max_rows}
 use Rattle.model.specs.Areas.{place_size, stride}

@@ -1,6 +1,5 @@
 use native.Mathlib.Omega.{arith}
 use mathlib.Core.Path.{◌∙◌}
-use borrow.Author.Rules.{rules}
 use Rattle.places.proofs.Same.{counts_differ, words_decide}
 use Rattle.places.proofs.same_rows.Goals as goal
 

@@ -1,6 +1,5 @@
 use mathlib.Core.Path.{refl}
 use borrow.Author.Tests.{lt-ltb, le-ltb}
-use borrow.Author.Rules.{rules}
 use Rattle.placing.proofs.clear_rest.Goals as goal
 
 pub returns-then-n-m : goal.returns-then-n-m

@@ -1,7 +1,6 @@
 use native.Mathlib.Omega.{arith}
 use mathlib.Core.Path.{◌∙◌}
 use Rattle.placing.proofs.Placing.{rows-over}
-use borrow.Author.Rules.{rules}
 use Rattle.placing.proofs.write_place.Goals as goal
 
 pub returns : goal.returns

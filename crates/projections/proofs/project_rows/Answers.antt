@@ -1,9 +1,8 @@
 use mathlib.Core.List.{[]}
 use mathlib.Core.Path.{ap, ◌∙◌, ◌≡◌}
-use Prim.Native.Nat.{◌-◌, ℕ, ◌≤◌}
+use Prim.Native.Nat.{ℕ}
 use native.Mathlib.Omega.{arith}
 use lib.ListN.{length, length-replicate, replicate, take}
-use borrow.Author.Rules.{rules}
 use Rattle.places.specs.Places.{Stands}
 use Rattle.places.specs.declared.Made.TheVariants.{Over, Rows}
 use Rattle.columns.proofs.Rows.{columns_more, few-columns, joined_length, masked_made}

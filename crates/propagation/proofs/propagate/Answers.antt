@@ -5,9 +5,8 @@ use mathlib.Core.Bool.{Bool, false}
 use Rattle.model.specs.Row.{max_nodes}
 use Rattle.model.specs.Areas.{area_size}
 use lib.ListN.{length, length-replicate}
-use borrow.Author.Tests.{not-true, not-false}
 use Rattle.propagation.specs.Propagated.{new_rows}
-use Rattle.propagation.proofs.Network.{Propagating, new_many, propagating_none, ready_node, next-rows, propagating_more, propagates_over, propagates_all}
+use Rattle.propagation.proofs.Network.{new_many, propagating_none, ready_node, next-rows, propagating_more, propagates_over, propagates_all}
 use Rattle.named_tables.proofs.Marks.{length-marks}
 use Rattle.propagation.proofs.propagate.Goals as goal
 
@@ -82,9 +81,11 @@ returns-then-not-work_node c =
     let h = c.loop-i-test.true in
     let o = rw (c.if-not-work_node.true) at w.ensures in
     let n = next-rows a.net a.rows.now a.head.now a.bytes.now c.requires.0 l.work l.counts l.changed l.due l.picks l.sizes l.i h l.invariant in
-    record { propagates = propagates_over a.head.now (new_rows a.net a.rows.now a.head.now a.bytes.now) a.net _ _ _ (new_many a.net a.rows.now a.head.now a.bytes.now c.requires.0)
-    l.i h
-    (rw (← n) o) (λ j k. (l.invariant.to.worked j k).few) }
+    record {
+      propagates = propagates_over a.head.now (new_rows a.net a.rows.now a.head.now a.bytes.now) a.net _ _ _ (new_many a.net a.rows.now a.head.now a.bytes.now c.requires.0)
+          l.i h
+          (rw (← n) o) (λ j k. (l.invariant.to.worked j k).few);
+    }
 
 pub overflow_add-i : goal.overflow_add-i
 overflow_add-i c = omega (
@@ -149,5 +150,7 @@ returns c =
     let a = c.args in
     let l = c.loop-i in
     let e : l.i ≡ a.net.count = omega (arith, l.invariant.within, c.loop-i-test.false) in
-    record { propagates = propagates_all a.head.now (new_rows a.net a.rows.now a.head.now a.bytes.now) a.net _ _ _ (new_many a.net a.rows.now a.head.now a.bytes.now c.requires.0)
-    (rw e at l.invariant.to) (rw e at l.invariant.marked) }
+    record {
+      propagates = propagates_all a.head.now (new_rows a.net a.rows.now a.head.now a.bytes.now) a.net _ _ _ (new_many a.net a.rows.now a.head.now a.bytes.now c.requires.0)
+          (rw e at l.invariant.to) (rw e at l.invariant.marked);
+    }

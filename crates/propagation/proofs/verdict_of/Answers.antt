@@ -1,5 +1,4 @@
 use mathlib.Core.Path.{◌∙◌}
-use borrow.Author.Rules.{rules}
 use Rattle.propagation.proofs.verdict_of.Goals as goal
 
 pub returns-in-All : goal.returns-in-All

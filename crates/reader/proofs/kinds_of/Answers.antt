@@ -1,13 +1,10 @@
 use mathlib.Core.Path.{◌≡◌, refl, ◌∙◌}
-use Prim.Native.Nat.{◌≤◌, ◌-◌}
-use lib.ListN.{length, length-set, get_or, take}
-use Rattle.model.specs.Areas.{padded}
-use Rattle.model.specs.Row.{max_nodes}
+use Prim.Native.Nat.{◌-◌}
+use lib.ListN.{length-set, get_or, take}
 use Rattle.nodes.specs.Nodes.{lists_of, pairs_of}
 use Rattle.network.specs.Reading.{no_slot}
-use Rattle.reader.proofs.Answered.{kinds_to, kinds_more}
+use Rattle.reader.proofs.Answered.{kinds_more}
 use native.Mathlib.Omega.{arith}
-use borrow.Author.Rules.{rules}
 use Rattle.reader.proofs.kinds_of.Goals as goal
 
 pub loop-i-init : goal.loop-i-init

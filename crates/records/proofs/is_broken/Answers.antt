@@ -4,7 +4,6 @@ use lib.Dec.{ltb}
 use lib.ListN.{length}
 use Rattle.model.specs.Record.{length_at}
 use Rattle.records.proofs.Header.{broken_rest, broken-size, broken-end}
-use borrow.Author.Rules.{rules}
 use Rattle.records.proofs.is_broken.Goals as goal
 
 pub returns-then-rest-lt4 : goal.returns-then-rest-lt4

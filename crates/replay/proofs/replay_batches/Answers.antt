@@ -1,9 +1,7 @@
-use lib.ListN.{length}
-use mathlib.Core.Path.{◌≡◌, refl, ap}
+use mathlib.Core.Path.{refl, ap}
 use Prim.Native.Nat.{◌-◌}
-use borrow.Author.Rules.{rules}
 use native.Mathlib.Omega.{arith}
-use Rattle.replay.proofs.Replaying.{Replaying, replay_start, replay_more, replay_done, replay_end}
+use Rattle.replay.proofs.Replaying.{replay_start, replay_more, replay_done, replay_end}
 use Rattle.areas.specs.Lent.{lent}
 use Rattle.network.specs.Reading.{result_with}
 use Rattle.replay.specs.Replayed.{calls_of}

@@ -1,12 +1,8 @@
 use lib.ListN.{length}
-use mathlib.Core.Path.{◌≡◌, refl, ap}
+use mathlib.Core.Path.{◌≡◌}
 use Prim.Native.Nat.{◌-◌}
-use borrow.Author.Rules.{rules}
-use native.Mathlib.Omega.{arith}
-use Rattle.replay.proofs.Replaying.{Replaying, replay_start, replay_more, replay_done, replay_end}
+use Rattle.replay.proofs.Replaying.{Replaying}
 use Rattle.areas.specs.Lent.{lent}
-use Rattle.network.specs.Reading.{result_with}
-use Rattle.replay.specs.Replayed.{calls_of}
 use Rattle.replay.proofs.replay_batches.Given as goal
 
 abbrev pub invariant-loop-start : goal.invariant-loop-start

@@ -1,4 +1,3 @@
-use borrow.Author.Rules.{rules}
 use Rattle.reporting.proofs.Reported.{report_known, report_refused}
 use Rattle.admission.proofs.Admitted.{changes_admitted}
 use Rattle.reporting.proofs.report.Goals as goal
@@ -18,5 +17,7 @@ report_node-requires c =
 pub returns : goal.returns
 returns c =
     let a = c.args in
-    record { reports = report_known a.net.now a.node a.rows.now a.gained.now a.lost.now a.head.now a.out.now
-    c.read_areas-reading.result c.read_areas-reading.ensures.admits c.if-number-ne0.false _ c.report_node.ensures }
+    record {
+      reports = report_known a.net.now a.node a.rows.now a.gained.now a.lost.now a.head.now a.out.now
+          c.read_areas-reading.result c.read_areas-reading.ensures.admits c.if-number-ne0.false _ c.report_node.ensures;
+    }

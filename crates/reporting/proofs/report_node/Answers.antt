@@ -1,6 +1,5 @@
 use Prim.Native.Nat.{◌+◌}
 use native.Mathlib.Omega.{arith}
-use borrow.Author.Rules.{rules}
 use Rattle.reporting.proofs.Reported.{sign-few, sign-inside, too_short, unwatched, written}
 use Rattle.reporting.proofs.report_node.Goals as goal
 

@@ -1,6 +1,5 @@
 use mathlib.Core.Path.{refl}
 use native.Mathlib.Omega.{arith}
-use borrow.Author.Rules.{rules}
 use Rattle.reports.proofs.Bytes.{size_bound}
 use Rattle.reports.proofs.allowed_size.Goals as goal
 

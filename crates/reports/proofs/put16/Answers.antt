@@ -2,7 +2,6 @@ use mathlib.Core.Path.{refl, ◌≡◌}
 use Prim.Native.Nat.{◌%◌, ◌+◌, suc}
 use native.Mathlib.Omega.{arith}
 use lib.ListN.{length-set}
-use borrow.Author.Rules.{rules}
 use Rattle.reports.proofs.put16.Goals as goal
 
 pub bounds-out-at-2 : goal.bounds-out-at-2

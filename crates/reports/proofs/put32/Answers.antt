@@ -3,7 +3,6 @@ use mathlib.Core.Path.{ap, ◌∙◌}
 use Prim.Native.Nat.{◌+◌, ◌/◌, ℕ}
 use native.Mathlib.Omega.{arith}
 use lib.Seq.{length-sets, sets}
-use borrow.Author.Rules.{rules}
 use Rattle.model.specs.Record.{bytes16}
 use Rattle.laws.proofs.Parts.{sets_append}
 use Rattle.reports.proofs.put32.Goals as goal

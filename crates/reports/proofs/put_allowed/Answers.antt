@@ -1,5 +1,4 @@
 use mathlib.Core.Path.{refl}
-use borrow.Author.Rules.{rules}
 use Rattle.reports.proofs.put_allowed.Goals as goal
 
 pub put_records-requires : goal.put_records-requires

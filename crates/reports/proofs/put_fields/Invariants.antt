@@ -1,13 +1,10 @@
-use mathlib.Core.Path.{ap, refl, sym, ◌∙◌, ◌≡◌}
+use mathlib.Core.Path.{◌≡◌}
 use mathlib.Core.List.{flat_map}
-use Prim.Native.Nat.{◌*◌, ◌+◌, ◌-◌, ℕ, ◌≤◌}
-use native.Mathlib.Omega.{arith}
-use lib.ListN.{get_or, length}
-use lib.Seq.{length-sets, sets}
+use Prim.Native.Nat.{◌-◌, ◌≤◌}
+use lib.ListN.{length}
+use lib.Seq.{sets}
 use Rattle.model.specs.Record.{bytes32}
 use Rattle.model.specs.Areas.{fields}
-use Rattle.reports.proofs.Bytes.{fields_more, fields_none, fields-size}
-use Rattle.laws.proofs.Parts.{sets_more}
 use Rattle.rows.specs.Rows.{words}
 use Rattle.reports.proofs.put_fields.Given as goal
 

@@ -4,7 +4,6 @@ use Prim.Native.Nat.{◌*◌, ◌+◌}
 use native.Mathlib.Omega.{arith}
 use lib.ListN.{length}
 use lib.Seq.{length-sets, sets}
-use borrow.Author.Rules.{rules}
 use Rattle.model.specs.Record.{bytes16, bytes32}
 use Rattle.model.specs.Areas.{fields}
 use Rattle.reports.proofs.Bytes.{record_is}
@@ -24,17 +23,17 @@ put16-requires-3 c = let a = c.args in omega (
 
 pub put_fields-requires : goal.put_fields-requires
 put_fields-requires c = let a = c.args in (
-      c.requires.0,
-      omega (
-        arith,
-        (ap length c.put16.ensures
-            ∙ length-sets a.out.now a.at (bytes16 (6 + 4 * a.w))),
-        (ap length c.put16-2.ensures
-            ∙ length-sets c.put16.new.out (a.at + 2) (bytes16 a.kind)),
-        (ap length c.put16-3.ensures ∙ length-sets c.put16-2.new.out (a.at + 4) (bytes16 a.node)),
-      ),
-      c.requires.2,
-    )
+  c.requires.0,
+  omega (
+    arith,
+    (ap length c.put16.ensures
+        ∙ length-sets a.out.now a.at (bytes16 (6 + 4 * a.w))),
+    (ap length c.put16-2.ensures
+        ∙ length-sets c.put16.new.out (a.at + 2) (bytes16 a.kind)),
+    (ap length c.put16-3.ensures ∙ length-sets c.put16-2.new.out (a.at + 4) (bytes16 a.node)),
+  ),
+  c.requires.2,
+)
 
 pub returns : goal.returns
 returns c =

@@ -1,5 +1,5 @@
 use mathlib.Core.Path.{ap, refl, sym, ◌∙◌, ◌≡◌}
-use Prim.Native.Nat.{◌*◌, ◌+◌, ◌-◌, ℕ, ◌≤◌}
+use Prim.Native.Nat.{◌*◌, ◌+◌, ◌-◌, ℕ}
 use native.Mathlib.Omega.{arith}
 use lib.ListN.{length}
 use lib.Seq.{length-sets, sets}
@@ -23,15 +23,15 @@ overflow_add-at c = let a = c.args in omega
 
 pub put_record-requires : goal.put_record-requires
 put_record-requires c = let a = c.args in (
-      c.requires.0,
-      omega (
-        arith,
-        c.loop-j.invariant.3,
-        step-inside a.n c.loop-j.j (6 + 4 * a.w) a.at (length a.out.now) (omega arith)
-            c.requires.4,
-      ),
-      omega arith,
-    )
+  c.requires.0,
+  omega (
+    arith,
+    c.loop-j.invariant.3,
+    step-inside a.n c.loop-j.j (6 + 4 * a.w) a.at (length a.out.now) (omega arith)
+        c.requires.4,
+  ),
+  omega arith,
+)
 
 pub loop-j-preserved : goal.loop-j-preserved
 loop-j-preserved c =

@@ -1,12 +1,8 @@
-use mathlib.Core.Path.{ap, refl, sym, ◌∙◌, ◌≡◌}
-use Prim.Native.Nat.{◌*◌, ◌+◌, ◌-◌, ℕ, ◌≤◌}
-use native.Mathlib.Omega.{arith}
+use mathlib.Core.Path.{◌≡◌}
+use Prim.Native.Nat.{◌*◌, ◌+◌, ◌-◌, ◌≤◌}
 use lib.ListN.{length}
-use lib.Seq.{length-sets, sets}
-use Rattle.model.specs.Calls.{change_record}
-use Rattle.model.specs.Areas.{fields, held_in, layout, place_size, stride}
-use Rattle.reports.proofs.Bytes.{held_none, held_size, records_more, size_bound, step-inside}
-use Rattle.laws.proofs.Parts.{sets_more}
+use lib.Seq.{sets}
+use Rattle.model.specs.Areas.{held_in, layout}
 use Rattle.reports.specs.Written.{records_of}
 use Rattle.reports.proofs.put_records.Given as goal
 

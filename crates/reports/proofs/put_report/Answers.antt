@@ -6,7 +6,6 @@ use native.Mathlib.Omega.{arith}
 use native.Mathlib.Nat.{zero-add}
 use lib.ListN.{length, length-append}
 use lib.Seq.{length-sets}
-use borrow.Author.Rules.{rules}
 use Rattle.reports.proofs.Bytes.{allowed_size_is, report_parts}
 use Rattle.laws.proofs.Parts.{sets_first, sets_more}
 use Rattle.reports.specs.Written.{allowed_of}

@@ -2,7 +2,6 @@ use mathlib.Core.Bool.{Bool, cond}
 use mathlib.Core.Path.{ap, ap₂, ◌∙◌}
 use Prim.Native.Nat.{◌*◌, ◌+◌, ℕ}
 use native.Mathlib.Omega.{arith}
-use borrow.Author.Rules.{rules}
 use Rattle.reports.proofs.Bytes.{allowed_bound}
 use Rattle.reports.proofs.report_size.Goals as goal
 

@@ -1,9 +1,7 @@
-use Prim.Native.Nat.{◌≤◌, ◌-◌}
 use mathlib.Core.Path.{sym, ◌∙◌}
-use borrow.Author.Tests.{not-true, not-false}
 use native.Mathlib.Omega.{arith}
 use Rattle.model.specs.Areas.{stride}
-use Rattle.row_checks.proofs.Form.{AscendTo, ascend_none, ascend_more, ascend_not, ascend_all}
+use Rattle.row_checks.proofs.Form.{ascend_none, ascend_more, ascend_not, ascend_all}
 use Rattle.row_checks.proofs.ascend.Goals as goal
 
 pub loop-j-init : goal.loop-j-init

@@ -1,5 +1,4 @@
 use mathlib.Core.Path.{sym, ap, ◌∙◌}
-use borrow.Author.Rules.{rules}
 use Rattle.model.specs.Row.{is_less}
 use Rattle.rows.specs.Rows.{order_of}
 use Rattle.row_checks.proofs.below_next.Goals as goal

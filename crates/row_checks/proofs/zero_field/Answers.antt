@@ -1,8 +1,8 @@
-use Prim.Native.Nat.{◌≤◌, ◌-◌, ◌+◌, ◌*◌}
+use Prim.Native.Nat.{◌+◌, ◌*◌}
 use lib.ListN.{get_or}
 use native.Mathlib.Omega.{arith}
 use Rattle.model.specs.Areas.{stride}
-use Rattle.row_checks.proofs.Form.{EachTo, each_none, each_more, each_all, no_field, field_is}
+use Rattle.row_checks.proofs.Form.{each_none, each_more, each_all, no_field, field_is}
 use Rattle.row_checks.proofs.zero_field.Goals as goal
 
 pub loop-j-init : goal.loop-j-init

@@ -1,8 +1,6 @@
-use Prim.Native.Nat.{◌≤◌, ◌-◌, ◌+◌, ◌*◌}
-use lib.ListN.{get_or}
-use native.Mathlib.Omega.{arith}
+use Prim.Native.Nat.{◌≤◌, ◌-◌}
 use Rattle.model.specs.Areas.{stride}
-use Rattle.row_checks.proofs.Form.{EachTo, each_none, each_more, each_all, no_field, field_is}
+use Rattle.row_checks.proofs.Form.{EachTo, no_field}
 use Rattle.row_checks.proofs.zero_field.Given as goal
 
 abbrev pub invariant-loop-j : goal.invariant-loop-j

@@ -1,9 +1,9 @@
 use mathlib.Core.Path.{◌∙◌}
-use Prim.Native.Nat.{◌≤◌, ◌-◌, ◌+◌}
+use Prim.Native.Nat.{◌+◌}
 use native.Mathlib.Omega.{arith}
 use Rattle.model.specs.Areas.{stride}
 use Rattle.rows.specs.Rows.{first_rows}
-use Rattle.row_checks.proofs.Form.{EachTo, each_none, each_more, each_all, all_and, no_field, no_pair, pair_is}
+use Rattle.row_checks.proofs.Form.{each_none, each_more, each_all, all_and, no_field, no_pair, pair_is}
 use Rattle.row_checks.proofs.zero_pair.Goals as goal
 
 pub loop-j-init : goal.loop-j-init

@@ -1,9 +1,6 @@
-use mathlib.Core.Path.{◌∙◌}
-use Prim.Native.Nat.{◌≤◌, ◌-◌, ◌+◌}
-use native.Mathlib.Omega.{arith}
+use Prim.Native.Nat.{◌≤◌, ◌-◌}
 use Rattle.model.specs.Areas.{stride}
-use Rattle.rows.specs.Rows.{first_rows}
-use Rattle.row_checks.proofs.Form.{EachTo, each_none, each_more, each_all, all_and, no_field, no_pair, pair_is}
+use Rattle.row_checks.proofs.Form.{EachTo, no_pair}
 use Rattle.row_checks.proofs.zero_pair.Given as goal
 
 abbrev pub invariant-loop-j : goal.invariant-loop-j

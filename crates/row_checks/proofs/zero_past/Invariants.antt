@@ -1,13 +1,8 @@
-use Prim.Native.Nat.{◌≤◌, ◌-◌, ◌+◌}
-use mathlib.Core.Path.{◌≡◌, refl, sym, ◌∙◌}
-use mathlib.Core.Bool.{◌&&◌}
-use borrow.Author.Tests.{not-true, not-false}
-use native.Mathlib.Omega.{arith}
+use Prim.Native.Nat.{◌≤◌, ◌-◌}
+use mathlib.Core.Path.{◌≡◌}
 use Rattle.model.specs.Areas.{stride}
 use Rattle.rows.specs.Rows.{first_rows}
-use Rattle.rows.proofs.Words.{wide_rows}
-use Rattle.row_checks.specs.RowChecks.{zero_field, zero_past}
-use Rattle.row_checks.proofs.Form.{past_two, past_more, past_not, past_last, past_all}
+use Rattle.row_checks.specs.RowChecks.{zero_past}
 use Rattle.row_checks.proofs.zero_past.Given as goal
 
 abbrev pub invariant-loop-c : goal.invariant-loop-c

@@ -1,10 +1,6 @@
-use Prim.Native.Nat.{◌≤◌, ◌-◌, ◌+◌, ◌*◌}
-use mathlib.Core.Path.{◌≡◌, sym}
-use native.Mathlib.Omega.{arith}
+use Prim.Native.Nat.{◌≤◌, ◌-◌, ◌*◌}
 use Rattle.model.specs.Areas.{stride}
-use Rattle.rows.specs.Rows.{row_at}
-use Rattle.rows.proofs.Words.{Agree, agree_none, agree_all}
-use Rattle.rows.proofs.Pairs.{pair_more, pair_less, pair_greater}
+use Rattle.rows.proofs.Words.{Agree}
 use Rattle.rows.proofs.compare_rows.Given as goal
 
 abbrev pub invariant-loop-k : goal.invariant-loop-k

@@ -1,11 +1,10 @@
-use Prim.Native.Nat.{ℕ, ◌≤◌, ◌-◌, ◌/◌, ◌+◌}
+use Prim.Native.Nat.{ℕ, ◌-◌, ◌/◌, ◌+◌}
 use mathlib.Core.Path.{sym, ap, ◌∙◌}
 use Rattle.rows.specs.Rows.{row_at, first_rows, order_of}
 use Rattle.laws.proofs.Sets.{ascending-holds}
 use Rattle.model.specs.Areas.{stride}
-use Rattle.rows.proofs.Search.{Narrowed, narrowed_all, narrowed_less, narrowed_greater, narrowed_found, narrowed_none}
+use Rattle.rows.proofs.Search.{narrowed_all, narrowed_less, narrowed_greater, narrowed_found, narrowed_none}
 use native.Mathlib.Omega.{arith}
-use borrow.Author.Rules.{rules}
 use Rattle.rows.proofs.find.Goals as goal
 
 pub loop-low-init : goal.loop-low-init

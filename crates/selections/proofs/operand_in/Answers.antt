@@ -1,6 +1,5 @@
 use mathlib.Core.Path.{sym}
 use native.Mathlib.Omega.{arith}
-use borrow.Author.Rules.{rules}
 use Rattle.places.proofs.Places.{row_cell}
 use Rattle.selections.proofs.operand_in.Goals as goal
 

@@ -1,6 +1,5 @@
 use mathlib.Core.Path.{sym, ap, ap₂, ◌∙◌}
 use Prim.Native.Nat.{ℕ}
-use borrow.Author.Rules.{rules}
 use Rattle.model.specs.Algebra.{holds_of, compare_fields}
 use Rattle.places.proofs.Places.{row_cell}
 use Rattle.selections.proofs.passes_row.Goals as goal

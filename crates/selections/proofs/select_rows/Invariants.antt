@@ -1,12 +1,7 @@
-use mathlib.Core.Path.{◌≡◌, sym, ap, ◌∙◌}
 use Prim.Native.Nat.{◌≤◌, ◌-◌}
-use lib.ListN.{length}
 use Rattle.nodes.specs.Nodes.{operand_of}
 use Rattle.model.specs.Algebra.{passes}
 use Rattle.places.specs.Places.{Kept}
-use Rattle.places.proofs.Places.{kept_start, kept_no, kept_copied}
-use Rattle.selections.proofs.Selects.{select_fills}
-use native.Mathlib.Omega.{arith}
 use Rattle.selections.proofs.select_rows.Given as goal
 
 abbrev pub invariant-loop-i : goal.invariant-loop-i

@@ -1,5 +1,3 @@
-use borrow.Author.Rules.{rules}
-use borrow.Author.Tests.{not-false, not-true}
 use Rattle.merges.proofs.Merged.{appended_none, appended_one}
 use Rattle.sets.proofs.append_wanted.Goals as goal
 

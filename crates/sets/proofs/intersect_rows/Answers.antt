@@ -1,4 +1,3 @@
-use borrow.Author.Rules.{rules}
 use Rattle.places.proofs.Places.{rows_ascend}
 use Rattle.sets.proofs.Sets.{intersect_fills}
 use Rattle.sets.proofs.intersect_rows.Goals as goal

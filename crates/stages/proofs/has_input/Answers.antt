@@ -1,5 +1,5 @@
 use lib.ListN.{length}
-use borrow.Author.Tests.{le-leb, lt-leb, not-false, not-true}
+use borrow.Author.Tests.{le-leb, lt-leb}
 use Rattle.stages.proofs.has_input.Goals as goal
 
 pub returns-then-not-n : goal.returns-then-not-n

@@ -1,5 +1,4 @@
 use mathlib.Core.Path.{refl}
-use borrow.Author.Rules.{rules}
 use Rattle.stages.proofs.is_over.Goals as goal
 
 pub returns-in-Begin : goal.returns-in-Begin

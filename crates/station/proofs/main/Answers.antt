@@ -1,7 +1,6 @@
 use borrow.Author.Rules.{rules}
 use Rattle.stages.proofs.Steps.{long_is}
 use lib.Seq.{length-take-le}
-use mathlib.Core.Path.{sym}
 use native.Mathlib.Omega.{arith}
 use Rattle.station.proofs.main.Goals as goal
 

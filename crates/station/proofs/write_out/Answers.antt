@@ -1,6 +1,4 @@
-use lib.ListN.{length}
-use Prim.Native.Nat.{◌+◌, ◌-◌, ◌≤◌}
-use borrow.Author.Rules.{rules}
+use Prim.Native.Nat.{◌-◌}
 use native.Mathlib.Omega.{arith}
 use Rattle.station.proofs.Running.{rest_length}
 use Rattle.station.proofs.write_out.Goals as goal

@@ -1,8 +1,5 @@
 use lib.ListN.{length}
 use Prim.Native.Nat.{◌+◌, ◌-◌, ◌≤◌}
-use borrow.Author.Rules.{rules}
-use native.Mathlib.Omega.{arith}
-use Rattle.station.proofs.Running.{rest_length}
 use Rattle.station.proofs.write_out.Given as goal
 
 abbrev pub invariant-loop-at : goal.invariant-loop-at

@@ -1,10 +1,10 @@
 use Rattle.model.specs.Row.{max_width}
-use Prim.Native.Nat.{◌≤◌, ◌-◌, zero-le, ◌+◌}
+use Prim.Native.Nat.{◌-◌, zero-le, ◌+◌}
 use mathlib.Core.Path.{◌≡◌, refl, ap, ◌∙◌}
 use mathlib.Core.List.{◌∷◌}
 use native.Mathlib.Omega.{arith}
 use lib.ListN.{length, get_or}
-use Rattle.model.specs.Areas.{padded, fields}
+use Rattle.model.specs.Areas.{fields}
 use Rattle.rows.proofs.Place.{length-padded}
 use Rattle.rows.proofs.Words.{length_fields}
 use Rattle.station_lines.proofs.Changes.{numbers_more}

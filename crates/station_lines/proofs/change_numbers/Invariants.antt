@@ -1,13 +1,8 @@
 use Rattle.model.specs.Row.{max_width}
-use Prim.Native.Nat.{◌≤◌, ◌-◌, zero-le, ◌+◌}
-use mathlib.Core.Path.{◌≡◌, refl, ap, ◌∙◌}
+use Prim.Native.Nat.{◌≤◌, ◌-◌, ◌+◌}
+use mathlib.Core.Path.{◌≡◌}
 use mathlib.Core.List.{◌∷◌}
-use native.Mathlib.Omega.{arith}
-use lib.ListN.{length, get_or}
 use Rattle.model.specs.Areas.{padded, fields}
-use Rattle.rows.proofs.Place.{length-padded}
-use Rattle.rows.proofs.Words.{length_fields}
-use Rattle.station_lines.proofs.Changes.{numbers_more}
 use Rattle.station_lines.proofs.change_numbers.Given as goal
 
 abbrev pub invariant-loop-k : goal.invariant-loop-k

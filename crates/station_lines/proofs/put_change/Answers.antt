@@ -1,13 +1,6 @@
-use Rattle.model.specs.Row.{max_width}
-use borrow.Author.Rules.{rules}
 use lib.ListN.{length}
-use mathlib.Core.Path.{◌≡◌, ap, ◌∙◌, sym}
-use mathlib.Core.List.{◌∷◌}
+use mathlib.Core.Path.{ap}
 use native.Mathlib.Omega.{arith}
-use lib.Seq.{length-take-le}
-use Prim.Native.Nat.{◌+◌}
-use Rattle.rows.proofs.Place.{length-padded}
-use Rattle.model.specs.Areas.{fields}
 use Rattle.rows.proofs.Words.{length_fields}
 use Rattle.station_lines.proofs.Changes.{numbers_taken}
 use Rattle.station_lines.proofs.put_change.Goals as goal

@@ -1,6 +1,4 @@
-use Rattle.lines.specs.Written.{Put}
-use Rattle.station_lines.specs.Lines.{change_room}
-use Prim.Native.Nat.{◌≤◌, ◌*◌, ◌-◌, zero-le}
+use Prim.Native.Nat.{◌-◌, zero-le}
 use mathlib.Core.Path.{◌≡◌, ap, ◌∙◌}
 use lib.Seq.{length-sets}
 use lib.ListN.{length}

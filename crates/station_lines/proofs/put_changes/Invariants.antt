@@ -1,13 +1,8 @@
 use Rattle.lines.specs.Written.{Put}
 use Rattle.station_lines.specs.Lines.{change_room}
-use Prim.Native.Nat.{◌≤◌, ◌*◌, ◌-◌, zero-le}
-use mathlib.Core.Path.{◌≡◌, ap, ◌∙◌}
-use lib.Seq.{length-sets}
-use lib.ListN.{length}
-use native.Mathlib.Omega.{arith}
+use Prim.Native.Nat.{◌≤◌, ◌*◌, ◌-◌}
 use Rattle.station_lines.specs.Lines.{change_lines}
 use Rattle.model.specs.Areas.{held_in, layout}
-use Rattle.station_lines.proofs.Changes.{lines_none, lines_more}
 use Rattle.station_lines.proofs.put_changes.Given as goal
 
 abbrev pub invariant-loop-j : goal.invariant-loop-j

@@ -1,4 +1,3 @@
-use borrow.Author.Rules.{rules}
 use native.Mathlib.Omega.{arith}
 use Rattle.station_lines.proofs.Changes.{node_lines_lem}
 use Rattle.model.specs.Areas.{held_in, layout}

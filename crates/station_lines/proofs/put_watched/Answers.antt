@@ -1,5 +1,4 @@
 use Rattle.station_lines.specs.Lines.{node_room}
-use borrow.Author.Rules.{rules}
 use native.Mathlib.Omega.{arith}
 use mathlib.Core.Path.{subst}
 use Prim.Native.Nat.{◌+◌, ℕ}
@@ -16,20 +15,20 @@ overflow_cast-l c = let a = c.args in omega (arith, c.type_inv.head (97 + a.node
 
 pub put_node-requires : goal.put_node-requires
 put_node-requires c = let a = c.args in (
-      c.requires.0.narrow a.node,
-      c.requires.1.gained-few a.node
-          c.requires.2,
-      c.requires.1.lost-few a.node
-          c.requires.2,
-      omega (
-        arith,
-        c.requires.2,
-        c.requires.0.sound.few,
-      ),
-      c.requires.1.gained-long,
-      c.requires.1.lost-long,
-      c.requires.3,
-    )
+  c.requires.0.narrow a.node,
+  c.requires.1.gained-few a.node
+      c.requires.2,
+  c.requires.1.lost-few a.node
+      c.requires.2,
+  omega (
+    arith,
+    c.requires.2,
+    c.requires.0.sound.few,
+  ),
+  c.requires.1.gained-long,
+  c.requires.1.lost-long,
+  c.requires.3,
+)
 
 pub returns : goal.returns
 returns c = let a = c.args in subst

@@ -2,7 +2,6 @@ use mathlib.Core.Path.{ap, sym, ◌∙◌}
 use Prim.Native.Nat.{◌+◌, ◌-◌}
 use native.Mathlib.Omega.{arith}
 use lib.ListN.{length}
-use borrow.Author.Rules.{rules}
 use Rattle.tables.proofs.Folds.{act-put, act-remove, event_row_at, some-row}
 use Rattle.laws.proofs.Sets.{ascending-holds, insert_once}
 use Rattle.rows.specs.Rows.{first_rows}

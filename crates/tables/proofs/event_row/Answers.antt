@@ -1,11 +1,8 @@
 use mathlib.Core.Path.{refl, ◌∙◌, ◌≡◌}
-use Prim.Native.Nat.{◌+◌, ◌-◌, ◌≤◌}
+use Prim.Native.Nat.{◌+◌}
 use native.Mathlib.Omega.{arith}
-use lib.ListN.{length, length-set}
-use borrow.Author.Rules.{rules}
-use Rattle.model.specs.Areas.{padded, stride}
+use lib.ListN.{length-set}
 use Rattle.tables.proofs.Folds.{row-filled}
-use Rattle.model.specs.Batch.{row_in}
 use Rattle.tables.proofs.event_row.Goals as goal
 
 pub loop-k-init : goal.loop-k-init

@@ -1,10 +1,7 @@
-use mathlib.Core.Path.{refl, ◌∙◌, ◌≡◌}
+use mathlib.Core.Path.{◌≡◌}
 use Prim.Native.Nat.{◌+◌, ◌-◌, ◌≤◌}
-use native.Mathlib.Omega.{arith}
-use lib.ListN.{length, length-set}
-use borrow.Author.Rules.{rules}
+use lib.ListN.{length}
 use Rattle.model.specs.Areas.{padded, stride}
-use Rattle.tables.proofs.Folds.{row-filled}
 use Rattle.model.specs.Batch.{row_in}
 use Rattle.tables.proofs.event_row.Given as goal
 

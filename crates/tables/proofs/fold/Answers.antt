@@ -1,9 +1,8 @@
 use mathlib.Core.Path.{ap}
-use Prim.Native.Nat.{◌+◌, ◌-◌, ℕ}
+use Prim.Native.Nat.{◌+◌, ℕ}
 use native.Mathlib.Omega.{arith}
-use lib.ListN.{length}
-use Rattle.tables.proofs.Folds.{Folded, fold_header, fold_inside, fold_room, fold_whole, folded_end, folded_more, folded_start}
-use Rattle.rows.specs.Rows.{first_rows, words}
+use Rattle.tables.proofs.Folds.{fold_header, fold_inside, fold_room, fold_whole, folded_end, folded_more, folded_start}
+use Rattle.rows.specs.Rows.{first_rows}
 use Rattle.tables.proofs.fold.Goals as goal
 
 pub loop-at-init : goal.loop-at-init
@@ -12,17 +11,17 @@ loop-at-init c = let a = c.args in folded_start a.bytes.now a.table a.width a.wo
 
 pub fold_one-count-requires : goal.fold_one-count-requires
 fold_one-count-requires c = let a = c.args in (
-      c.requires.0.narrow,
-      fold_header a.bytes.now a.table a.width (first_rows a.words.now a.n) c.loop-at.words
-          c.loop-at.count c.loop-at.at c.loop-at.invariant c.loop-at-test.true,
-      fold_inside a.bytes.now a.table a.width
-          (first_rows a.words.now a.n) c.loop-at.words c.loop-at.count c.loop-at.at c.loop-at.invariant
-          c.loop-at-test.true,
-      c.loop-at.invariant.table,
-      fold_room a.bytes.now a.table a.width (first_rows a.words.now a.n) c.loop-at.words
-          c.loop-at.count c.loop-at.at c.loop-at.invariant c.loop-at-test.true,
-      c.loop-at.invariant.size,
-    )
+  c.requires.0.narrow,
+  fold_header a.bytes.now a.table a.width (first_rows a.words.now a.n) c.loop-at.words
+      c.loop-at.count c.loop-at.at c.loop-at.invariant c.loop-at-test.true,
+  fold_inside a.bytes.now a.table a.width
+      (first_rows a.words.now a.n) c.loop-at.words c.loop-at.count c.loop-at.at c.loop-at.invariant
+      c.loop-at-test.true,
+  c.loop-at.invariant.table,
+  fold_room a.bytes.now a.table a.width (first_rows a.words.now a.n) c.loop-at.words
+      c.loop-at.count c.loop-at.at c.loop-at.invariant c.loop-at-test.true,
+  c.loop-at.invariant.size,
+)
 
 pub u16_at-requires : goal.u16_at-requires
 u16_at-requires c = let a = c.args in let w = fold_whole a.bytes.now a.table a.width

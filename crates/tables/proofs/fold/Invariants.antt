@@ -1,9 +1,7 @@
-use mathlib.Core.Path.{ap}
-use Prim.Native.Nat.{◌+◌, ◌-◌, ℕ}
-use native.Mathlib.Omega.{arith}
+use Prim.Native.Nat.{◌-◌}
 use lib.ListN.{length}
-use Rattle.tables.proofs.Folds.{Folded, fold_header, fold_inside, fold_room, fold_whole, folded_end, folded_more, folded_start}
-use Rattle.rows.specs.Rows.{first_rows, words}
+use Rattle.tables.proofs.Folds.{Folded}
+use Rattle.rows.specs.Rows.{first_rows}
 use Rattle.tables.proofs.fold.Given as goal
 
 abbrev pub invariant-loop-at : goal.invariant-loop-at

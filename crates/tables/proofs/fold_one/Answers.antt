@@ -1,6 +1,5 @@
 use mathlib.Core.Path.{sym, ◌∙◌}
 use native.Mathlib.Omega.{arith}
-use borrow.Author.Rules.{rules}
 use borrow.Author.Tests.{eq-eqb, ne_eqb}
 use Rattle.model.specs.Record.{field_at}
 use Rattle.tables.proofs.fold_one.Goals as goal
@@ -21,6 +20,6 @@ returns-then-field_at-table c = let a = c.args in rw (eq-eqb (field_at a.bytes.n
 
 pub returns : goal.returns
 returns c = let a = c.args in record {
-      folds = rw (ne_eqb (field_at a.bytes.now a.at 0) a.table (λ z. c.if-field_at-table.false (c.field_at.ensures.is ∙ z))) c.requires.3.stands;
-      grows = omega arith;
-    }
+  folds = rw (ne_eqb (field_at a.bytes.now a.at 0) a.table (λ z. c.if-field_at-table.false (c.field_at.ensures.is ∙ z))) c.requires.3.stands;
+  grows = omega arith;
+}

@@ -1,7 +1,6 @@
 use mathlib.Core.Path.{ap, ap₂, refl, sym, ◌∙◌, ◌≡◌}
-use Prim.Native.Nat.{ℕ, ◌-◌, ◌≤◌, max}
+use Prim.Native.Nat.{ℕ, ◌-◌, max}
 use native.Mathlib.Omega.{arith}
-use borrow.Author.Rules.{rules}
 use Rattle.taking.specs.Taking.{highest_in}
 use Rattle.taking.proofs.Ranks.{highest-next}
 use Rattle.taking.proofs.highest_rank.Goals as goal

@@ -1,9 +1,6 @@
-use mathlib.Core.Path.{ap, ap₂, refl, sym, ◌∙◌, ◌≡◌}
-use Prim.Native.Nat.{ℕ, ◌-◌, ◌≤◌, max}
-use native.Mathlib.Omega.{arith}
-use borrow.Author.Rules.{rules}
+use mathlib.Core.Path.{◌≡◌}
+use Prim.Native.Nat.{◌-◌, ◌≤◌}
 use Rattle.taking.specs.Taking.{highest_in}
-use Rattle.taking.proofs.Ranks.{highest-next}
 use Rattle.taking.proofs.highest_rank.Given as goal
 
 abbrev pub invariant-loop-i : goal.invariant-loop-i

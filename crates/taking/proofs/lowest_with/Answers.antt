@@ -1,11 +1,10 @@
 use mathlib.Core.Path.{refl}
-use Prim.Native.Nat.{◌-◌, ◌≤◌}
+use Prim.Native.Nat.{◌-◌}
 use lib.Dec.{eqb}
 use native.Mathlib.Omega.{arith}
-use borrow.Author.Rules.{rules}
 use borrow.Author.Tests.{eq-eqb, ne_eqb}
 use Rattle.taking.specs.Taking.{rank_in}
-use Rattle.taking.proofs.Ranks.{NoneTo, none_more, first_passes, none_passes}
+use Rattle.taking.proofs.Ranks.{none_more, first_passes, none_passes}
 use Rattle.taking.proofs.lowest_with.Goals as goal
 
 pub loop-i-init : goal.loop-i-init

@@ -1,5 +1,4 @@
 use mathlib.Core.Path.{subst, sym}
-use borrow.Author.Rules.{rules}
 use Rattle.model.specs.Areas.{layout}
 use Rattle.model.specs.Calls.{TakeAnswer, refused_taking, take_call, take_in}
 use Rattle.verdicts.specs.Verdicts.{verdict_of}
@@ -14,10 +13,12 @@ returns-then-verdict-ne0 c =
     let a = c.args in
     let read = c.read_areas-reading in
     let p = a.pending.now in
-    record { takes = refused_takes (verdict_of read.result.verdict) p _
-    (after-refused a.net.now a.rows.now a.gained.now a.lost.now a.head.now read.result read.ensures.admits
-    (λ n. take_in layout n p) (λ v. refused_taking v p) c.if-verdict-ne0.true) _
-    c.refused.ensures }
+    record {
+      takes = refused_takes (verdict_of read.result.verdict) p _
+          (after-refused a.net.now a.rows.now a.gained.now a.lost.now a.head.now read.result read.ensures.admits
+          (λ n. take_in layout n p) (λ v. refused_taking v p) c.if-verdict-ne0.true) _
+          c.refused.ensures;
+    }
 
 pub take_in-requires : goal.take_in-requires
 take_in-requires c = c.read_areas-reading.ensures.admits.built
@@ -29,7 +30,9 @@ returns c =
     let read = c.read_areas-reading in
     let p = a.pending.now in
     let taken = c.take_in in
-    record { takes = subst (λ (x : TakeAnswer). Takes x taken.result taken.new.pending)
-    (sym (after_admitted a.net.now a.rows.now a.gained.now a.lost.now a.head.now read.result read.ensures.admits c.if-verdict-ne0.false
-    (λ n. take_in layout n p) (λ v. refused_taking v p)))
-    taken.ensures }
+    record {
+      takes = subst (λ (x : TakeAnswer). Takes x taken.result taken.new.pending)
+          (sym (after_admitted a.net.now a.rows.now a.gained.now a.lost.now a.head.now read.result read.ensures.admits c.if-verdict-ne0.false
+          (λ n. take_in layout n p) (λ v. refused_taking v p)))
+          taken.ensures;
+    }

@@ -1,5 +1,4 @@
 use lib.ListN.{get_or}
-use borrow.Author.Rules.{rules}
 use Rattle.model.specs.Record.{refused}
 use Rattle.model.specs.Network.{widths}
 use Rattle.network.specs.Reading.{network_of, nodes_of}

@@ -2,7 +2,6 @@ use mathlib.Core.Path.{refl}
 use Prim.Native.Nat.{◌+◌, ◌-◌}
 use lib.ListN.{get_or, length-set, replicate}
 use native.Mathlib.Omega.{arith}
-use borrow.Author.Rules.{rules}
 use Rattle.model.specs.Areas.{area_size, stride}
 use Rattle.taking.proofs.Row.{few, row_taken, row-long, row-left}
 use Rattle.taking.proofs.take_row.Goals as goal

@@ -1,4 +1,3 @@
-use borrow.Author.Rules.{rules}
 use Rattle.stages.proofs.Steps.{changes-are, count_is, head-long, lines_are, put-nothing}
 use Rattle.stages.proofs.Nodes.{silent_past, silent_unchanged}
 use Rattle.lines.specs.Written.{Put}
@@ -12,9 +11,9 @@ use Rattle.telling.proofs.node_lines.Goals as goal
 
 pub is_unchanged-requires : goal.is_unchanged-requires
 is_unchanged-requires c = let a = c.args in (
-      head-long (lent a.rows.now a.gained.now a.lost.now a.head.now) c.requires.0.long,
-      c.requires.1,
-    )
+  head-long (lent a.rows.now a.gained.now a.lost.now a.head.now) c.requires.0.long,
+  c.requires.1,
+)
 
 pub returns-then-is_unchanged : goal.returns-then-is_unchanged
 returns-then-is_unchanged c = let a = c.args in put-nothing _ a.out.now
@@ -32,13 +31,13 @@ returns-then-network-node c = let a = c.args in put-nothing _ a.out.now
 
 pub put_watched-requires : goal.put_watched-requires
 put_watched-requires c = let a = c.args in (
-      c.read_network-reading.ensures.reads.built,
-      changes-are a.net.now c.read_network-reading.result
-          c.read_network-reading.ensures.reads a.rows.now a.gained.now a.lost.now a.head.now
-          c.requires.0,
-      omega (arith, c.if-network-node.false),
-      c.requires.2,
-    )
+  c.read_network-reading.ensures.reads.built,
+  changes-are a.net.now c.read_network-reading.result
+      c.read_network-reading.ensures.reads a.rows.now a.gained.now a.lost.now a.head.now
+      c.requires.0,
+  omega (arith, c.if-network-node.false),
+  c.requires.2,
+)
 
 pub returns : goal.returns
 returns c = let a = c.args in subst

@@ -1,4 +1,3 @@
-use borrow.Author.Rules.{rules}
 use Rattle.stages.proofs.Steps.{says-node}
 use Rattle.stages.specs.declared.Stage.TheVariants.{Cut, Tell}
 use borrow.Author.Tests.{le-ltb, lt-ltb}

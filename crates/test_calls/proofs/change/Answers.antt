@@ -2,7 +2,7 @@ use mathlib.Core.Path.{ap}
 use Rattle.areas.specs.Lent.{lent}
 use Rattle.test_calls.specs.Operations.{kind_of}
 use Rattle.test_calls.proofs.Ran.{ran_batch, ran_opened, ran_word}
-use borrow.Author.Rules.{rules}
+use native.Mathlib.Omega.{arith}
 use Rattle.test_calls.proofs.change.Goals as goal
 
 pub returns-in-3 : goal.returns-in-3
@@ -15,4 +15,4 @@ returns-in-12 c = let a = c.args in
 
 pub returns-in_default : goal.returns-in_default
 returns-in_default c = let a = c.args in
-    λ out. ran_opened a.op a.net.now a.part.now (lent a.rows.now a.gained.now a.lost.now a.head.now) out a.text.now a.op.kind c.opened-v.result c.requires c.in_default.rest.0.1 c.in_default.rest.1 c.opened-v.ensures c.verdict_line.ensures
+    λ out. ran_opened a.op a.net.now a.part.now (lent a.rows.now a.gained.now a.lost.now a.head.now) out a.text.now a.op.kind c.opened-v.result c.requires (λ e. omega arith) (λ e. omega arith) c.opened-v.ensures c.verdict_line.ensures

@@ -7,7 +7,7 @@ pub returns-in-5 : goal.returns-in-5
 returns-in-5 c = grouped_reads c.args.kind (asking_low c.args.kind (omega arith) (omega arith))
 
 pub returns-in-5-2 : goal.returns-in-5-2
-returns-in-5-2 c = grouped_reads c.args.kind (asking_high c.args.kind c.in_default-1.rest.1 (omega arith) (omega arith))
+returns-in-5-2 c = grouped_reads c.args.kind (asking_high c.args.kind (λ e. omega arith) (omega arith) (omega arith))
 
 pub returns-in_default : goal.returns-in_default
 returns-in_default c = grouped_neither c.args.kind (λ t. omega (arith, t.0, t.1))

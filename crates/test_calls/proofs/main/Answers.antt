@@ -1,11 +1,9 @@
-use borrow.Author.Rules.{rules}
-use mathlib.Core.Path.{sym, ◌∙◌, ◌≡◌}
+use mathlib.Core.Path.{◌∙◌, ◌≡◌}
 use mathlib.Core.List.{List}
 use Prim.Native.Nat.{ℕ, ◌-◌, ◌≤◌}
 use native.Mathlib.Omega.{arith}
 use lib.ListN.{drop, length, take}
 use lib.Seq.{length-take-le}
-use Rattle.model.specs.Calls.{longest_report}
 use Rattle.test_calls.proofs.Ran.{length-take-small, text-kept}
 use Rattle.test_calls.proofs.main.Goals as goal
 use Rattle.test_calls.proofs.main.Goals.{then-op-eq-NETWORK, else-op-eq-NETWORK}
@@ -21,8 +19,8 @@ slice_bounds-run-count c =
     let n = size c.read_full-n.new.buf c.read_full-n.result i.0 i.1 in
     -- the network's part of the script, after the operation that may bring one
     let j : (c.if-op-eq-NETWORK.from ≤ c.if-op-eq-NETWORK.to) × (c.if-op-eq-NETWORK.to ≤ c.read_full-n.result) = elim c.if-op-eq-NETWORK.branch [
-      then-op-eq-NETWORK s ↦ (omega (arith, s.from-is, s.to-is, w.text), omega (arith, s.to-is, w.whole, n))
-    | else-op-eq-NETWORK s ↦ (omega (arith, s.from-is, s.to-is, i.2), omega (arith, s.to-is, i.3))
+      | then-op-eq-NETWORK s ↦ (omega (arith, s.from-is, s.to-is, w.text), omega (arith, s.to-is, w.whole, n))
+      | else-op-eq-NETWORK s ↦ (omega (arith, s.from-is, s.to-is, i.2), omega (arith, s.to-is, i.3))
     ] in
     j.0
 
@@ -33,8 +31,8 @@ slice_bounds-run-start c =
     let n = size c.read_full-n.new.buf c.read_full-n.result i.0 i.1 in
     -- the network's part of the script, after the operation that may bring one
     let j : (c.if-op-eq-NETWORK.from ≤ c.if-op-eq-NETWORK.to) × (c.if-op-eq-NETWORK.to ≤ c.read_full-n.result) = elim c.if-op-eq-NETWORK.branch [
-      then-op-eq-NETWORK s ↦ (omega (arith, s.from-is, s.to-is, w.text), omega (arith, s.to-is, w.whole, n))
-    | else-op-eq-NETWORK s ↦ (omega (arith, s.from-is, s.to-is, i.2), omega (arith, s.to-is, i.3))
+      | then-op-eq-NETWORK s ↦ (omega (arith, s.from-is, s.to-is, w.text), omega (arith, s.to-is, w.whole, n))
+      | else-op-eq-NETWORK s ↦ (omega (arith, s.from-is, s.to-is, i.2), omega (arith, s.to-is, i.3))
     ] in
     omega (arith, j.0, j.1, n)
 
@@ -45,8 +43,8 @@ slice_bounds-run-end c =
     let n = size c.read_full-n.new.buf c.read_full-n.result i.0 i.1 in
     -- the network's part of the script, after the operation that may bring one
     let j : (c.if-op-eq-NETWORK.from ≤ c.if-op-eq-NETWORK.to) × (c.if-op-eq-NETWORK.to ≤ c.read_full-n.result) = elim c.if-op-eq-NETWORK.branch [
-      then-op-eq-NETWORK s ↦ (omega (arith, s.from-is, s.to-is, w.text), omega (arith, s.to-is, w.whole, n))
-    | else-op-eq-NETWORK s ↦ (omega (arith, s.from-is, s.to-is, i.2), omega (arith, s.to-is, i.3))
+      | then-op-eq-NETWORK s ↦ (omega (arith, s.from-is, s.to-is, w.text), omega (arith, s.to-is, w.whole, n))
+      | else-op-eq-NETWORK s ↦ (omega (arith, s.from-is, s.to-is, i.2), omega (arith, s.to-is, i.3))
     ] in
     omega (arith, j.1, n)
 
@@ -102,8 +100,7 @@ loop-at-preserved c =
     let n = size c.read_full-n.new.buf c.read_full-n.result i.0 i.1 in
     -- the network's part of the script, after the operation that may bring one
     let j : (c.if-op-eq-NETWORK.from ≤ c.if-op-eq-NETWORK.to) × (c.if-op-eq-NETWORK.to ≤ c.read_full-n.result) = elim c.if-op-eq-NETWORK.branch [
-      then-op-eq-NETWORK s ↦ (omega (arith, s.from-is, s.to-is, w.text), omega (arith, s.to-is, w.whole, n))
-    | else-op-eq-NETWORK s ↦ (omega (arith, s.from-is, s.to-is, i.2), omega (arith, s.to-is, i.3))
+      | then-op-eq-NETWORK s ↦ (omega (arith, s.from-is, s.to-is, w.text), omega (arith, s.to-is, w.whole, n))
+      | else-op-eq-NETWORK s ↦ (omega (arith, s.from-is, s.to-is, i.2), omega (arith, s.to-is, i.3))
     ] in
-    (i.0, i.1, j.0, j.1, text-kept c.run-k.ensures ∙ i.4, c.run-k.auto.1.1.1.1.1.1.1.0 ∙ i.5)
-
+    (i.0, i.1, j.0, j.1, text-kept c.run-k.ensures ∙ i.4, c.run-k.auto.out ∙ i.5)

@@ -1,6 +1,6 @@
 use Rattle.areas.specs.Lent.{lent}
 use Rattle.test_calls.proofs.Ran.{ran_asked}
-use borrow.Author.Rules.{rules}
+use native.Mathlib.Omega.{arith}
 use Rattle.test_calls.proofs.run.Goals as goal
 
 pub change-requires : goal.change-requires
@@ -8,7 +8,7 @@ change-requires c = c.group_of-group.ensures.writes c.in-1.is
 
 pub show-requires : goal.show-requires
 show-requires c = (
-  c.group_of-group.ensures.neither c.in_default.rest.0.1 c.in_default.rest.1,
+  c.group_of-group.ensures.neither (λ e. omega arith) (λ e. omega arith),
   c.requires.0,
   c.requires.1,
 )

@@ -1,6 +1,5 @@
-use mathlib.Core.Path.{ap, sym, ◌≡◌}
+use mathlib.Core.Path.{ap}
 use native.Mathlib.Omega.{arith}
-use lib.ListN.{length}
 use lib.Seq.{length-take-le}
 use Rattle.test_calls.specs.Operations.{kind_of}
 use Rattle.test_calls.proofs.Ran.{other, ran_clear, ran_name, ran_network, ran_values}
@@ -26,4 +25,4 @@ returns-in-7 c = let a = c.args in
 
 pub returns-in_default : goal.returns-in_default
 returns-in_default c = let a = c.args in
-    λ net areas. ran_clear a.op net a.part.now areas a.out.now a.text.now (other a.op.kind c.requires.0 c.in_default.rest.0.0.1 c.in_default.rest.0.1 c.in_default.rest.1) c.clear.ensures.cleared c.clear.ensures.nothing
+    λ net areas. ran_clear a.op net a.part.now areas a.out.now a.text.now (other a.op.kind c.requires.0 (λ e. omega arith) (λ e. omega arith) (λ e. omega arith)) c.clear.ensures.cleared c.clear.ensures.nothing

@@ -1,5 +1,4 @@
 use Rattle.test_networks.proofs.Told.{told}
-use borrow.Author.Rules.{rules}
 use Rattle.test_networks.proofs.answer_lines.Goals as goal
 
 pub returns : goal.returns

@@ -1,9 +1,6 @@
-use mathlib.Core.Path.{sym, ◌∙◌, ◌≡◌}
-use Prim.Native.Nat.{◌-◌, ◌≤◌}
+use mathlib.Core.Path.{◌∙◌}
+use Prim.Native.Nat.{◌-◌}
 use native.Mathlib.Omega.{arith}
-use lib.ListN.{length}
-use lib.Seq.{length-take-le}
-use borrow.Author.Rules.{rules}
 use Rattle.test_networks.proofs.main.Goals as goal
 
 pub slice_bounds-answer_lines-count : goal.slice_bounds-answer_lines-count

@@ -1,10 +1,9 @@
-use Prim.Native.Nat.{◌≤◌, ◌-◌, zero-le}
+use Prim.Native.Nat.{◌-◌, zero-le}
 use mathlib.Core.Path.{◌≡◌, refl, ap, ◌∙◌}
 use native.Mathlib.Omega.{arith}
-use borrow.Author.Rules.{rules}
 use lib.ListN.{length, get_or}
 use mathlib.Core.Bool.{cond, false}
-use Rattle.model.specs.Areas.{padded, stamp_at}
+use Rattle.model.specs.Areas.{stamp_at}
 use Rattle.transition.specs.Head.{stamps_from}
 use Rattle.states.proofs.Head.{padded-length}
 use Rattle.laws.proofs.Parts.{length-counted}
@@ -44,12 +43,12 @@ overflow_add-i-in-loop-i c = omega (arith, c.loop-i-test.true, c.requires.0)
 
 pub loop-i-preserved : goal.loop-i-preserved
 loop-i-preserved c = let a = c.args in (
-      omega (arith, c.loop-i-test.true),
-      stamps_more a.head.now a.changed.now a.number c.loop-i.i
-          c.loop-i.stamps c.stamp_of.result
-          (omega (arith, c.loop-i-test.true, c.requires.0)) c.loop-i.invariant.1
-          c.stamp_of.ensures,
-    )
+  omega (arith, c.loop-i-test.true),
+  stamps_more a.head.now a.changed.now a.number c.loop-i.i
+      c.loop-i.stamps c.stamp_of.result
+      (omega (arith, c.loop-i-test.true, c.requires.0)) c.loop-i.invariant.1
+      c.stamp_of.ensures,
+)
 
 pub returns : goal.returns
 returns c = let a = c.args in let e : c.loop-i.i

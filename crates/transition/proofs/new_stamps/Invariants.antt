@@ -1,15 +1,8 @@
-use Prim.Native.Nat.{◌≤◌, ◌-◌, zero-le}
-use mathlib.Core.Path.{◌≡◌, refl, ap, ◌∙◌}
-use native.Mathlib.Omega.{arith}
-use borrow.Author.Rules.{rules}
-use lib.ListN.{length, get_or}
-use mathlib.Core.Bool.{cond, false}
-use Rattle.model.specs.Areas.{padded, stamp_at}
+use Prim.Native.Nat.{◌≤◌, ◌-◌}
+use mathlib.Core.Path.{◌≡◌}
+use Rattle.model.specs.Areas.{padded}
 use Rattle.transition.specs.Head.{stamps_from}
-use Rattle.states.proofs.Head.{padded-length}
-use Rattle.laws.proofs.Parts.{length-counted}
 use Rattle.model.specs.Row.{max_nodes}
-use Rattle.transition.proofs.Head.{stamps_more}
 use Rattle.transition.proofs.new_stamps.Given as goal
 
 abbrev pub invariant-loop-i : goal.invariant-loop-i

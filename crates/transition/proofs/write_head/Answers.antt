@@ -1,7 +1,6 @@
 use native.Mathlib.Omega.{arith}
 use lib.ListN.{length-set}
 use Rattle.transition.proofs.Head.{head_written}
-use borrow.Author.Rules.{rules}
 use Rattle.transition.proofs.write_head.Goals as goal
 
 pub copy_run-requires : goal.copy_run-requires

@@ -8,7 +8,6 @@ use Rattle.worklist.specs.Listed.{due_list}
 use Rattle.changes.proofs.Out.{head-long}
 use Rattle.transition.proofs.Head.{stamps-long}
 use Rattle.transition.proofs.Next.{state_written}
-use borrow.Author.Rules.{rules}
 use Rattle.transition.proofs.write_state.Goals as goal
 
 pub bounds-head-0 : goal.bounds-head-0
@@ -61,7 +60,9 @@ returns c =
     let stamps = c.new_stamps-stamps in
     let l = c.list_worked-k in
     let h = c.write_head in
-    record { writes = λ o copy. state_written o.net a.rows.now a.gained.now a.lost.now a.head.now a.work.now a.counts.now a.changed.now a.picks.now a.sizes.now o.out
-    o.fit w.new.rows w.new.gained w.new.lost h.new.head stamps.result l.new.entries a.levels.now
-    a.due.now a.n _ l.result copy o.count_is refl (w.ensures (record { net = o.net; out = o.out; count_is = o.count_is })) stamps.ensures o.levels-are o.marked
-    l.ensures.lists l.ensures.counts h.ensures }
+    record {
+      writes = λ o copy. state_written o.net a.rows.now a.gained.now a.lost.now a.head.now a.work.now a.counts.now a.changed.now a.picks.now a.sizes.now o.out
+          o.fit w.new.rows w.new.gained w.new.lost h.new.head stamps.result l.new.entries a.levels.now
+          a.due.now a.n _ l.result copy o.count_is refl (w.ensures (record { net = o.net; out = o.out; count_is = o.count_is })) stamps.ensures o.levels-are o.marked
+          l.ensures.lists l.ensures.counts h.ensures;
+    }

@@ -1,17 +1,13 @@
-use mathlib.Core.Bool.{false, not}
-use mathlib.Core.Path.{◌≡◌, ap}
-use Prim.Native.Nat.{ℕ, ◌≤◌, ◌-◌}
-use native.Mathlib.Omega.{arith}
-use lib.ListN.{length}
+use mathlib.Core.Bool.{false}
+use mathlib.Core.Path.{◌≡◌}
+use Prim.Native.Nat.{◌≤◌, ◌-◌}
 use Rattle.model.specs.Row.{some_of}
 use Rattle.model.specs.Algebra.{agree}
 use Rattle.model.specs.Areas.{stride}
 use Rattle.nodes.specs.Nodes.{pairs_of}
 use Rattle.rows.specs.Rows.{row_at, first_rows}
-use Rattle.keys.proofs.Keys.{key_agrees, key_differs}
 use Rattle.places.specs.Places.{Kept}
-use Rattle.places.proofs.Places.{kept_start, kept_no, kept_copied}
-use Rattle.unmatched.proofs.Unmatched.{unmet, none_of_0, none_more, some_at, unmatched_fills}
+use Rattle.unmatched.proofs.Unmatched.{unmet}
 use Rattle.unmatched.proofs.unmatched_rows.Given as goal
 
 abbrev pub invariant-loop-j : goal.invariant-loop-j

@@ -1,4 +1,3 @@
-use borrow.Author.Rules.{rules}
 use Rattle.verdict_lines.proofs.put_batch.Goals as goal
 
 pub returns : goal.returns

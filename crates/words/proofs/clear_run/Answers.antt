@@ -1,7 +1,7 @@
 use mathlib.Core.Path.{◌≡◌, refl, ◌∙◌}
-use Prim.Native.Nat.{◌≤◌, ◌-◌}
-use lib.ListN.{length, length-set, replicate}
-use lib.Seq.{paste, paste-zero}
+use Prim.Native.Nat.{◌-◌}
+use lib.ListN.{length-set, replicate}
+use lib.Seq.{paste-zero}
 use Rattle.words.proofs.Runs.{clear_turn}
 use native.Mathlib.Omega.{arith}
 use Rattle.words.proofs.clear_run.Goals as goal

@@ -1,9 +1,7 @@
-use mathlib.Core.Path.{◌≡◌, refl, ◌∙◌}
+use mathlib.Core.Path.{◌≡◌}
 use Prim.Native.Nat.{◌≤◌, ◌-◌}
-use lib.ListN.{length, length-set, replicate}
-use lib.Seq.{paste, paste-zero}
-use Rattle.words.proofs.Runs.{clear_turn}
-use native.Mathlib.Omega.{arith}
+use lib.ListN.{length, replicate}
+use lib.Seq.{paste}
 use Rattle.words.proofs.clear_run.Given as goal
 
 abbrev pub invariant-loop-k : goal.invariant-loop-k

@@ -1,7 +1,6 @@
 use mathlib.Core.Path.{◌≡◌, refl, ◌∙◌}
-use Prim.Native.Nat.{◌≤◌, ◌-◌}
-use lib.ListN.{length, length-set, drop}
-use lib.Seq.{paste, paste-zero}
+use lib.ListN.{length-set, drop}
+use lib.Seq.{paste-zero}
 use Rattle.words.proofs.Runs.{copy_turn}
 use native.Mathlib.Omega.{arith}
 use Rattle.words.proofs.copy_run.Goals as goal

@@ -1,9 +1,7 @@
-use mathlib.Core.Path.{◌≡◌, refl, ◌∙◌}
+use mathlib.Core.Path.{◌≡◌}
 use Prim.Native.Nat.{◌≤◌, ◌-◌}
-use lib.ListN.{length, length-set, drop}
-use lib.Seq.{paste, paste-zero}
-use Rattle.words.proofs.Runs.{copy_turn}
-use native.Mathlib.Omega.{arith}
+use lib.ListN.{length, drop}
+use lib.Seq.{paste}
 use Rattle.words.proofs.copy_run.Given as goal
 
 abbrev pub invariant-loop-k : goal.invariant-loop-k

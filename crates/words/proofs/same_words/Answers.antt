@@ -1,7 +1,6 @@
 use mathlib.Core.Path.{refl}
-use Prim.Native.Nat.{◌≤◌, ◌-◌}
 use native.Mathlib.Omega.{arith}
-use Rattle.words.proofs.Runs.{SameTo, same_more, same_all}
+use Rattle.words.proofs.Runs.{same_more, same_all}
 use Rattle.words.proofs.same_words.Goals as goal
 
 pub loop-k-init : goal.loop-k-init

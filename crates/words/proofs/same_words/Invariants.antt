@@ -1,7 +1,5 @@
-use mathlib.Core.Path.{refl}
 use Prim.Native.Nat.{◌≤◌, ◌-◌}
-use native.Mathlib.Omega.{arith}
-use Rattle.words.proofs.Runs.{SameTo, same_more, same_all}
+use Rattle.words.proofs.Runs.{SameTo}
 use Rattle.words.proofs.same_words.Given as goal
 
 abbrev pub invariant-loop-k : goal.invariant-loop-k

@@ -2,7 +2,6 @@ use borrow.Author.Tests.{eq-eqb, ne_eqb}
 use mathlib.Core.Bool.{false}
 use mathlib.Core.Path.{refl, sym}
 use lib.Seq.{set-get_or}
-use borrow.Author.Rules.{rules}
 use Rattle.working.proofs.must_work.Goals as goal
 
 pub returns-then-level-eq0 : goal.returns-then-level-eq0

@@ -1,7 +1,6 @@
 use Rattle.areas.proofs.Pasted.{place-long}
 use Rattle.working.specs.Worked.{told}
 use Rattle.working.proofs.Differ.{put_same, put_other}
-use borrow.Author.Rules.{rules}
 use Rattle.working.proofs.put_node.Goals as goal
 
 pub same_rows-requires : goal.same_rows-requires

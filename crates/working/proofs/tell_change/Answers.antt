@@ -3,7 +3,6 @@ use mathlib.Core.Path.{refl}
 use lib.ListN.{length-set}
 use Rattle.areas.specs.Lent.{place_at}
 use Rattle.working.proofs.Differ.{tells_compared, keeps-told}
-use borrow.Author.Rules.{rules}
 use Rattle.working.proofs.tell_change.Goals as goal
 
 pub bounds-sizes-i-2 : goal.bounds-sizes-i-2

@@ -1,6 +1,5 @@
 use native.Mathlib.Omega.{arith}
 use mathlib.Core.Path.{sym, ap, ◌∙◌}
-use borrow.Author.Tests.{not-true, not-false}
 use Prim.Native.Nat.{◌+◌}
 use lib.ListN.{get_or, set}
 use Rattle.model.specs.Areas.{row_count}
@@ -9,7 +8,6 @@ use Rattle.new_rows.specs.Working.{working}
 use Rattle.working.specs.Worked.{told}
 use Rattle.working.proofs.Nodes.{kept_works, made_place, put_works}
 use Rattle.places.proofs.Places.{place-few, rows_ascend}
-use borrow.Author.Rules.{rules}
 use Rattle.working.proofs.work_node.Goals as goal
 
 pub must_work-requires : goal.must_work-requires

@@ -1,8 +1,5 @@
-use borrow.Author.Rules.{rules}
-use borrow.Author.Tests.{not-true, not-false}
 use native.Mathlib.Omega.{arith}
 use mathlib.Core.Bool.{false}
-use lib.ListN.{get_or}
 use Rattle.worklist.proofs.Listing.{due_few, unmarked_of, table_of, node_skip, node-room, node_entries, node-put}
 use Rattle.worklist.proofs.list_node.Goals as goal
 
@@ -19,10 +16,10 @@ returns-then-level-eq0 c = let a = c.args in
 
 pub put_node-requires : goal.put_node-requires
 put_node-requires c = let a = c.args in (
-      c.requires.2,
-      node-room a.levels.now a.due.now a.i c.requires.2 a.entries.now a.k c.requires.4 c.requires.5,
-      λ j h. omega (arith, node_entries a.levels.now a.due.now a.i c.requires.2 a.entries.now a.k c.requires.4 c.requires.5 j h, c.requires.0),
-    )
+  c.requires.2,
+  node-room a.levels.now a.due.now a.i c.requires.2 a.entries.now a.k c.requires.4 c.requires.5,
+  λ j h. omega (arith, node_entries a.levels.now a.due.now a.i c.requires.2 a.entries.now a.k c.requires.4 c.requires.5 j h, c.requires.0),
+)
 
 pub overflow_add-result : goal.overflow_add-result
 overflow_add-result c = omega (arith, c.requires.2, c.requires.5, due_few c.args.levels.now c.args.due.now c.args.i)

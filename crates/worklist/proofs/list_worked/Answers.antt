@@ -1,10 +1,9 @@
-use Prim.Native.Nat.{◌≤◌, ◌-◌, zero-le}
+use Prim.Native.Nat.{◌-◌, zero-le}
 use mathlib.Core.Path.{◌≡◌, refl, sym, ap, ◌∙◌}
 use mathlib.Core.List.{flat_map}
 use native.Mathlib.Omega.{arith}
 use lib.ListN.{length}
 use Rattle.model.specs.Row.{max_nodes}
-use Rattle.model.specs.Areas.{padded}
 use Rattle.states.proofs.Head.{padded-length}
 use Rattle.worklist.specs.Listed.{due_list}
 use Rattle.worklist.proofs.Listing.{due_few}
@@ -16,13 +15,13 @@ loop-i-init c = (zero-le, c.requires.3, refl)
 
 pub list_node-k-requires : goal.list_node-k-requires
 list_node-k-requires c = (
-      omega (arith, c.loop-i-test.true, c.requires.0),
-      omega (arith, c.loop-i-test.true, c.requires.1),
-      omega (arith, c.loop-i-test.true, c.requires.2),
-      c.requires.4,
-      c.loop-i.invariant.1,
-      c.loop-i.invariant.2,
-    )
+  omega (arith, c.loop-i-test.true, c.requires.0),
+  omega (arith, c.loop-i-test.true, c.requires.1),
+  omega (arith, c.loop-i-test.true, c.requires.2),
+  c.requires.4,
+  c.loop-i.invariant.1,
+  c.loop-i.invariant.2,
+)
 
 pub loop-i-preserved : goal.loop-i-preserved
 loop-i-preserved c = (omega (arith, c.loop-i-test.true), c.list_node-k.ensures.lists, c.list_node-k.ensures.counts)

@@ -1,13 +1,9 @@
-use Prim.Native.Nat.{◌≤◌, ◌-◌, zero-le}
-use mathlib.Core.Path.{◌≡◌, refl, sym, ap, ◌∙◌}
-use mathlib.Core.List.{flat_map}
-use native.Mathlib.Omega.{arith}
+use Prim.Native.Nat.{◌≤◌, ◌-◌}
+use mathlib.Core.Path.{◌≡◌}
 use lib.ListN.{length}
 use Rattle.model.specs.Row.{max_nodes}
 use Rattle.model.specs.Areas.{padded}
-use Rattle.states.proofs.Head.{padded-length}
 use Rattle.worklist.specs.Listed.{due_list}
-use Rattle.worklist.proofs.Listing.{due_few}
 use Rattle.worklist.proofs.list_worked.Given as goal
 
 abbrev pub invariant-loop-i : goal.invariant-loop-i

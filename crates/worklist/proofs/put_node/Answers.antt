@@ -4,7 +4,7 @@ use mathlib.Core.Bool.{Bool}
 use mathlib.Core.List.{List}
 use native.Mathlib.Nat.{le_refl}
 use native.Mathlib.Omega.{arith}
-use lib.ListN.{length, get_or, length-set}
+use lib.ListN.{length, length-set}
 use Rattle.insertions.proofs.Gaps.{gap, gap_none}
 use Rattle.worklist.specs.Listed.{is_above, place_for, put_at}
 use Rattle.worklist.proofs.Putting.{above_some, above_same, place_down, place_stop, gap_before, gap_down, gap_put}
@@ -21,8 +21,7 @@ loop-entries-init c = let a = c.args in (le_refl a.k, refl, gap_none 1 a.k a.ent
 pub is_above-requires : goal.is_above-requires
 is_above-requires c =
     let a = c.args in
-    let l = c.loop-entries in
-    (
+    let l = c.loop-entries in (
       omega (arith, l.invariant.0, l.invariant.1, c.requires.1),
       λ j h. rw (gap_before a.entries.now a.k c.requires.1 l.at l.invariant.0 l.entries l.invariant.2 j h) (c.requires.2 j (omega (arith, h, l.invariant.0))),
     )
@@ -60,8 +59,7 @@ loop-entries-smaller c =
 pub loop-entries-preserved : goal.loop-entries-preserved
 loop-entries-preserved c =
     let a = c.args in
-    let l = c.loop-entries in
-    (
+    let l = c.loop-entries in (
       omega (arith, l.invariant.0),
       simp length-set l.invariant.1,
       gap_down a.entries.now a.k c.requires.1 l.at (above_some a.levels.now a.level a.entries.now l.at (sym (answer a.levels.now a.level a.entries.now a.k c.requires.1 l.at l.invariant.0 l.entries l.invariant.2 c.is_above.result c.is_above.ensures) ∙ c.loop-entries-test.true)) l.invariant.0 l.entries l.invariant.2,

@@ -1,11 +1,8 @@
-use Prim.Native.Nat.{ℕ, ◌≤◌, ◌<◌}
-use mathlib.Core.Path.{◌≡◌, refl, sym, ap, ◌∙◌}
-use native.Mathlib.Nat.{le_refl}
-use native.Mathlib.Omega.{arith}
-use lib.ListN.{length, get_or, length-set}
-use Rattle.insertions.proofs.Gaps.{gap, gap_none}
-use Rattle.worklist.specs.Listed.{is_above, place_for, put_at}
-use Rattle.worklist.proofs.Putting.{above_some, above_same, place_down, place_stop, gap_before, gap_down, gap_put}
+use Prim.Native.Nat.{◌≤◌}
+use mathlib.Core.Path.{◌≡◌}
+use lib.ListN.{length}
+use Rattle.insertions.proofs.Gaps.{gap}
+use Rattle.worklist.specs.Listed.{place_for}
 use Rattle.worklist.proofs.put_node.Given as goal
 
 abbrev pub invariant-loop-entries : goal.invariant-loop-entries

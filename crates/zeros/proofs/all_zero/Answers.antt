@@ -1,8 +1,8 @@
 use mathlib.Core.Path.{refl}
-use Prim.Native.Nat.{◌≤◌, ◌-◌, ◌+◌}
+use Prim.Native.Nat.{◌+◌}
 use native.Mathlib.Omega.{arith}
 use Rattle.zeros.specs.Zeros.{no_bits, turn}
-use Rattle.zeros.proofs.Zeros.{LeftZero, left_more, left_last}
+use Rattle.zeros.proofs.Zeros.{left_more, left_last}
 use Rattle.zeros.proofs.all_zero.Goals as goal
 
 pub loop-k-init : goal.loop-k-init

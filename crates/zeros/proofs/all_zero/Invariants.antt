@@ -1,8 +1,6 @@
-use mathlib.Core.Path.{refl}
-use Prim.Native.Nat.{◌≤◌, ◌-◌, ◌+◌}
-use native.Mathlib.Omega.{arith}
-use Rattle.zeros.specs.Zeros.{no_bits, turn}
-use Rattle.zeros.proofs.Zeros.{LeftZero, left_more, left_last}
+use Prim.Native.Nat.{◌≤◌, ◌-◌}
+use Rattle.zeros.specs.Zeros.{no_bits}
+use Rattle.zeros.proofs.Zeros.{LeftZero}
 use Rattle.zeros.proofs.all_zero.Given as goal
 
 abbrev pub invariant-loop-k : goal.invariant-loop-k

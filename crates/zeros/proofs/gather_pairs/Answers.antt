@@ -1,12 +1,12 @@
 use mathlib.Core.Path.{refl, sym}
-use Prim.Native.Nat.{◌≤◌, ◌-◌, ◌+◌}
+use Prim.Native.Nat.{◌+◌}
 use native.Mathlib.Omega.{arith}
 use lib.Dec.{eqb}
 use lib.Bits.{bit_or}
 use lib.ListN.{get_or}
 use lib.Seq.{slice}
 use Rattle.model.specs.Areas.{all_zero}
-use Rattle.zeros.proofs.Zeros.{LeftZero, left_more, left_done, or-tells, pair_tells, zero_one}
+use Rattle.zeros.proofs.Zeros.{left_more, left_done, or-tells, pair_tells, zero_one}
 use Rattle.zeros.proofs.gather_pairs.Goals as goal
 
 pub loop-k-init : goal.loop-k-init

@@ -1,12 +1,6 @@
-use mathlib.Core.Path.{refl, sym}
-use Prim.Native.Nat.{◌≤◌, ◌-◌, ◌+◌}
-use native.Mathlib.Omega.{arith}
+use Prim.Native.Nat.{◌≤◌, ◌-◌}
 use lib.Dec.{eqb}
-use lib.Bits.{bit_or}
-use lib.ListN.{get_or}
-use lib.Seq.{slice}
-use Rattle.model.specs.Areas.{all_zero}
-use Rattle.zeros.proofs.Zeros.{LeftZero, left_more, left_done, or-tells, pair_tells, zero_one}
+use Rattle.zeros.proofs.Zeros.{LeftZero}
 use Rattle.zeros.proofs.gather_pairs.Given as goal
 
 abbrev pub invariant-loop-k : goal.invariant-loop-k

@@ -3,7 +3,6 @@ use native.Mathlib.Omega.{arith}
 use lib.Seq.{slice}
 use Rattle.zeros.specs.Zeros.{Gathers}
 use Rattle.zeros.proofs.Zeros.{gather_on}
-use borrow.Author.Rules.{rules}
 use Rattle.zeros.proofs.gather_turn.Goals as goal
 
 pub returns : goal.returns

@@ -1,7 +1,5 @@
 use native.Mathlib.Omega.{arith}
 use Prim.Native.Nat.{◌+◌}
-use mathlib.Core.Path.{refl}
-use borrow.Author.Rules.{rules}
 use Rattle.zeros.proofs.pair.Goals as goal
 
 pub overflow_cast-result : goal.overflow_cast-result

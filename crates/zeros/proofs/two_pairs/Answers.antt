@@ -1,6 +1,5 @@
 use native.Mathlib.Omega.{arith}
 use Rattle.zeros.proofs.Zeros.{two_gathered}
-use borrow.Author.Rules.{rules}
 use Rattle.zeros.proofs.two_pairs.Goals as goal
 
 pub returns : goal.returns

@@ -1,9 +1,6 @@
-use mathlib.Core.Path.{sym}
 use native.Mathlib.Omega.{arith}
-use lib.Seq.{length-take-le}
 use Rattle.areas.specs.Lent.{lent}
 use Rattle.test_calls.proofs.Ran.{asked_check, asked_report, asked_short_check, asked_short_report}
-use borrow.Author.Rules.{rules}
 use Rattle.test_calls.proofs.runs.asked.Goals as goal
 
 pub returns-in-5 : goal.returns-in-5
@@ -20,4 +17,4 @@ returns-in-9 c = let a = c.args in
 
 pub returns-in_default : goal.returns-in_default
 returns-in_default c = let a = c.args in
-    asked_short_report a.op.kind a.op a.net.now (lent a.rows.now a.gained.now a.lost.now a.head.now) a.out.now c.in_default.rest.0.0.1 c.in_default.rest.0.1 c.in_default.rest.1 c.report-in_default.ensures.reports
+    asked_short_report a.op.kind a.op a.net.now (lent a.rows.now a.gained.now a.lost.now a.head.now) a.out.now (λ e. omega arith) (λ e. omega arith) (λ e. omega arith) c.report-in_default.ensures.reports

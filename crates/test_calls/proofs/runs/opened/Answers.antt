@@ -1,6 +1,6 @@
 use Rattle.areas.specs.Lent.{lent}
 use Rattle.test_calls.proofs.Ran.{opened-head, opened_rows, opened-whole}
-use borrow.Author.Rules.{rules}
+use native.Mathlib.Omega.{arith}
 use Rattle.test_calls.proofs.runs.opened.Goals as goal
 
 pub returns-in-8 : goal.returns-in-8
@@ -13,4 +13,4 @@ returns-in-11 c = let a = c.args in
 
 pub returns-in_default : goal.returns-in_default
 returns-in_default c = let a = c.args in
-    opened-whole a.kind a.net.now (lent a.rows.now a.gained.now a.lost.now a.head.now) c.open-in_default.result c.in_default.not-8 c.in_default.not-11 c.open-in_default.ensures.opens
+    opened-whole a.kind a.net.now (lent a.rows.now a.gained.now a.lost.now a.head.now) c.open-in_default.result (λ e. omega arith) (λ e. omega arith) c.open-in_default.ensures.opens

@@ -1,4 +1,3 @@
-use borrow.Author.Rules.{rules}
 use Rattle.test_calls.proofs.Told as laws
 use Rattle.test_calls.proofs.runs.told.Goals as goal
 

@@ -1,7 +1,6 @@
 use mathlib.Core.Path.{refl}
 use Rattle.model.specs.Calls.{longest_report}
 use Rattle.test_calls.proofs.Numbers.{zeros}
-use borrow.Author.Rules.{rules}
 use Rattle.test_calls.proofs.values.clear.Goals as goal
 
 pub returns : goal.returns

@@ -1,8 +1,8 @@
 use mathlib.Core.Path.{ap, refl, sym, ◌∙◌, ◌≡◌}
 use mathlib.Core.List.{◌++◌}
-use Prim.Native.Nat.{ℕ, ◌+◌, ◌-◌, ◌≤◌, ◌<◌}
+use Prim.Native.Nat.{ℕ, ◌+◌, ◌-◌, ◌<◌}
 use native.Mathlib.Omega.{arith}
-use lib.ListN.{get_or, length, length-append, length-set, set, take}
+use lib.ListN.{get_or, length, length-append, length-set, set}
 use lib.Seq.{sets, take_all}
 use Rattle.lines.proofs.Digits.{put_one}
 use Rattle.test_calls.proofs.values.values.Goals as goal

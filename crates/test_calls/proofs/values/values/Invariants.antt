@@ -1,10 +1,8 @@
-use mathlib.Core.Path.{ap, refl, sym, ◌∙◌, ◌≡◌}
+use mathlib.Core.Path.{◌≡◌}
 use mathlib.Core.List.{◌++◌}
-use Prim.Native.Nat.{ℕ, ◌+◌, ◌-◌, ◌≤◌, ◌<◌}
-use native.Mathlib.Omega.{arith}
-use lib.ListN.{get_or, length, length-append, length-set, set, take}
-use lib.Seq.{sets, take_all}
-use Rattle.lines.proofs.Digits.{put_one}
+use Prim.Native.Nat.{◌+◌, ◌-◌, ◌≤◌}
+use lib.ListN.{length, take}
+use lib.Seq.{sets}
 use Rattle.test_calls.proofs.values.values.Given as goal
 
 abbrev pub invariant-loop-k : goal.invariant-loop-k

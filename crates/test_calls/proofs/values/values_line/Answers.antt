@@ -5,7 +5,6 @@ use Prim.Native.Nat.{ℕ, ◌+◌}
 use native.Mathlib.Omega.{arith}
 use lib.ListN.{length, length-append, length-replicate, replicate, take}
 use lib.Seq.{length-take-le}
-use borrow.Author.Rules.{rules}
 use Rattle.test_calls.proofs.Numbers.{first_written, tells}
 use Rattle.test_calls.proofs.values.values_line.Goals as goal
 
@@ -15,7 +14,7 @@ put_line_at-requires c =
     let n = length a.bytes.now + length a.words.now in
     let size = length-take-le n c.values.new.numbers (omega (
       arith,
-      c.values.auto.1.1.0,
+      c.values.auto.numbers,
       c.requires.0,
     )) in
     omega (arith, size, c.requires.1)
