@@ -11,7 +11,6 @@ pack-requires c = (record { number = omega arith; place = omega arith }, omega a
 pub returns-then-answer-lt-WORDS : goal.returns-then-answer-lt-WORDS
 returns-then-answer-lt-WORDS c = let a = c.args in
     let told = read_short a.net.now a.answer.now c.pack.result (omega (arith, c.if-answer-lt-WORDS.true)) c.pack.ensures in
-    let told = record { answers = told.0; words = told.1 } in
     record { answers = told.0; words = told.1 }
 
 pub pack-requires-then-read-ne0 : goal.pack-requires-then-read-ne0
@@ -25,7 +24,6 @@ returns-then-read-ne0 c =
     let long : 97 ≤ length a.answer.now = omega (arith, c.if-answer-lt-WORDS.false) in
     let answer = answer_of c.read-read.result in
     let told = read_refused a.net.now a.answer.now answer c.read-read.ensures.answers long c.pack-then-read-ne0.result c.pack-then-read-ne0.ensures c.if-read-ne0.true in
-    let told = record { answers = told.0; words = told.1 } in
     record { answers = told.0; words = told.1 }
 
 pub write_answer-requires : goal.write_answer-requires
@@ -41,5 +39,4 @@ returns c =
     let a = c.args in
     let told = read_written a.net.now a.answer.now (answer_of c.read-read.result) c.read-read.ensures.answers (omega (arith, c.if-answer-lt-WORDS.false)) c.pack-2.result
     c.write_answer.new.answer c.pack-2.ensures c.if-read-ne0.false c.write_answer.ensures in
-    let told = record { answers = told.0; words = told.1 } in
     record { answers = told.0; words = told.1 }
