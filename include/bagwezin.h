@@ -1,6 +1,6 @@
 /* Bagwezin: the condition monitor of the trap stations.
  *
- * Link with libbagwezin.a (rt lib in crates/bagwezin). The archive is for x86-64 with the calling convention of Linux (System V), uses no instructions
+ * Link with libbagwezin.a (rt lib --cpu=x86-64 in crates/bagwezin). The archive is for x86-64 with the calling convention of Linux (System V), uses no instructions
  * beyond SSE2 and is position-independent. It needs memcpy and memset and nothing else: no other function, no start-up code, no heap.
  *
  * The functions keep no state: the archive has no variables, and all that a call knows is what it is lent. So calls on different areas may run on

@@ -18,14 +18,14 @@ fn find_rt() -> Option<PathBuf> {
     std::env::split_paths(&path).map(|folder| folder.join("rt")).find(|file| file.is_file())
 }
 
-/// Runs `rt lib` in the crate's folder; its words are shown where it fails.
+/// Runs `rt lib --cpu=x86-64` in the crate's folder; its words are shown where it fails.
 fn staticlib(rt: &Path, root: &Path) {
-    let ran = Command::new(rt).arg("lib").current_dir(root.join("crates/bagwezin")).output();
+    let ran = Command::new(rt).args(["lib", "--cpu=x86-64"]).current_dir(root.join("crates/bagwezin")).output();
     let ran = ran.unwrap_or_else(|e| fail(&format!("{} cannot be run: {e}", rt.display())));
     if !ran.status.success() {
         eprintln!("{}{}", String::from_utf8_lossy(&ran.stdout), String::from_utf8_lossy(&ran.stderr));
         fail(&format!(
-            "`rt lib` failed in {} ({}): the static library is not proved or not built",
+            "`rt lib --cpu=x86-64` failed in {} ({}): the static library is not proved or not built",
             root.join("crates/bagwezin").display(),
             ran.status
         ));
