@@ -1,4 +1,5 @@
 use Rattle.model.specs.Network.{evaluate_set}
+use borrow.Author.Rules.{rules}
 use native.Mathlib.Omega.{arith}
 use Rattle.places.proofs.Places.{place-few, rows_ascend}
 use Rattle.evaluation.proofs.set_rows.Goals as goal
@@ -31,16 +32,10 @@ intersect_rows-requires c =
     (few, omega (arith, p.long, few), omega (arith, q.long, fewer), rows_ascend a.l.width a.right.now a.r.count q, c.requires.2)
 
 pub returns-in-Union : goal.returns-in-Union
-returns-in-Union c =
-    let made = c.union_rows.ensures c.args.l.width c.requires.0 c.requires.1 in
-    unfold evaluate_set in rw c.in-Union.is made
+returns-in-Union c = unfold evaluate_set in rw c.in-Union.is (search rules)
 
 pub returns-in-Difference : goal.returns-in-Difference
-returns-in-Difference c =
-    let made = c.difference_rows.ensures c.args.l.width c.requires.0 c.requires.1 in
-    unfold evaluate_set in rw c.in-Difference.is made
+returns-in-Difference c = unfold evaluate_set in rw c.in-Difference.is (search rules)
 
 pub returns-in-Intersection : goal.returns-in-Intersection
-returns-in-Intersection c =
-    let made = c.intersect_rows.ensures c.args.l.width c.requires.0 c.requires.1 in
-    unfold evaluate_set in rw c.in-Intersection.is made
+returns-in-Intersection c = unfold evaluate_set in rw c.in-Intersection.is (search rules)
