@@ -15,4 +15,5 @@ returns-in-12 c = let a = c.args in
 
 pub returns-in_default : goal.returns-in_default
 returns-in_default c = let a = c.args in
-    λ out. ran_opened a.op a.net.now a.part.now (lent a.rows.now a.gained.now a.lost.now a.head.now) out a.text.now a.op.kind c.opened-v.result c.requires (λ e. omega arith) (λ e. omega arith) c.opened-v.ensures c.verdict_line.ensures
+    λ out. ran_opened a.op a.net.now a.part.now (lent a.rows.now a.gained.now a.lost.now a.head.now) out a.text.now a.op.kind c.opened-v.result c.requires
+    (λ e. omega arith) (λ e. omega arith) c.opened-v.ensures c.verdict_line.ensures

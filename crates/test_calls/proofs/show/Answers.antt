@@ -21,8 +21,10 @@ returns-in-2 c = let a = c.args in
 
 pub returns-in-7 : goal.returns-in-7
 returns-in-7 c = let a = c.args in
-    λ net areas. ran_values a.op net a.part.now areas a.out.now a.text.now (search rules) c.room-size.result (ap kind_of c.in-7.is) c.room-size.ensures.size c.room-size.ensures.inside c.values_line.ensures
+    λ net areas. ran_values a.op net a.part.now areas a.out.now a.text.now (search rules) c.room-size.result
+    (ap kind_of c.in-7.is) c.room-size.ensures.size c.room-size.ensures.inside c.values_line.ensures
 
 pub returns-in_default : goal.returns-in_default
 returns-in_default c = let a = c.args in
-    λ net areas. ran_clear a.op net a.part.now areas a.out.now a.text.now (other a.op.kind c.requires.0 (λ e. omega arith) (λ e. omega arith) (λ e. omega arith)) c.clear.ensures.cleared c.clear.ensures.nothing
+    λ net areas. ran_clear a.op net a.part.now areas a.out.now a.text.now (other a.op.kind c.requires.0 (λ e. omega arith) (λ e. omega arith) (λ e. omega arith))
+    c.clear.ensures.cleared c.clear.ensures.nothing

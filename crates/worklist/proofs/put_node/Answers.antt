@@ -30,53 +30,52 @@ pub overflow_sub-entries : goal.overflow_sub-entries
 overflow_sub-entries c =
     let a = c.args in
     let l = c.loop-entries in
-    above_some a.levels.now a.level a.entries.now l.at (sym (answer a.levels.now a.level a.entries.now a.k c.requires.1 l.at l.invariant.0 l.entries l.invariant.2 c.is_above.result c.is_above.ensures) ∙ c.loop-entries-test.true)
+    above_some a.levels.now a.level l.entries l.at (sym c.is_above.ensures ∙ c.loop-entries-test.true)
 
 pub offset_bounds-entries-at : goal.offset_bounds-entries-at
-offset_bounds-entries-at c =
-    let a = c.args in
-    let l = c.loop-entries in
-    omega (arith, l.invariant.0, c.well_formed)
+offset_bounds-entries-at c = omega (arith, c.loop-entries.invariant.0, c.well_formed)
 
 pub bounds-entries-at : goal.bounds-entries-at
 bounds-entries-at c =
     let a = c.args in
     let l = c.loop-entries in
-    omega (arith, above_some a.levels.now a.level a.entries.now l.at (sym (answer a.levels.now a.level a.entries.now a.k c.requires.1 l.at l.invariant.0 l.entries l.invariant.2 c.is_above.result c.is_above.ensures) ∙ c.loop-entries-test.true), l.invariant.0)
+    omega (arith, above_some a.levels.now a.level l.entries l.at (sym c.is_above.ensures ∙ c.loop-entries-test.true), l.invariant.0)
 
 pub overflow_sub-at : goal.overflow_sub-at
 overflow_sub-at c =
     let a = c.args in
     let l = c.loop-entries in
-    above_some a.levels.now a.level a.entries.now l.at (sym (answer a.levels.now a.level a.entries.now a.k c.requires.1 l.at l.invariant.0 l.entries l.invariant.2 c.is_above.result c.is_above.ensures) ∙ c.loop-entries-test.true)
+    above_some a.levels.now a.level l.entries l.at (sym c.is_above.ensures ∙ c.loop-entries-test.true)
 
 pub loop-entries-smaller : goal.loop-entries-smaller
 loop-entries-smaller c =
     let a = c.args in
     let l = c.loop-entries in
-    omega (arith, above_some a.levels.now a.level a.entries.now l.at (sym (answer a.levels.now a.level a.entries.now a.k c.requires.1 l.at l.invariant.0 l.entries l.invariant.2 c.is_above.result c.is_above.ensures) ∙ c.loop-entries-test.true))
+    omega (arith, above_some a.levels.now a.level l.entries l.at (sym c.is_above.ensures ∙ c.loop-entries-test.true))
 
 pub loop-entries-preserved : goal.loop-entries-preserved
 loop-entries-preserved c =
     let a = c.args in
-    let l = c.loop-entries in (
+    let l = c.loop-entries in
+    let told = answer a.levels.now a.level a.entries.now a.k c.requires.1
+    l.at l.invariant.0 l.entries l.invariant.2 c.is_above.result c.is_above.ensures in
+    let some = above_some a.levels.now a.level l.entries l.at (sym c.is_above.ensures ∙ c.loop-entries-test.true) in (
       omega (arith, l.invariant.0),
       simp length-set l.invariant.1,
-      gap_down a.entries.now a.k c.requires.1 l.at (above_some a.levels.now a.level a.entries.now l.at (sym (answer a.levels.now a.level a.entries.now a.k c.requires.1 l.at l.invariant.0 l.entries l.invariant.2 c.is_above.result c.is_above.ensures) ∙ c.loop-entries-test.true)) l.invariant.0 l.entries l.invariant.2,
-      place_down a.levels.now a.level a.entries.now l.at (sym (answer a.levels.now a.level a.entries.now a.k c.requires.1 l.at l.invariant.0 l.entries l.invariant.2 c.is_above.result c.is_above.ensures) ∙ c.loop-entries-test.true) ∙ l.invariant.3,
+      gap_down a.entries.now a.k c.requires.1 l.at some l.invariant.0 l.entries l.invariant.2,
+      place_down a.levels.now a.level a.entries.now l.at (sym told ∙ c.loop-entries-test.true) ∙ l.invariant.3,
     )
 
 pub shape_of-entries : goal.shape_of-entries
-shape_of-entries c =
-    let a = c.args in
-    let l = c.loop-entries in
-    simp length-set l.invariant.1
+shape_of-entries c = simp length-set c.loop-entries.invariant.1
 
 pub returns : goal.returns
 returns c =
     let a = c.args in
     let l = c.loop-entries in
+    let told = answer a.levels.now a.level a.entries.now a.k c.requires.1
+    l.at l.invariant.0 l.entries l.invariant.2 c.is_above.result c.is_above.ensures in
     let e : l.at ≡ place_for a.levels.now a.level a.entries.now a.k = sym
-    (place_stop a.levels.now a.level a.entries.now l.at (sym (answer a.levels.now a.level a.entries.now a.k c.requires.1 l.at l.invariant.0 l.entries l.invariant.2 c.is_above.result c.is_above.ensures) ∙ c.loop-entries-test.false)) ∙ l.invariant.3
+    (place_stop a.levels.now a.level a.entries.now l.at (sym told ∙ c.loop-entries-test.false)) ∙ l.invariant.3
     in gap_put a.entries.now a.k c.requires.1 l.at a.i l.invariant.0 l.entries l.invariant.2
     ∙ ap (λ (x : ℕ). put_at x a.k a.i a.entries.now) e

@@ -12,4 +12,5 @@ returns c = let a = c.args in
     let after = lent c.apply-v.new.rows c.apply-v.new.gained c.apply-v.new.lost c.apply-v.new.head in
     let room : length a.text.now ≡ 65536 = search rules in
     let few : length after.head ≤ longest_report = search rules in
-    applied a.net.now a.batch.now (lent a.rows.now a.gained.now a.lost.now a.head.now) after c.apply-v.result c.check-c.result room few c.apply-v.ensures.applies c.check-c.ensures.checks c.put_line_at-k.ensures c.values_line.ensures
+    applied a.net.now a.batch.now (lent a.rows.now a.gained.now a.lost.now a.head.now) after c.apply-v.result c.check-c.result room few
+    c.apply-v.ensures.applies c.check-c.ensures.checks c.put_line_at-k.ensures c.values_line.ensures

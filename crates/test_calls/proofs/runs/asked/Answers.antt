@@ -17,4 +17,5 @@ returns-in-9 c = let a = c.args in
 
 pub returns-in_default : goal.returns-in_default
 returns-in_default c = let a = c.args in
-    asked_short_report a.op.kind a.op a.net.now (lent a.rows.now a.gained.now a.lost.now a.head.now) a.out.now (λ e. omega arith) (λ e. omega arith) (λ e. omega arith) c.report-in_default.ensures.reports
+    asked_short_report a.op.kind a.op a.net.now (lent a.rows.now a.gained.now a.lost.now a.head.now) a.out.now
+    (λ e. omega arith) (λ e. omega arith) (λ e. omega arith) c.report-in_default.ensures.reports
