@@ -5,13 +5,14 @@ use mathlib.Core.Path.{ap, sym, ◌∙◌, ◌≡◌}
 use Prim.Native.Nat.{ℕ, ◌≤◌}
 use native.Mathlib.Omega.{arith}
 use lib.ListN.{get_or, length}
-use borrow.Author.Tests.{eq-eqb, ne_eqb}
 use Rattle.network.specs.declared.Network.{Network}
-use Rattle.network.specs.declared.Reading.{Reading}
+use Rattle.verdicts.specs.declared.Refusal.{Refusal}
+use Rattle.verdicts.proofs.Numbers.{not-accepted}
+use Rattle.std.specs.Prelude.{Ok, Err}
 use Rattle.model.specs.Network.{AllFit, read_network, widths}
 use Rattle.model.specs.Areas.{Areas, gained_count, good_area, good_form, good_stamps, good_worked, layout, lost_count, row_count}
 use Rattle.network.specs.Reading.{Built, network_of, nodes_of}
-use Rattle.verdicts.specs.Verdicts.{verdict_of}
+use Rattle.verdicts.specs.Verdicts.{refusal_of}
 use Rattle.model.specs.Record.{Bytes, is_accepted, Verdict}
 use Rattle.admission.specs.Admission.{Changes, Admits}
 use Rattle.coherence.specs.Held.{Checkable, Places}
@@ -64,37 +65,38 @@ module _ (net : Network) (b : Built net) (rows gained lost head : List ℕ) (goo
 
 -- ---- after 1 to 8
 
-module _ (net : Bytes) (rows gained lost head : List ℕ) (r : Reading) (f : Admits net (lent rows gained lost head) r) where
+module _ (net : Bytes) (rows gained lost head : List ℕ) where
   abbrev a : Areas
   a = lent rows gained lost head
 
-  pub form-refused : (r.verdict.number ≡ 0 → ⊥) → is_accepted (form_verdict net (lent rows gained lost head)) ≡ false
-  form-refused n = ap is_accepted (sym f.verdict) ∙ ne_eqb r.verdict.number 0 n
+  module _ (d : Refusal) (f : Admits net (lent rows gained lost head) (Err d)) where
+    pub form-refused : is_accepted (form_verdict net (lent rows gained lost head)) ≡ false
+    form-refused = ap is_accepted (sym f.verdict) ∙ not-accepted d
 
-  -- where 1 to 8 refuse, a call answers with their verdict
-  pub after-refused : {A : Type 0} (answer : model.Network → A) (refusal : Verdict → A) → (r.verdict.number ≡ 0 → ⊥) →
-      after_form net (lent rows gained lost head) answer refusal ≡ refusal (verdict_of r.verdict)
-  after-refused answer refusal n =
-      ap (λ (t : Bool). cond t (answer (read_network net).network) (refusal (form_verdict net a))) (form-refused n) ∙ ap refusal (sym f.verdict)
+    -- where 1 to 8 refuse, a call answers with their verdict
+    pub after-refused : {A : Type 0} (answer : model.Network → A) (refusal : Verdict → A) →
+        after_form net (lent rows gained lost head) answer refusal ≡ refusal (refusal_of d)
+    after-refused answer refusal =
+        ap (λ (t : Bool). cond t (answer (read_network net).network) (refusal (form_verdict net a))) form-refused ∙ ap refusal (sym f.verdict)
 
-  module _ (z : r.verdict.number ≡ 0) where
+  module _ (n : Network) (f : Admits net (lent rows gained lost head) (Ok n)) where
     pub form-accepted : is_accepted (form_verdict net (lent rows gained lost head)) ≡ true
-    form-accepted = ap is_accepted (sym f.verdict) ∙ eq-eqb r.verdict.number 0 z
+    form-accepted = ap is_accepted (sym f.verdict)
 
     -- where they let pass, it answers for the network that was read
     pub after_admitted : {A : Type 0} (answer : model.Network → A) (refusal : Verdict → A) →
-        after_form net (lent rows gained lost head) answer refusal ≡ answer (network_of r.network)
+        after_form net (lent rows gained lost head) answer refusal ≡ answer (network_of n)
     after_admitted answer refusal =
-        ap (λ (t : Bool). cond t (answer (read_network net).network) (refusal (form_verdict net a))) form-accepted ∙ ap answer (sym (f.network z))
+        ap (λ (t : Bool). cond t (answer (read_network net).network) (refusal (form_verdict net a))) form-accepted ∙ ap answer (sym f.admitted.network)
 
-    fits : AllFit (nodes_of r.network)
-    fits = rw (ap (λ (x : model.Network). x.nodes) (f.network z)) (read_fits net)
+    fits : AllFit (nodes_of n)
+    fits = rw (ap (λ (x : model.Network). x.nodes) f.admitted.network) (read_fits net)
 
     long : (area_size ≤ length rows) × (area_size ≤ length gained) × (area_size ≤ length lost) × (head_words ≤ length head)
-    long = long_parts rows gained lost head (f.long z)
+    long = long_parts rows gained lost head f.admitted.long
 
-    pub checkable : Checkable r.network rows head
-    checkable = record { built = f.built; fit = fits; places = rows-places r.network f.built rows gained lost head (f.good z) long.0 long.3 }
+    pub checkable : Checkable n rows head
+    checkable = record { built = f.admitted.built; fit = fits; places = rows-places n f.admitted.built rows gained lost head f.admitted.good long.0 long.3 }
 
-    pub changes_admitted : Changes r.network gained lost head
-    changes_admitted = changes-good r.network f.built rows gained lost head (f.good z) long.1 long.2 long.3
+    pub changes_admitted : Changes n gained lost head
+    changes_admitted = changes-good n f.admitted.built rows gained lost head f.admitted.good long.1 long.2 long.3

@@ -21,10 +21,6 @@ pub fn apply(
         (lent rows.old gained.old lost.old head.old)
         (result_with result (lent rows.new gained.new lost.new head.new)) }
 {
-    let reading = admission::read_areas(net, rows, gained, lost, head);
-    let verdict = reading.verdict;
-    if verdict.number != 0 {
-        return verdict;
-    }
-    batch::apply_batch(reading.network, batch, rows, gained, lost, head)
+    let network = admission::read_areas(net, rows, gained, lost, head)?;
+    batch::apply_batch(network, batch, rows, gained, lost, head)
 }

@@ -11,7 +11,8 @@ use lib.ListN.{drop, get_or, length, take}
 use lib.Seq.{drop-drop, length-slice, slice, slice_empty, take_all}
 use borrow.Author.Tests.{eqb-true, eqb-false, le-ltb, lt-ltb, leb-true, leb-false, le-leb, lt-leb}
 use Rattle.model.specs.Row.{all_of, count_from, numbers_below, max_nodes, max_rows, max_width}
-use Rattle.model.specs.Areas.{all_zero, area_size, batch_number, empty_place, good_place, good_stamps, good_worked, head_words, layout, place_size, stamp_at, stride, worked_at, worked_count}
+use Rattle.model.specs.Areas.{all_zero, area_size, batch_number, empty_place, good_area, good_place, good_stamps, good_worked, head_words, layout}
+use Rattle.model.specs.Areas.{place_size, stamp_at, stride, worked_at, worked_count}
 use Rattle.zeros.proofs.Zeros.{and_four, zero_one, zero_split}
 use Rattle.rows.specs.Rows.{first_rows, rows_from}
 use Rattle.row_checks.specs.RowChecks.{good_rows}
@@ -19,7 +20,7 @@ use Rattle.row_checks.proofs.Form.{slice-part}
 use Rattle.laws.proofs.All.{AllTo}
 use Rattle.laws.proofs.Sets.{and_first, and_second}
 use Rattle.areas.specs.Lent.{counts_from, place_at}
-use Rattle.areas.proofs.Good.{empty_is, empty_not, node_good, part_is, place-form, too_many}
+use Rattle.areas.proofs.Good.{area_is, empty_is, empty_not, node_good, part_is, place-form, too_many}
 
 -- ---- numbers from one on
 
@@ -187,13 +188,18 @@ module _ (ws : List ℕ) (n : ℕ) (words : List ℕ) (first : ℕ) (area : List
       (and_four (eqb (get_or words (first + i) 0) 0) (all_zero (slice (i * place_size) (i * place_size + place_size) area)) (all_zero (slice (first + i + 1) (first + max_nodes) words))
       (all_zero (slice (i * place_size + place_size) area_size area)))
 
-  pub gap_end : (from i : ℕ) → i ≡ n → n ≤ max_nodes → from ≤ i * place_size → GapTo ws n (counts_from words first) area from i →
+  gap_end : (from i : ℕ) → i ≡ n → n ≤ max_nodes → from ≤ i * place_size → GapTo ws n (counts_from words first) area from i →
       all_of good (numbers_below max_nodes) ≡ (all_zero (slice (first + n) (first + max_nodes) words) && all_zero (slice from area_size area))
   gap_end from i e h b z =
       z
       ∙ ap (λ (t : Bool). all_zero (slice from (i * place_size) area) && t) (past_zero i (max_nodes - i) (omega arith) (omega arith))
       ∙ and_exchange (all_zero (slice from (i * place_size) area)) (all_zero (slice (first + i) (first + max_nodes) words)) (all_zero (slice (i * place_size) area_size area))
       ∙ ap₂ {A = ℕ} {B = Bool} {C = Bool} (λ k t. all_zero (slice (first + k) (first + max_nodes) words) && t) e (sym (zero_split area from (i * place_size) area_size b (omega arith) long))
+
+  -- the area once every node is passed
+  pub area_end : n ≤ length ws → (from i : ℕ) → i ≡ n → n ≤ max_nodes → from ≤ i * place_size → GapTo ws n (counts_from words first) area from i →
+      good_area layout (take n ws) (counts_from words first) area ≡ (all_zero (slice (first + n) (first + max_nodes) words) && all_zero (slice from area_size area))
+  area_end h from i e few b z = area_is ws n (counts_from words first) area h ∙ gap_end from i e few b z
 
 -- ---- the head's lists
 

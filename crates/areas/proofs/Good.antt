@@ -1,13 +1,14 @@
 -- Good form, part by part. Assumes nothing.
-use mathlib.Core.Bool.{◌&&◌, Bool, cond, false, not, true}
+use mathlib.Core.Bool.{◌&&◌, Bool, cond, false, true}
 use mathlib.Core.List.{List}
 use mathlib.Core.Path.{ap, ap₂, refl, sym, ◌∙◌, ◌≡◌}
 use Prim.Native.Nat.{◌*◌, ◌+◌, ◌<◌, ℕ, ◌≤◌, ◌-◌}
 use native.Mathlib.Omega.{arith}
 use lib.ListN.{drop, get_or, length, take}
-use lib.Dec.{eqb, ltb, leb}
+use lib.Dec.{eqb, ltb}
 use lib.Seq.{get_or-take, length-take-le, slice}
-use borrow.Author.Tests.{lt-leb, ltb-true, leb-true, not-false, not-true}
+use Rattle.std.proofs.lemmas.Bool.Decides.{nat_tests}
+use borrow.Author.Tests.{lt-leb, ltb-true}
 use Rattle.model.specs.Row.{all_of, numbers_below, max_nodes, max_rows, max_width}
 use Rattle.model.specs.Areas.{all_zero, empty_place, good_area, good_place, held_in, layout, good_form, good_stamps, good_worked, long_enough}
 use Rattle.rows.specs.Rows.{first_rows}
@@ -15,25 +16,17 @@ use Rattle.row_checks.specs.RowChecks.{good_rows}
 use Rattle.row_checks.proofs.Checked.{place-checked}
 use Rattle.laws.proofs.All.{all_ext}
 use Rattle.model.specs.Network.{Node, widths}
-use Rattle.laws.proofs.Sets.{and_first, and_second}
 use Rattle.areas.specs.Lent.{counts_from, lent, place_at}
 use Rattle.laws.proofs.Fits.{length-widths}
 use Rattle.model.specs.Areas.{area_size, head_words, place_size, stride}
 
--- ---- long enough
-
--- each test of a conjunction that fails
-pub long-first : (a b c d : Bool) → a ≡ false → false ≡ (a && b && c && d)
-long-first a b c d e = rw e
-
-pub long-second : (a b c d : Bool) → a ≡ true → b ≡ false → false ≡ (a && b && c && d)
-long-second a b c d e f = rw (e, f)
-
-pub long_third : (a b c d : Bool) → a ≡ true → b ≡ true → c ≡ false → false ≡ (a && b && c && d)
-long_third a b c d e f g = rw (e, f, g)
+-- ---- conjunctions whose last test decides
 
 pub long_last : (a b c d : Bool) → a ≡ true → b ≡ true → c ≡ true → (a && b && c && d) ≡ d
 long_last a b c d e f g = rw (e, f, g)
+
+pub form_last : (a b c d e : Bool) → a ≡ true → b ≡ true → c ≡ true → d ≡ true → (a && b && c && d && e) ≡ e
+form_last a b c d e f g h i = rw (f, g, h, i)
 
 -- ---- places
 
@@ -81,21 +74,13 @@ area_is ws n count area h =
 
 -- ---- all four areas
 
-pub long_parts : (rows gained lost head : List ℕ) → long_enough layout (lent rows gained lost head) ≡ true → (area_size ≤ length rows) × (area_size ≤ length gained) × (area_size ≤ length lost)
-    × (head_words ≤ length head)
+pub long_parts : (rows gained lost head : List ℕ) → long_enough layout (lent rows gained lost head) ≡ true →
+    (area_size ≤ length rows) × (area_size ≤ length gained) × (area_size ≤ length lost) × (head_words ≤ length head)
 unfolding long_enough
-long_parts rows gained lost head e =
-    let three : (leb area_size (length rows) && leb area_size (length gained) && leb area_size (length lost))
-    ≡ true = and_first (leb area_size (length rows) && leb area_size (length gained) && leb area_size (length lost)) (leb head_words (length head)) e in
-    let two : (leb area_size (length rows) && leb area_size (length gained)) ≡ true = and_first (leb area_size (length rows) && leb area_size (length gained)) (leb area_size (length lost)) three in (
-      leb-true area_size (length rows) (and_first (leb area_size (length rows)) (leb area_size (length gained)) two),
-      leb-true area_size (length gained) (and_second (leb area_size (length rows)) (leb area_size (length gained)) two),
-      leb-true area_size (length lost) (and_second (leb area_size (length rows) && leb area_size (length gained)) (leb area_size (length lost)) three),
-      leb-true head_words (length head) (and_second (leb area_size (length rows) && leb area_size (length gained) && leb area_size (length lost)) (leb head_words (length head)) e),
-    )
+long_parts rows gained lost head e = grind (arith, nat_tests)
 
 -- good form from the widths alone
-form_is : (n : ℕ) (ws rows gained lost head : List ℕ) (nodes : List Node) → n ≤ length ws → take n ws ≡ widths nodes → good_form layout nodes (lent rows gained lost head)
+pub form_is : (n : ℕ) (ws rows gained lost head : List ℕ) (nodes : List Node) → n ≤ length ws → take n ws ≡ widths nodes → good_form layout nodes (lent rows gained lost head)
     ≡ (good_area layout (take n ws) (counts_from head 1) rows && good_area layout (take n ws) (counts_from head 65) gained && good_area layout (take n ws)
     (counts_from head 97) lost && good_stamps n head && good_worked n head)
 unfolding good_form
@@ -104,58 +89,3 @@ form_is n ws rows gained lost head nodes h e =
     ap₂ {A = List ℕ} {B = ℕ} {C = Bool}
     (λ v k. good_area layout v (counts_from head 1) rows && good_area layout v (counts_from head 65) gained && good_area layout v (counts_from head 97) lost && good_stamps k head && good_worked
     k head) (sym e) size
-
-module _ (a b c d e : Bool) where
-  pub form-first : a ≡ false → (a && b && c && d && e) ≡ false
-  form-first f = rw f
-
-  pub form-second : a ≡ true → b ≡ false → (a && b && c && d && e) ≡ false
-  form-second f g = rw (f, g)
-
-  pub form_third : a ≡ true → b ≡ true → c ≡ false → (a && b && c && d && e) ≡ false
-  form_third f g h = rw (f, g, h)
-
-  pub form_fourth : a ≡ true → b ≡ true → c ≡ true → d ≡ false → (a && b && c && d && e) ≡ false
-  form_fourth f g h i = rw (f, g, h, i)
-
-  pub form_last : a ≡ true → b ≡ true → c ≡ true → d ≡ true → (a && b && c && d && e) ≡ e
-  form_last f g h i = rw (f, g, h, i)
-
--- the check of the four areas and the head: the first answer that says no decides, else the last
-module _ (n : ℕ) (ws rows gained lost head : List ℕ) (h : n ≤ length ws) where
-  abbrev area_good : ℕ → List ℕ → Bool
-  area_good first area = good_area layout (take n ws) (counts_from head first) area
-
-  abbrev all_good : Bool
-  all_good = area_good 1 rows && area_good 65 gained && area_good 97 lost && good_stamps n head && good_worked n head
-
-  -- what the check answers, of any nodes with these widths
-  abbrev Judges : Bool → Type 0
-  Judges r = (nodes : List Node) → take n ws ≡ widths nodes → r ≡ good_form layout nodes (lent rows gained lost head)
-
-  judged : (r : Bool) → all_good ≡ r → Judges r
-  judged r f nodes e = sym (form_is n ws rows gained lost head nodes h e ∙ f)
-
-  pub judges_rows : (a : Bool) → a ≡ area_good 1 rows → not a ≡ true → Judges false
-  judges_rows a p t = judged false (form-first (area_good 1 rows) (area_good 65 gained) (area_good 97 lost) (good_stamps n head) (good_worked n head) (sym p ∙ not-true a t))
-
-  module _ (a : Bool) (p : a ≡ area_good 1 rows) (i : not a ≡ false) where
-    pub judges_gained : (b : Bool) → b ≡ area_good 65 gained → not b ≡ true → Judges false
-    judges_gained b q t = judged false
-        (form-second (area_good 1 rows) (area_good 65 gained) (area_good 97 lost) (good_stamps n head) (good_worked n head) (sym p ∙ not-false a i) (sym q ∙ not-true b t))
-
-    module _ (b : Bool) (q : b ≡ area_good 65 gained) (j : not b ≡ false) where
-      pub judges_lost : (c : Bool) → c ≡ area_good 97 lost → not c ≡ true → Judges false
-      judges_lost c r t = judged false
-          (form_third (area_good 1 rows) (area_good 65 gained) (area_good 97 lost) (good_stamps n head) (good_worked n head) (sym p ∙ not-false a i) (sym q ∙ not-false b j) (sym r ∙ not-true c t))
-
-      module _ (c : Bool) (r : c ≡ area_good 97 lost) (k : not c ≡ false) where
-        pub judges_stamps : (d : Bool) → d ≡ good_stamps n head → not d ≡ true → Judges false
-        judges_stamps d u t = judged false
-            (form_fourth (area_good 1 rows) (area_good 65 gained) (area_good 97 lost) (good_stamps n head) (good_worked n head) (sym p ∙ not-false a i) (sym q ∙ not-false b j)
-            (sym r ∙ not-false c k) (sym u ∙ not-true d t))
-
-        pub judges_worked : (d : Bool) → d ≡ good_stamps n head → not d ≡ false → (e : Bool) → e ≡ good_worked n head → Judges e
-        judges_worked d u l e v = judged e
-            (form_last (area_good 1 rows) (area_good 65 gained) (area_good 97 lost) (good_stamps n head) (good_worked n head) (sym p ∙ not-false a i) (sym q ∙ not-false b j)
-            (sym r ∙ not-false c k) (sym u ∙ not-false d l) ∙ sym v)

@@ -36,39 +36,25 @@ pub const WORKED: usize = LOST_COUNTS + MAX_NODES;
 pub const HEAD: usize = WORKED + 1 + MAX_NODES;
 
 // Whether every area has its named words.
+#[tactic(auto, using(std::proofs::lemmas::Bool::Decides::nat_tests), unfolding(model::specs::Areas::long_enough))]
 pub fn long_enough(rows: &[u32], gained: &[u32], lost: &[u32], head: &[u32]) -> bool
     ensures tells { result ≡ long_enough layout
         (lent rows.now gained.now lost.now head.now) }
 {
-    if rows.len() < AREA {
-        return false;
-    }
-    if gained.len() < AREA {
-        return false;
-    }
-    if lost.len() < AREA {
-        return false;
-    }
-    if head.len() < HEAD {
-        return false;
-    }
-    true
+    rows.len() >= AREA && gained.len() >= AREA && lost.len() >= AREA && head.len() >= HEAD
 }
 
 // Whether node i's rows are of good form, given their width and count, and the words from index from up to them are 0.
+#[tactic(auto, using(std::proofs::lemmas::Bool::Decides::nat_tests))]
 fn good_node(area: &[u32], from: usize, i: usize, width: usize, count: usize) -> bool
     requires { (from ≤ i * place_size) × (i < max_nodes) × (area_size ≤ length area.now) × (width ≤ max_width) }
     ensures { result ≡ (leb count max_rows && all_zero (slice from (i * place_size) area.now)
         && good_rows width (first_rows (place_at area.now i) count)) }
 {
-    if MAX_ROWS < count {
-        return false;
-    }
     let at = i * PLACE;
-    if !zeros::all_zero(area, from, at) {
-        return false;
-    }
-    row_checks::good_rows(&area[at..at + PLACE], count, width)
+    count <= MAX_ROWS
+        && zeros::all_zero(area, from, at)
+        && row_checks::good_rows(&area[at..at + PLACE], count, width)
 }
 
 // Whether every place of an area is of good form, in a network of n nodes, the counts standing in words of the
@@ -81,8 +67,7 @@ pub fn good_area(area: &[u32], widths: &[usize], n: usize, words: &[u32], first:
         area.now }
 {
     let mut from = 0;
-    let mut i = 0;
-    while i < n {
+    for i in 0..n {
         let count = words[first + i] as usize;
         if count != 0 {
             if !good_node(area, from, i, widths[i], count) {
@@ -90,12 +75,8 @@ pub fn good_area(area: &[u32], widths: &[usize], n: usize, words: &[u32], first:
             }
             from = i * PLACE + count * STRIDE;
         }
-        i += 1;
     }
-    if !zeros::all_zero(words, first + n, first + MAX_NODES) {
-        return false;
-    }
-    zeros::all_zero(area, from, AREA)
+    zeros::all_zero(words, first + n, first + MAX_NODES) && zeros::all_zero(area, from, AREA)
 }
 
 // Whether every change stamp is at most the batch number, and 0 past the last of n nodes.
@@ -104,12 +85,10 @@ fn good_stamps(head: &[u32], n: usize) -> bool
     ensures { result ≡ good_stamps n head.now }
 {
     let number = head[0];
-    let mut node = 0;
-    while node < n {
+    for node in 0..n {
         if number < head[STAMPS + node] {
             return false;
         }
-        node += 1;
     }
     zeros::all_zero(head, STAMPS + n, STAMPS + MAX_NODES)
 }
@@ -123,17 +102,16 @@ fn good_worked(head: &[u32], n: usize) -> bool
     if n < counted {
         return false;
     }
-    let mut k = 0;
-    while k < counted {
+    for k in 0..counted {
         if n <= head[WORKED + 1 + k] as usize {
             return false;
         }
-        k += 1;
     }
     zeros::all_zero(head, WORKED + 1 + counted, WORKED + 1 + MAX_NODES)
 }
 
 // Whether the areas are of good form for a network with these widths.
+#[tactic(auto, using(std::proofs::lemmas::Bool::Decides::nat_tests), unfolding(model::specs::Areas::long_enough))]
 pub fn good_form(
     widths: &[usize],
     n: usize,
@@ -149,17 +127,9 @@ pub fn good_form(
         result ≡ good_form layout nodes (lent rows.now gained.now lost.now
         head.now) }
 {
-    if !good_area(rows, widths, n, head, ROW_COUNTS) {
-        return false;
-    }
-    if !good_area(gained, widths, n, head, GAINED_COUNTS) {
-        return false;
-    }
-    if !good_area(lost, widths, n, head, LOST_COUNTS) {
-        return false;
-    }
-    if !good_stamps(head, n) {
-        return false;
-    }
-    good_worked(head, n)
+    good_area(rows, widths, n, head, ROW_COUNTS)
+        && good_area(gained, widths, n, head, GAINED_COUNTS)
+        && good_area(lost, widths, n, head, LOST_COUNTS)
+        && good_stamps(head, n)
+        && good_worked(head, n)
 }

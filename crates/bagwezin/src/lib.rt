@@ -10,6 +10,7 @@ ghost use Rattle.bagwezin.specs.Answers.{AnswersCheck, AnswersReport, Applies, r
 ghost use Rattle.bagwezin.specs.Answers.{take_lent, row_after};
 
 use rows::STRIDE;
+use verdicts::Rule;
 
 // How many words the reader's answer takes.
 const WORDS: usize = 97;
@@ -33,7 +34,7 @@ pub extern "C" fn bagwezin_open(
         head.old)).areas }
 {
     let v = opening::open(net, rows, gained, lost, head);
-    packing::pack(v.number, v.place, 0)
+    packing::pack_answer(v.map(|()| 0))
 }
 
 // Applies a batch: refusals 1 to 14, or 0.
@@ -54,7 +55,7 @@ pub extern "C" fn bagwezin_apply(
         result }
 {
     let v = applying::apply(net, batch, rows, gained, lost, head);
-    packing::pack(v.number, v.place, 0)
+    packing::pack_answer(v.map(|()| 0))
 }
 
 // Whether the areas are coherent: refusals 1 to 8, or 1 for yes and 0 for no.
@@ -72,7 +73,7 @@ pub extern "C" fn bagwezin_check(
         result }
 {
     let v = checking::check(net, rows, gained, lost, head);
-    packing::pack(v.number, v.place, v.yes as usize)
+    packing::pack_answer(v.map(|yes| yes as usize))
 }
 
 // The report of a node: refusals 1 to 8, 15 and 16, or its length.
@@ -97,7 +98,7 @@ pub extern "C" fn bagwezin_report(
         out.old).out }
 {
     let v = reporting::report(net, node as usize, rows, gained, lost, head, out);
-    packing::pack(v.number, v.place, v.size)
+    packing::pack_answer(v)
 }
 
 // Folds the last batch's gained and lost rows into the pending area: refusals 1 to 8 and 17, or 0.
@@ -122,7 +123,7 @@ pub extern "C" fn bagwezin_fold(
         pending.old).pending }
 {
     let v = folding::fold(net, rows, gained, lost, head, pending);
-    packing::pack(v.number, v.place, 0)
+    packing::pack_answer(v.map(|()| 0))
 }
 
 // Takes the next pending row into 4 words: refusal 1 where they are not lent, then 1 to 8, 17 and 18, or the node.
@@ -154,16 +155,16 @@ pub extern "C" fn bagwezin_take(
         pending.old answer.old) answer.old }
 {
     if answer.len() < STRIDE {
-        return packing::pack(1, 0, 0);
+        return packing::pack_answer(Err(Rule::ShortArea.at(0)));
     }
-    let v = taking::take(net, rows, gained, lost, head, pending);
-    let packed = packing::pack(v.number, v.place, v.node);
-    if v.number != 0 {
-        return packed;
+    match taking::take(net, rows, gained, lost, head, pending) {
+        Ok(taken) => {
+            let row = taken.row;
+            words::copy_run(&row, 0, answer, 0, STRIDE);
+            packing::pack_answer(Ok(taken.node))
+        }
+        Err(refusal) => packing::pack_answer(Err(refusal)),
     }
-    let row = v.row;
-    words::copy_run(&row, 0, answer, 0, STRIDE);
-    packed
 }
 
 // The reader's answer in 97 words: refusal 1 where they are not lent, then 2 to 7, or 0.
@@ -173,12 +174,13 @@ pub extern "C" fn bagwezin_read(net: &[u8], answer: &mut [u32]) -> u64
     ensures words { answer.new ≡ read_after net.now answer.old }
 {
     if answer.len() < WORDS {
-        return packing::pack(1, 0, 0);
+        return packing::pack_answer(Err(Rule::ShortArea.at(0)));
     }
-    let read = reader::read(net);
-    if read.number != 0 {
-        return packing::pack(read.number, read.place, 0);
+    match reader::read(net) {
+        Ok(read) => {
+            packing::write_answer(answer, read);
+            packing::pack_answer(Ok(0))
+        }
+        Err(refused) => packing::pack_answer(Err(refused)),
     }
-    packing::write_answer(answer, read);
-    packing::pack(0, 0, 0)
 }

@@ -1,7 +1,7 @@
 -- What a batch leaves keeps the promise, case by case. Assumes nothing.
 use mathlib.Core.List.{List, ◌∷◌, map, []}
 use mathlib.Core.Path.{◌≡◌, refl, ◌∙◌, ap, subst, sym, ap₂}
-use mathlib.Core.Bool.{false, true, Bool, ◌||◌}
+use mathlib.Core.Bool.{false, true, true≢false, Bool, ◌||◌}
 use Prim.Native.Nat.{ℕ, ◌≤◌, ◌<◌, ◌+◌}
 use lib.ListN.{length, length-append, drop, length-drop}
 use native.Mathlib.Omega.{arith}
@@ -11,6 +11,9 @@ use Rattle.model.specs.Network.{Node, within, AllFit, widths}
 use Rattle.model.specs.Areas.{Areas, holding, holding_rows, layout, coherent, over, state_in, batch_number, rows_in, tables_of, good_form, same_relations, stamp_at, head_of, KeepsRest, area_of}
 use Rattle.model.specs.Station.{Step, State, limit, refused_step, advance, advance_rows, step, last_number, apply_events}
 use Rattle.model.specs.Record.{is_accepted, refused, accepted, Bytes, Verdict, offsets}
+use Rattle.verdicts.specs.declared.Refusal.{Refusal}
+use Rattle.verdicts.specs.Verdicts.{refusal_of}
+use Rattle.verdicts.proofs.Numbers.{not-accepted}
 use Rattle.named_tables.specs.Named.{NamesNodes}
 use Rattle.tables.proofs.Acts.{accepted_names}
 use Rattle.model.specs.Calls.{result_of, promise_of, settled, free, Result, Keeps, Free, freely_refused, freely_accepted}
@@ -30,7 +33,6 @@ use Rattle.laws.proofs.Fresh.{same_eq}
 use Rattle.laws.proofs.Bounds.{over_below}
 use Rattle.laws.proofs.Sets.{and_second}
 use Rattle.propagation.proofs.News.{new_fresh}
-use Rattle.coherence.proofs.Coherent.{rows-length}
 use Rattle.network.proofs.Nodes.{nodes-count}
 use Rattle.states.proofs.Tables.{all_under}
 use Rattle.states.specs.Fitting.{Fitting}
@@ -42,7 +44,7 @@ use Rattle.changes.proofs.Out.{changes-count, gained-fit, lost-fit}
 use Rattle.laws.proofs.Parts.{length-counted}
 use Rattle.model.specs.Areas.{area_size, head_words}
 use Rattle.states.proofs.Changes.{stamps-length}
-use Rattle.states.proofs.Head.{head-size, head-length}
+use Rattle.states.proofs.Head.{head-size}
 use Rattle.states.proofs.Worked.{worked-few}
 
 module _ (nodes : List Node) (a : Areas) (x : Step) where
@@ -80,6 +82,11 @@ limit_under nodes s copy = refl
 limit-first : (list : List ℕ) (i : ℕ) → refused 14 i ≡ limit_verdict list → (rest : List ℕ) × (list ≡ i ∷ rest)
 limit-first [] i e = let z : ◌≡◌ {A = ℕ} 14 0 = ap (λ (v : Verdict). v.number) e in absurd (omega arith)
 limit-first (j ∷ list) i e = (list, ap (λ (v : Verdict). v.place ∷ list) (sym e))
+
+-- a refusal that the limit gives has its number
+limit_names : (list : List ℕ) (v : Verdict) → is_accepted v ≡ false → v ≡ limit_verdict list → (i : ℕ) × (v ≡ refused 14 i)
+limit_names [] v n e = absurd (true≢false (sym (ap is_accepted e) ∙ n))
+limit_names (i ∷ list) v n e = (i, e)
 
 or_last : (t : Bool) → (t || true) ≡ true
 or_last true = refl
@@ -175,9 +182,9 @@ module _ (net : Network) (bs : Bytes) (rows gained lost head : List ℕ) (can : 
     new_many = news-many net rows head bs ready
 
     -- rule 14
-    pub over-refused : (v : Verdict) (i : ℕ) → v ≡ refused 14 i → v ≡ limit_verdict (overfull 0 (new_rows net rows head bs)) →
+    refused_over : (v : Verdict) (i : ℕ) → v ≡ refused 14 i → v ≡ limit_verdict (overfull 0 (new_rows net rows head bs)) →
         AppliedTo net bs (lent rows gained lost head) (record { verdict = v; areas = lent rows gained lost head })
-    over-refused v i e f = rw e (go (coherent layout (nodes_of net) a) refl)
+    refused_over v i e f = rw e (go (coherent layout (nodes_of net) a) refl)
       where
         first : (rest : List ℕ) × (overfull 0 (new_rows net rows head bs) ≡ i ∷ rest)
         first = limit-first (overfull 0 (new_rows net rows head bs)) i (sym e ∙ f)
@@ -193,6 +200,12 @@ module _ (net : Network) (bs : Bytes) (rows gained lost head : List ℕ) (can : 
             let inside : i < net.count = omega (arith, over_below 0 (new_rows net rows head bs) i first.0 first.1, new_many) in
             let node : i < length (nodes_of net) = rw (nodes-count net can.checkable.built) inside in
             frees (nodes_of net) (lent rows gained lost head) st c number-free (record { verdict = refused 14 i; areas = lent rows gained lost head }) (freely_refused refl node refl)
+
+    pub over-refused : (d : Refusal) → refusal_of d ≡ limit_verdict (overfull 0 (new_rows net rows head bs)) →
+        AppliedTo net bs (lent rows gained lost head) (record { verdict = refusal_of d; areas = lent rows gained lost head })
+    over-refused d f =
+        let named = limit_names (overfull 0 (new_rows net rows head bs)) (refusal_of d) (not-accepted d) f in
+        refused_over (refusal_of d) named.0 named.1 f
 
     -- every node's new rows worked out and written
     module _ (work counts : List ℕ) (changed : List Bool) (picks sizes : List ℕ)

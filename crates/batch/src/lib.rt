@@ -9,9 +9,10 @@ ghost use Rattle.batch.specs.Applying.{Applicable, AppliedTo, Unrefused};
 use areas::AREA;
 use differences::PICKS;
 use network::Network;
-use propagation::Propagated;
+use new_rows::Work;
 use rows::MAX_NODES;
-use verdicts::Verdict;
+use verdicts::{Rule, Verdict};
+use working::Told;
 
 // The largest batch number.
 const LAST: u32 = 4294967295;
@@ -32,33 +33,22 @@ fn advance(
         (lent rows.old gained.old lost.old head.old)
         (result_with result (lent rows.new gained.new lost.new head.new)) }
 {
-    let mut work = [0u32; AREA];
-    let mut counts = [0u32; MAX_NODES];
-    let mut changed = [false; MAX_NODES];
-    let mut due = named_tables::named_nodes(bytes);
-    let mut picks = [0u8; MAX_NODES * PICKS];
-    let mut sizes = [0u32; 2 * MAX_NODES];
-    let done = propagation::propagate(
-        net,
-        bytes,
-        rows,
-        head,
-        &mut work,
-        &mut counts,
-        &mut changed,
-        &mut due,
-        &mut picks,
-        &mut sizes,
-    );
-    let Propagated::All = done else {
-        return propagation::verdict_of(done);
+    let mut work = Work {
+        rows: [0; AREA],
+        counts: [0; MAX_NODES],
+        changed: [false; MAX_NODES],
     };
+    let mut due = named_tables::named_nodes(bytes);
+    let mut told = Told {
+        picks: [0; MAX_NODES * PICKS],
+        sizes: [0; 2 * MAX_NODES],
+    };
+    propagation::propagate(net, bytes, rows, head, &mut work, &mut due, &mut told)?;
     let levels = net.levels;
     transition::write_state(
-        net.count, &levels, &work, &counts, &changed, &due, &picks, &sizes, rows, gained, lost,
-        head,
+        net.count, &levels, &work, &due, &told, rows, gained, lost, head,
     );
-    propagation::verdict_of(done)
+    Ok(())
 }
 
 // A batch applied to areas of good form: refusals 9 to 14, or the next state.
@@ -76,13 +66,10 @@ pub fn apply_batch(
         (result_with result (lent rows.new gained.new lost.new head.new)) }
 {
     if head[0] == LAST {
-        return verdicts::refused(9, 0);
+        return Err(Rule::LastBatch.at(0));
     }
     let widths = net.widths;
     let levels = net.levels;
-    let read = events::read_batch(net.count, &widths, &levels, bytes);
-    if read.number != 0 {
-        return read;
-    }
+    events::read_batch(net.count, &widths, &levels, bytes)?;
     advance(net, bytes, rows, gained, lost, head)
 }

@@ -36,16 +36,18 @@ pub fn begin(
             stage: Stage::End,
         };
     }
-    let opened = opening::open(net, rows, gained, lost, head);
-    if opened.number != 0 {
-        let size = verdict_lines::put_refused(out, opened.number, opened.place);
-        return Said {
-            size,
-            stage: Stage::End,
-        };
-    }
-    Said {
-        size: 0,
-        stage: Stage::Cut(0),
+    match opening::open(net, rows, gained, lost, head) {
+        Ok(()) => Said {
+            size: 0,
+            stage: Stage::Cut(0),
+        },
+        Err(refusal) => {
+            let number = refusal.rule.number();
+            let size = verdict_lines::put_refused(out, number, refusal.place);
+            Said {
+                size,
+                stage: Stage::End,
+            }
+        }
     }
 }

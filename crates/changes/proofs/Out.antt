@@ -234,15 +234,3 @@ module _ (net : Network) (rows gained lost head work counts : List ℕ) (changed
         gained-are = filled_none (gained_of old o.new) gained (sized (widths (nodes_of net)) (gained_of old o.new) gained-fit);
         lost-are = filled_none (lost_of old o.new) lost (sized (widths (nodes_of net)) (lost_of old o.new) lost-fit);
       }
-
-  -- the lengths stay
-  pub writes_lengths : (rows' gained' lost' : List ℕ) (i : ℕ) → i ≤ net.count → WritesNodes (nodes_of net) o.new rows gained lost head rows' gained' lost' i →
-      (length rows' ≡ length rows) × (length gained' ≡ length gained) × (length lost' ≡ length lost)
-  writes_lengths rows' gained' lost' i h k = (
-    area o.new rows rows' o.fits longs.0 k.rows_are,
-    area (gained_of old o.new) gained gained' gained-fit longs.1 k.gained-are,
-    area (lost_of old o.new) lost lost' lost-fit longs.2 k.lost-are,
-  )
-    where
-      area : (rels : List Relation) (x y : List ℕ) → Fitting (widths (nodes_of net)) rels → area_size ≤ length x → y ≡ filled rels i x → length y ≡ length x
-      area rels x y f l e = ap length e ∙ filled-length rels x (sized (widths (nodes_of net)) rels f) i (omega (arith, f.size, size, h)) (omega (arith, h, few-nodes, l))

@@ -15,7 +15,9 @@ ghost use Rattle.changes.specs.Written.{Writable, WritesNode, Writing, WritesNod
 
 use areas::{GAINED_COUNTS, LOST_COUNTS, PLACE, ROW_COUNTS};
 use differences::PICKS;
+use new_rows::Work;
 use rows::{MAX_NODES, MAX_ROWS};
+use working::Told;
 
 // Rows of src by count numbers from an index on, written over node i's place of an area, which has m rows.
 fn write_picked(
@@ -40,40 +42,37 @@ fn write_picked(
 // Node i's change written, and if there is one its new rows.
 fn write_node(
     i: usize,
-    work: &[u32],
-    counts: &[u32],
-    changed: &[bool],
-    picks: &[u8],
-    sizes: &[u32],
+    work: &Work,
+    told: &Told,
     rows: &mut [u32],
     gained: &mut [u32],
     lost: &mut [u32],
     head: &[u32],
 )
-    requires { Writable rows.old gained.old lost.old head.now work.now counts.now changed.now
-        picks.now sizes.now i }
+    requires { Writable rows.old gained.old lost.old head.now work.now.rows work.now.counts
+        work.now.changed told.now.picks told.now.sizes i }
     ensures { (o : Writable rows.old gained.old lost.old head.now
-        work.now counts.now changed.now picks.now sizes.now i) →
+        work.now.rows work.now.counts work.now.changed told.now.picks told.now.sizes i) →
         WritesNode
         (relation_in o.width (place_at rows.old i) (row_count head.now i))
         (relation_in o.width
-        (place_at (cond (get_or changed.now i false) work.now rows.old) i)
-        (get_or counts.now i 0))
+        (place_at (cond (get_or work.now.changed i false) work.now.rows rows.old) i)
+        (get_or work.now.counts i 0))
         rows.old gained.old lost.old rows.new gained.new
         lost.new i }
 {
     let at = i * PLACE;
-    let numbers = &picks[i * PICKS..i * PICKS + PICKS];
-    let g = sizes[i] as usize;
-    let l = sizes[MAX_NODES + i] as usize;
+    let numbers = &told.picks[i * PICKS..i * PICKS + PICKS];
+    let g = told.sizes[i] as usize;
+    let l = told.sizes[MAX_NODES + i] as usize;
     let was = head[GAINED_COUNTS + i] as usize;
-    write_picked(&work[at..at + PLACE], numbers, 0, g, gained, i, was);
+    write_picked(&work.rows[at..at + PLACE], numbers, 0, g, gained, i, was);
     let went = head[LOST_COUNTS + i] as usize;
     write_picked(&rows[at..at + PLACE], numbers, MAX_ROWS, l, lost, i, went);
-    if changed[i] {
+    if work.changed[i] {
         placing::write_place(
-            &work[at..at + PLACE],
-            counts[i] as usize,
+            &work.rows[at..at + PLACE],
+            work.counts[i] as usize,
             rows,
             i,
             head[ROW_COUNTS + i] as usize,
@@ -84,28 +83,21 @@ fn write_node(
 // Every node's new rows and its change written, of n nodes.
 pub fn write_nodes(
     n: usize,
-    work: &[u32],
-    counts: &[u32],
-    changed: &[bool],
-    picks: &[u8],
-    sizes: &[u32],
+    work: &Work,
+    told: &Told,
     rows: &mut [u32],
     gained: &mut [u32],
     lost: &mut [u32],
     head: &[u32],
 )
-    requires { Writing n rows.old gained.old lost.old head.now work.now counts.now changed.now
-        picks.now sizes.now }
+    requires { Writing n rows.old gained.old lost.old head.now work.now.rows work.now.counts
+        work.now.changed told.now.picks told.now.sizes }
     ensures { (o : Writing n rows.old gained.old lost.old head.now
-        work.now counts.now changed.now picks.now sizes.now) →
+        work.now.rows work.now.counts work.now.changed told.now.picks told.now.sizes) →
         WritesNodes (nodes_of o.net) o.out.new rows.old gained.old lost.old
         head.now rows.new gained.new lost.new n }
 {
-    let mut i = 0;
-    while i < n {
-        write_node(
-            i, work, counts, changed, picks, sizes, rows, gained, lost, head,
-        );
-        i += 1;
+    for i in 0..n {
+        write_node(i, work, told, rows, gained, lost, head);
     }
 }

@@ -1,7 +1,11 @@
 -- What the coherence check answers, in the model's terms.
+use Rattle.std.specs.Prelude.{Bool, false, Result, Ok, Err}
+use Rattle.model.specs.Record.{accepted}
 use Rattle.model.specs.Calls.{CheckAnswer}
-use Rattle.checking.specs.declared.CheckAnswer as answer
+use Rattle.verdicts.specs.declared.Refusal.{Refusal}
+use Rattle.verdicts.specs.Verdicts.{refusal_of}
 
--- the verdict, and yes or no
-abbrev pub check_answer_of : answer.CheckAnswer → CheckAnswer
-check_answer_of r = record { verdict = record { number = r.number; place = r.place }; yes? = r.yes }
+-- yes or no, or the refusal, with no beside it
+abbrev pub check_answer_of : Result Bool Refusal → CheckAnswer
+check_answer_of (Ok is) = record { verdict = accepted; yes? = is }
+check_answer_of (Err r) = record { verdict = refusal_of r; yes? = false }

@@ -13,7 +13,6 @@ ghost use Rattle.coherence.specs.Held.{held_at, Places, Derived, given_at, Check
 use areas::{PLACE, ROW_COUNTS};
 use evaluation::Held;
 use network::{Network, Slot};
-use places::Made;
 
 // The width and the count of node i's rows.
 fn held(widths: &[usize], head: &[u32], i: usize) -> Held
@@ -34,7 +33,7 @@ fn evaluate_held(
     head: &[u32],
     n: usize,
     out: &mut [u32],
-) -> Made
+) -> Option<usize>
     requires { Places widths.now n rows.now head.now × Derived slot widths.now n × Blank out.old }
     ensures { Makes (given_at slot widths.now head.now rows.now)
         out.new result }
@@ -62,8 +61,8 @@ fn rows_agree(slot: Slot, widths: &[usize], rows: &[u32], head: &[u32], i: usize
 {
     let mut out = [0u32; PLACE];
     match evaluate_held(slot, widths, rows, head, i, &mut out) {
-        Made::Over => false,
-        Made::Rows(count) => places::same_rows(
+        None => false,
+        Some(count) => places::same_rows(
             &rows[i * PLACE..i * PLACE + PLACE],
             head[ROW_COUNTS + i] as usize,
             &out,
@@ -85,10 +84,7 @@ fn node_agrees(
         × ((level ≡ 0 → ⊥) → Derived slot widths.now i) }
     ensures { result ≡ slot_agrees slot widths.now head.now rows.now i }
 {
-    if level == 0 {
-        return true;
-    }
-    rows_agree(slot, widths, rows, head, i)
+    level == 0 || rows_agree(slot, widths, rows, head, i)
 }
 
 // Whether areas whose rows are of good form are coherent.
@@ -97,14 +93,12 @@ pub fn is_coherent(net: Network, rows: &[u32], head: &[u32]) -> bool
     ensures tells { result ≡ fresh_in net rows.now head.now }
 {
     let count = net.count;
-    let mut i = 0;
-    while i < count {
+    for i in 0..count {
         let slot = net.slots[i];
         let level = net.levels[i];
         if !node_agrees(slot, level, &net.widths, rows, head, i) {
             return false;
         }
-        i += 1;
     }
     true
 }

@@ -10,6 +10,7 @@ use lib.Dec.{ltb}
 use lib.ListN.{length, length-append, length-drop, length-map, get_or, get_or-append, set, take, drop, replicate}
 use lib.Seq.{length-take-le, length-paste, take_all, take-suc, paste, get_or-take, get_or-append-add}
 use borrow.Author.Tests.{lt-ltb, ltb-true, ltb-false}
+use Rattle.std.proofs.lemmas.List.{map-append}
 use Rattle.laws.proofs.Sets.{and_first, and_second, and_both}
 use Rattle.model.specs.Areas.{padded, stride}
 use Rattle.model.specs.Network.{columns_below}
@@ -26,13 +27,6 @@ use Rattle.columns.specs.Columns.{joined_field, joined_row, masked_row}
 abbrev pub filled : (ℕ → ℕ) → List ℕ → ℕ → List ℕ
 filled f columns k = padded stride (map f (take k columns))
 
-map_snoc : (f : ℕ → ℕ) (l : List ℕ) (x : ℕ) → map f (l ++ (x ∷ [])) ≡ map f l ++ (f x ∷ [])
-map_snoc f [] x = refl
-map_snoc f (y ∷ l) x = ap (λ (m : List ℕ). f y ∷ m) (map_snoc f l x)
-
-pub row_started : (f : ℕ → ℕ) (columns : List ℕ) → replicate stride 0 ≡ filled f columns 0
-row_started f columns = refl
-
 pub row-filled : (f : ℕ → ℕ) (columns : List ℕ) (k : ℕ) (row : List ℕ) (x : ℕ) → k < length columns → k < stride → row ≡ filled f columns k → x ≡ f (get_or columns k 0) →
     set row k x ≡ filled f columns (k + 1)
 row-filled f columns k row x h g e v =
@@ -40,7 +34,7 @@ row-filled f columns k row x h g e v =
     let size : length (map f (take k columns)) ≡ k = length-map (take k columns) f ∙ length-take-le k columns (omega arith) in
     ap₂ (λ (l : List ℕ) (y : ℕ). set l k y) e v
     ∙ padded_more stride (map f (take k columns)) (f (get_or columns k 0)) k size g
-    ∙ ap (padded stride) (sym (map_snoc f (take k columns) (get_or columns k 0)) ∙ ap (map f) (sym one))
+    ∙ ap (padded stride) (sym (map-append f (take k columns) (get_or columns k 0 ∷ [])) ∙ ap (map f) (sym one))
 
 -- a column of a list whose columns are below a width
 pub column-below : (w : ℕ) (columns : List ℕ) (n k : ℕ) → columns_below w (take n columns) ≡ true → k < n → k < length columns → get_or columns k 0 < w

@@ -31,10 +31,8 @@ pub fn columns_row(
     words::copy_run(left, i * STRIDE, &mut both, 0, STRIDE);
     words::copy_run(right, j * STRIDE, &mut both, split, STRIDE);
     let mut row = [0u32; STRIDE];
-    let mut k = 0;
-    while k < n {
+    for k in 0..n {
         row[k] = both[columns[k] as usize];
-        k += 1;
     }
     row
 }

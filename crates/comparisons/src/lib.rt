@@ -2,11 +2,13 @@
 
 #![tactic(auto)]
 
-ghost use Rattle.std.specs.Prelude.{◌≡◌, ◌<◌};
+ghost use Rattle.std.specs.Prelude.{◌≡◌};
 ghost use Rattle.model.specs.Algebra.{holds_of, compare_fields};
+ghost use Rattle.nodes.specs.Nodes.{code_of};
 ghost use Rattle.rows.specs.Rows.{order_of};
 
-use rows::Order;
+use nodes::Comparison;
+use std::cmp::Ordering;
 
 // What each code says of less, equal and greater, in that order: 1 that it holds.
 const COMPARISONS: [u8; 18] = [
@@ -30,27 +32,21 @@ const COMPARISONS: [u8; 18] = [
     1, // 5 at least: greater
 ];
 
-// Whether the comparison of a code holds of two fields with that outcome.
-pub fn holds(code: usize, outcome: Order) -> bool
-    requires { code < 6 }
-    ensures { result ≡ holds_of code (order_of outcome) }
+// Whether a comparison holds of two fields with that outcome.
+pub fn holds(comparison: Comparison, outcome: Ordering) -> bool
+    ensures { result ≡ holds_of (code_of comparison) (order_of outcome) }
 {
+    let code = comparison.number();
     match outcome {
-        Order::Less => COMPARISONS[3 * code] == 1,
-        Order::Equal => COMPARISONS[3 * code + 1] == 1,
-        Order::Greater => COMPARISONS[3 * code + 2] == 1,
+        Ordering::Less => COMPARISONS[3 * code] == 1,
+        Ordering::Equal => COMPARISONS[3 * code + 1] == 1,
+        Ordering::Greater => COMPARISONS[3 * code + 2] == 1,
     }
 }
 
 // How two fields compare in a select.
-pub fn compare_values(left: u32, right: u32) -> Order
+pub fn compare_values(left: u32, right: u32) -> Ordering
     ensures { order_of result ≡ compare_fields left right }
 {
-    if left < right {
-        return Order::Less;
-    }
-    if right < left {
-        return Order::Greater;
-    }
-    Order::Equal
+    left.cmp(&right)
 }

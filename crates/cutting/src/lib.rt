@@ -10,6 +10,7 @@ ghost use Rattle.stages.specs.Stages.{Opened, Ready, Says, Applies, files};
 
 use pieces::Piece;
 use stages::{Said, Stage};
+use verdicts::Rule;
 
 // Applies a batch and tells its number, or its refusal; then its nodes' lines, or the piece that starts at an offset.
 fn apply(
@@ -29,18 +30,22 @@ fn apply(
         (lent rows.new gained.new lost.new head.new) out.old
         out.new result }
 {
-    let verdict = applying::apply(net, batch, rows, gained, lost, head);
-    if verdict.number != 0 {
-        let size = verdict_lines::put_refused(out, verdict.number, verdict.place);
-        return Said {
-            size,
-            stage: Stage::Cut(next),
-        };
-    }
-    let size = verdict_lines::put_batch(out, head[0] as usize);
-    Said {
-        size,
-        stage: Stage::Tell(0, next),
+    match applying::apply(net, batch, rows, gained, lost, head) {
+        Ok(()) => {
+            let size = verdict_lines::put_batch(out, head[0] as usize);
+            Said {
+                size,
+                stage: Stage::Tell(0, next),
+            }
+        }
+        Err(refusal) => {
+            let number = refusal.rule.number();
+            let size = verdict_lines::put_refused(out, number, refusal.place);
+            Said {
+                size,
+                stage: Stage::Cut(next),
+            }
+        }
     }
 }
 
@@ -76,7 +81,7 @@ pub fn cut(
             out,
         ),
         Piece::Broken(at) => {
-            let size = verdict_lines::put_refused(out, 10, at);
+            let size = verdict_lines::put_refused(out, Rule::BrokenEvent.number(), at);
             Said {
                 size,
                 stage: Stage::End,

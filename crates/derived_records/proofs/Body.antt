@@ -2,6 +2,7 @@
 use mathlib.Core.Path.{◌≡◌, refl, sym, ◌∙◌}
 use mathlib.Core.Bool.{Bool, true, false, ◌&&◌}
 use mathlib.Core.List.{List}
+use Rattle.std.specs.Prelude.{Result, Err}
 use Prim.Native.Nat.{ℕ, ◌+◌, ◌*◌, ◌≤◌, ◌<◌}
 use native.Mathlib.Omega.{arith}
 use lib.Dec.{ltb, leb, eqb, lit≤}
@@ -14,15 +15,18 @@ use Rattle.model.specs.Algebra.{Operand, constant, column}
 use Rattle.laws.proofs.Sets.{and_first, and_second}
 use Rattle.laws.proofs.ByKind.{item-narrow}
 use Rattle.model.specs.Row.{max_width}
-use Rattle.nodes.specs.Nodes.{lists_of, operation_of, set_kind}
+use Rattle.nodes.specs.Nodes.{lists_of, operation_of, set_kind, code_of}
 use Rattle.derived_records.specs.Bodies.{NodeRecord, ListsFit, node_in_record, body_fault, select_fits, ReadsBody, ReadsNode}
 use Rattle.nodes.specs.declared.Operand.TheVariants.{Constant, Column}
 use Rattle.nodes.specs.declared.SetOperation.{SetOperation}
 use Rattle.nodes.specs.declared.SetOperation.TheVariants.{Union, Difference, Intersection}
 use Rattle.nodes.specs.declared.Node.{Node}
 use Rattle.nodes.specs.declared.Node.TheVariants.{Select, Project, Join, Set}
-use Rattle.nodes.specs.declared.Record.{Record}
-use Rattle.nodes.specs.declared.Record.TheVariants.{Refused}
+use Rattle.nodes.specs.declared.Item.{Item}
+use Rattle.nodes.specs.declared.Comparison.{Comparison}
+use Rattle.nodes.proofs.Codes.{code_below}
+use Rattle.verdicts.specs.declared.Rule.{Rule}
+use Rattle.verdicts.specs.declared.Rule.TheVariants.{WrongLength, WrongField}
 
 pub no_second : (a b : Bool) → b ≡ false → (a && b) ≡ false
 no_second true b e = e
@@ -31,11 +35,11 @@ no_second false b e = refl
 -- ---- the three outcomes
 
 module _ (ws signs : List ℕ) (bs : Bytes) (at : ℕ) (kind : ℕ) where
-  pub reads_6 : has_shape kind bs at ≡ false → ReadsBody ws signs kind bs at (Refused 6)
+  pub reads_6 : has_shape kind bs at ≡ false → ReadsBody ws signs kind bs at (Err WrongLength)
   unfolding body_fault
   reads_6 e = record { number = rw e; item = λ z. absurd (omega arith); fits = lit≤ tt }
 
-  pub reads_7 : has_shape kind bs at ≡ true → item_fits ws signs (item_at kind bs at) ≡ false → ReadsBody ws signs kind bs at (Refused 7)
+  pub reads_7 : has_shape kind bs at ≡ true → item_fits ws signs (item_at kind bs at) ≡ false → ReadsBody ws signs kind bs at (Err WrongField)
   unfolding body_fault
   reads_7 e f = record { number = rw (e, f); item = λ z. absurd (omega arith); fits = lit≤ tt }
 
@@ -55,17 +59,25 @@ module _ (ws signs : List ℕ) (bs : Bytes) (at : ℕ) (kind : ℕ) where
         }
 
 -- a body read as the kind of a number
-pub as_kind : {ws signs : List ℕ} {bs : Bytes} {at : ℕ} {r : Record} (k n : ℕ) → k ≡ n → ReadsBody ws signs n bs at r → ReadsBody ws signs k bs at r
+pub as_kind : {ws signs : List ℕ} {bs : Bytes} {at : ℕ} {r : Result Item Rule} (k n : ℕ) → k ≡ n → ReadsBody ws signs n bs at r → ReadsBody ws signs k bs at r
 as_kind k n e b = rw e b
 
 -- a derived node read as its record's kind
-pub reads_as : {ws : List ℕ} {bs : Bytes} {at : ℕ} {r : Record} (n : ℕ) → kind_at bs at ≡ n → ((signs : List ℕ) → ReadsBody ws signs n bs at r) → ReadsNode ws bs at r
+pub reads_as : {ws : List ℕ} {bs : Bytes} {at : ℕ} {r : Result Item Rule} (n : ℕ) → kind_at bs at ≡ n → ((signs : List ℕ) → ReadsBody ws signs n bs at r) → ReadsNode ws bs at r
 reads_as {bs = bs} {at = at} n e b = record { body = λ signs. as_kind (kind_at bs at) n e (b signs) }
 
 -- the lists of a node that has none
 pub none_fit : (bs : Bytes) (at : ℕ) → ListsFit (record { pairs = 0; columns = 0; from = 0 }) bs at
 none_fit bs at =
     record { few-pairs = omega arith; few-columns = omega arith; near = omega arith; pairs-inside = λ h. absurd (omega arith); columns-inside = λ h. absurd (omega arith) }
+
+-- one of two inputs is not below the count
+pub missing : (l r count : ℕ) (f : Bool) → (l < count → count ≤ r) → ((ltb l count && (ltb r count && true)) && f) ≡ false
+missing l r count f h = go (ltb l count) refl
+  where
+    go : (b : Bool) → ltb l count ≡ b → ((ltb l count && (ltb r count && true)) && f) ≡ false
+    go true e = rw (e, le-ltb r count (h (ltb-true l count e)))
+    go false e = rw e
 
 -- ---- kinds 2 and 3
 
@@ -95,9 +107,14 @@ module _ (xs : List ℕ) (count : ℕ) (long : count ≤ length xs) (bs : Bytes)
       unfolding select_fits
       select_no_column h = rw (← is, ← of, counted, lt-ltb i count within, first_at xs count i within, le-ltb c (get_or xs i 0) h)
 
-      pub select_code : (k : ℕ) → k ≡ field_at bs at 2 → c < get_or xs i 0 → ltb k 6 ≡ select_fits (take count xs) bs at
-      unfolding select_fits
-      select_code k e h = sym (rw (← is, ← of, ← e, counted, lt-ltb i count within, first_at xs count i within, lt-ltb c (get_or xs i 0) h))
+      module _ (low : c < get_or xs i 0) where
+        pub select_no_code : 6 ≤ field_at bs at 2 → select_fits (take count xs) bs at ≡ false
+        unfolding select_fits
+        select_no_code h = rw (← is, ← of, counted, lt-ltb i count within, first_at xs count i within, lt-ltb c (get_or xs i 0) low, le-ltb (field_at bs at 2) 6 h)
+
+        pub select_ok : (k : Comparison) → code_of k ≡ field_at bs at 2 → select_fits (take count xs) bs at ≡ true
+        unfolding select_fits
+        select_ok k e = rw (← is, ← of, ← e, counted, lt-ltb i count within, first_at xs count i within, lt-ltb c (get_or xs i 0) low) (lt-ltb (code_of k) 6 (code_below k))
 
   -- where it fits, the input is below the count
   pub select_input : select_fits (take count xs) bs at ≡ true → field_at bs at 0 < count
@@ -115,34 +132,34 @@ fits-select ws bs at o =
     fits_either (ltb (field_at bs at 0) (length ws)) (ltb (field_at bs at 1) (get_or ws (field_at bs at 0) 0)) (ltb (field_at bs at 2) 6) (operand_below (get_or ws (field_at bs at 0) 0) o)
 
 module _ (ws signs : List ℕ) (bs : Bytes) (at size : ℕ) (sized : size ≡ length_at bs at) where
-  pub constant-size : (size ≡ 14 → ⊥) → ReadsBody ws signs 2 bs at (Refused 6)
+  pub constant-size : (size ≡ 14 → ⊥) → ReadsBody ws signs 2 bs at (Err WrongLength)
   unfolding has_shape
   constant-size h = reads_6 ws signs bs at 2 (rw (← sized) (ne_eqb size 14 h))
 
-  pub constant-not : size ≡ 14 → select_fits ws bs at ≡ false → ReadsBody ws signs 2 bs at (Refused 7)
+  pub constant-not : size ≡ 14 → select_fits ws bs at ≡ false → ReadsBody ws signs 2 bs at (Err WrongField)
   unfolding has_shape item_fits item_at
   constant-not s e = reads_7 ws signs bs at 2 (rw (← sized) (eq-eqb size 14 s)) (fits-select ws bs at (constant (u32 bs (at + 10))) ∙ rw e)
 
-  pub constant_ok : size ≡ 14 → select_fits ws bs at ≡ true → (i c k v : ℕ) → i ≡ field_at bs at 0 → c ≡ field_at bs at 1 → k ≡ field_at bs at 2 → v ≡ u32 bs (at + 10) →
+  pub constant_ok : size ≡ 14 → select_fits ws bs at ≡ true → (i c : ℕ) (k : Comparison) (v : ℕ) → i ≡ field_at bs at 0 → c ≡ field_at bs at 1 → code_of k ≡ field_at bs at 2 → v ≡ u32 bs (at + 10) →
       ReadsBody ws signs 2 bs at (NodeRecord (Select i c k (Constant v)))
   unfolding has_shape item_fits item_at
   constant_ok s e i c k v p q r t =
       reads-node ws signs bs at 2 (rw (← sized) (eq-eqb size 14 s)) (fits-select ws bs at (constant (u32 bs (at + 10))) ∙ rw e) (Select i c k (Constant v)) (rw (p, q, r, t)) (none_fit bs at)
 
-  pub column-size : (size ≡ 12 → ⊥) → ReadsBody ws signs 3 bs at (Refused 6)
+  pub column-size : (size ≡ 12 → ⊥) → ReadsBody ws signs 3 bs at (Err WrongLength)
   unfolding has_shape
   column-size h = reads_6 ws signs bs at 3 (rw (← sized) (ne_eqb size 12 h))
 
-  pub column-not : size ≡ 12 → select_fits ws bs at ≡ false → ReadsBody ws signs 3 bs at (Refused 7)
+  pub column-not : size ≡ 12 → select_fits ws bs at ≡ false → ReadsBody ws signs 3 bs at (Err WrongField)
   unfolding has_shape item_fits item_at
   column-not s e = reads_7 ws signs bs at 3 (rw (← sized) (eq-eqb size 12 s)) (fits-select ws bs at (column (field_at bs at 3)) ∙ rw e)
 
   module _ (i o : ℕ) (is : i ≡ field_at bs at 0) (other : o ≡ field_at bs at 3) where
-    pub column_high : size ≡ 12 → select_fits ws bs at ≡ true → get_or ws i 0 ≤ o → ReadsBody ws signs 3 bs at (Refused 7)
+    pub column_high : size ≡ 12 → select_fits ws bs at ≡ true → get_or ws i 0 ≤ o → ReadsBody ws signs 3 bs at (Err WrongField)
     unfolding has_shape item_fits item_at
     column_high s e h = reads_7 ws signs bs at 3 (rw (← sized) (eq-eqb size 12 s)) (fits-select ws bs at (column (field_at bs at 3)) ∙ rw (e, ← is, ← other) (le-ltb o (get_or ws i 0) h))
 
-    pub column_ok : size ≡ 12 → select_fits ws bs at ≡ true → o < get_or ws i 0 → (c k : ℕ) → c ≡ field_at bs at 1 → k ≡ field_at bs at 2 →
+    pub column_ok : size ≡ 12 → select_fits ws bs at ≡ true → o < get_or ws i 0 → (c : ℕ) (k : Comparison) → c ≡ field_at bs at 1 → code_of k ≡ field_at bs at 2 →
         ReadsBody ws signs 3 bs at (NodeRecord (Select i c k (Column o)))
     unfolding has_shape item_fits item_at
     column_ok s e h c k q r =
@@ -191,17 +208,17 @@ shape-counted k most each bs at e =
 -- ---- kind 4
 
 module _ (xs : List ℕ) (count : ℕ) (long : count ≤ length xs) (signs : List ℕ) (bs : Bytes) (at : ℕ) where
-  pub project_unshaped : counted_shape 1 max_width 1 bs at ≡ false → ReadsBody (take count xs) signs 4 bs at (Refused 6)
+  pub project_unshaped : counted_shape 1 max_width 1 bs at ≡ false → ReadsBody (take count xs) signs 4 bs at (Err WrongLength)
   unfolding has_shape
   project_unshaped e = reads_6 (take count xs) signs bs at 4 e
 
   module _ (shape : counted_shape 1 max_width 1 bs at ≡ true) (i : ℕ) (is : i ≡ field_at bs at 0) where
-    pub project_no_input : count ≤ i → ReadsBody (take count xs) signs 4 bs at (Refused 7)
+    pub project_no_input : count ≤ i → ReadsBody (take count xs) signs 4 bs at (Err WrongField)
     unfolding has_shape item_fits item_at node_fits fits_on
     project_no_input h = reads_7 (take count xs) signs bs at 4 shape (rw (← is, counted xs count long bs at, le-ltb i count h))
 
     module _ (within : i < count) (n : ℕ) (of : n ≡ field_at bs at 1) where
-      pub project_high : columns_below (get_or xs i 0) (fields_at bs at 2 n) ≡ false → ReadsBody (take count xs) signs 4 bs at (Refused 7)
+      pub project_high : columns_below (get_or xs i 0) (fields_at bs at 2 n) ≡ false → ReadsBody (take count xs) signs 4 bs at (Err WrongField)
       unfolding has_shape item_fits item_at node_fits fits_on
       project_high e = reads_7 (take count xs) signs bs at 4 shape (rw (← is, ← of, counted xs count long bs at, lt-ltb i count within, first_at xs count i within) e)
 
@@ -276,29 +293,25 @@ join-shaped bs at e =
     }
 
 module _ (xs : List ℕ) (count : ℕ) (long : count ≤ length xs) (signs : List ℕ) (bs : Bytes) (at : ℕ) where
-  pub join_unshaped : join_shape bs at ≡ false → ReadsBody (take count xs) signs 5 bs at (Refused 6)
+  pub join_unshaped : join_shape bs at ≡ false → ReadsBody (take count xs) signs 5 bs at (Err WrongLength)
   unfolding has_shape
   join_unshaped e = reads_6 (take count xs) signs bs at 5 e
 
-  module _ (shape : join_shape bs at ≡ true) (l : ℕ) (is : l ≡ field_at bs at 0) where
-    pub join_no_left : count ≤ l → ReadsBody (take count xs) signs 5 bs at (Refused 7)
+  module _ (shape : join_shape bs at ≡ true) where
+    pub join_no_inputs : (field_at bs at 0 < count → count ≤ field_at bs at 1) → ReadsBody (take count xs) signs 5 bs at (Err WrongField)
     unfolding has_shape item_fits item_at node_fits fits_on
-    join_no_left h = reads_7 (take count xs) signs bs at 5 shape (rw (← is, counted xs count long bs at, le-ltb l count h))
+    join_no_inputs h = reads_7 (take count xs) signs bs at 5 shape (rw (counted xs count long bs at) (missing (field_at bs at 0) (field_at bs at 1) count _ h))
 
-    module _ (left : l < count) (r : ℕ) (of : r ≡ field_at bs at 1) where
-      pub join_no_right : count ≤ r → ReadsBody (take count xs) signs 5 bs at (Refused 7)
-      unfolding has_shape item_fits item_at node_fits fits_on
-      join_no_right h = reads_7 (take count xs) signs bs at 5 shape (rw (← is, ← of, counted xs count long bs at, lt-ltb l count left, le-ltb r count h))
-
+    module _ (l : ℕ) (is : l ≡ field_at bs at 0) (left : l < count) (r : ℕ) (of : r ≡ field_at bs at 1) where
       module _ (right : r < count) (p : ℕ) (paired : p ≡ field_at bs at 2) where
-        pub join_bad_pair : pairs_below (get_or xs l 0) (get_or xs r 0) (pairs_at bs at 3 p) ≡ false → ReadsBody (take count xs) signs 5 bs at (Refused 7)
+        pub join_bad_pair : pairs_below (get_or xs l 0) (get_or xs r 0) (pairs_at bs at 3 p) ≡ false → ReadsBody (take count xs) signs 5 bs at (Err WrongField)
         unfolding has_shape item_fits item_at node_fits fits_on
         join_bad_pair e =
             reads_7 (take count xs) signs bs at 5 shape
             (rw (← is, ← of, ← paired, counted xs count long bs at, lt-ltb l count left, lt-ltb r count right, first_at xs count l left, first_at xs count r right, e))
 
         module _ (good : pairs_below (get_or xs l 0) (get_or xs r 0) (pairs_at bs at 3 p) ≡ true) (c : ℕ) (columns : c ≡ field_at bs at (3 + 2 * p)) where
-          pub join_high : columns_below (get_or xs l 0 + get_or xs r 0) (fields_at bs at (4 + 2 * p) c) ≡ false → ReadsBody (take count xs) signs 5 bs at (Refused 7)
+          pub join_high : columns_below (get_or xs l 0 + get_or xs r 0) (fields_at bs at (4 + 2 * p) c) ≡ false → ReadsBody (take count xs) signs 5 bs at (Err WrongField)
           unfolding has_shape item_fits item_at node_fits fits_on
           join_high e =
               reads_7 (take count xs) signs bs at 5 shape
@@ -337,24 +350,20 @@ set-item Difference bs at = refl
 set-item Intersection bs at = refl
 
 module _ (xs : List ℕ) (count : ℕ) (long : count ≤ length xs) (signs : List ℕ) (bs : Bytes) (at : ℕ) (o : SetOperation) (size : ℕ) (sized : size ≡ length_at bs at) where
-  pub set-size : (size ≡ 8 → ⊥) → ReadsBody (take count xs) signs (set_kind o) bs at (Refused 6)
+  pub set-size : (size ≡ 8 → ⊥) → ReadsBody (take count xs) signs (set_kind o) bs at (Err WrongLength)
   set-size h = reads_6 (take count xs) signs bs at (set_kind o) (rw (set-shape o bs at, ← sized) (ne_eqb size 8 h))
 
-  module _ (eight : size ≡ 8) (l : ℕ) (is : l ≡ field_at bs at 0) where
+  module _ (eight : size ≡ 8) where
     set-shaped : has_shape (set_kind o) bs at ≡ true
     set-shaped = rw (set-shape o bs at, ← sized) (eq-eqb size 8 eight)
 
-    pub set_no_left : count ≤ l → ReadsBody (take count xs) signs (set_kind o) bs at (Refused 7)
+    pub set_no_inputs : (field_at bs at 0 < count → count ≤ field_at bs at 1) → ReadsBody (take count xs) signs (set_kind o) bs at (Err WrongField)
     unfolding item_fits node_fits fits_on
-    set_no_left h = reads_7 (take count xs) signs bs at (set_kind o) set-shaped (rw (set-item o bs at, ← is, counted xs count long bs at, le-ltb l count h))
+    set_no_inputs h = reads_7 (take count xs) signs bs at (set_kind o) set-shaped (rw (set-item o bs at, counted xs count long bs at) (missing (field_at bs at 0) (field_at bs at 1) count _ h))
 
-    module _ (left : l < count) (r : ℕ) (of : r ≡ field_at bs at 1) where
-      pub set_no_right : count ≤ r → ReadsBody (take count xs) signs (set_kind o) bs at (Refused 7)
-      unfolding item_fits node_fits fits_on
-      set_no_right h = reads_7 (take count xs) signs bs at (set_kind o) set-shaped (rw (set-item o bs at, ← is, ← of, counted xs count long bs at, lt-ltb l count left, le-ltb r count h))
-
+    module _ (l : ℕ) (is : l ≡ field_at bs at 0) (left : l < count) (r : ℕ) (of : r ≡ field_at bs at 1) where
       module _ (right : r < count) where
-        pub set_unequal : (get_or xs l 0 ≡ get_or xs r 0 → ⊥) → ReadsBody (take count xs) signs (set_kind o) bs at (Refused 7)
+        pub set_unequal : (get_or xs l 0 ≡ get_or xs r 0 → ⊥) → ReadsBody (take count xs) signs (set_kind o) bs at (Err WrongField)
         unfolding item_fits node_fits fits_on
         set_unequal h =
             reads_7 (take count xs) signs bs at (set_kind o) set-shaped

@@ -6,11 +6,12 @@ ghost use Rattle.std.specs.Prelude.{◌≡◌, false, ◌+◌, ◌*◌, ◌≤�
 ghost use Rattle.model.specs.Network.{columns_below, pairs_below, pairs_at, counted_shape, join_shape};
 ghost use Rattle.model.specs.Record.{fields_at, is_broken, kind_at};
 ghost use Rattle.model.specs.Row.{Narrow};
-ghost use Rattle.nodes.specs.Nodes.{set_kind};
-ghost use Rattle.derived_records.specs.Bodies.{ReadsNode, select_fits};
+ghost use Rattle.nodes.specs.Nodes.{kind_number, set_kind};
+ghost use Rattle.derived_records.specs.Bodies.{ReadsNode, ReadsSelection, ReadsInput, ReadsInputs};
 
-use nodes::{Item, MAX_PAIRS, Node, Operand, Record, SetOperation};
+use nodes::{Comparison, Inputs, Item, Kind, MAX_PAIRS, Node, Operand, SetOperation};
 use rows::MAX_WIDTH;
+use verdicts::Rule;
 
 // The last kind's number.
 pub const KINDS: usize = 10;
@@ -20,12 +21,10 @@ fn columns_below(bytes: &[u8], at: usize, k: usize, n: usize, width: usize) -> b
     requires { at + 4 + 2 * k + 2 * n ≤ length bytes.now }
     ensures { result ≡ columns_below width (fields_at bytes.now at k n) }
 {
-    let mut i = 0;
-    while i < n {
+    for i in 0..n {
         if width <= records::field_at(bytes, at, k + i) {
             return false;
         }
-        i += 1;
     }
     true
 }
@@ -35,53 +34,89 @@ fn pairs_below(bytes: &[u8], at: usize, n: usize, left: usize, right: usize) -> 
     requires { at + 10 + 4 * n ≤ length bytes.now }
     ensures { result ≡ pairs_below left right (pairs_at bytes.now at 3 n) }
 {
-    let mut i = 0;
-    while i < n {
+    for i in 0..n {
         if left <= records::field_at(bytes, at, 3 + 2 * i) {
             return false;
         }
         if right <= records::field_at(bytes, at, 4 + 2 * i) {
             return false;
         }
-        i += 1;
     }
     true
 }
 
-// ---- rules 6 and 7, one kind after the other
+// ---- the parts of rule 7 that several kinds share
 
-// Whether the record's input is below the count, its column below the input's width and its comparison a code.
-fn select_fits(bytes: &[u8], at: usize, count: usize, widths: &[usize]) -> bool
-    requires { (at + 10 ≤ length bytes.now) × (count ≤ length widths.now) }
-    ensures { result ≡ select_fits (take count widths.now) bytes.now at }
+// The input in field k, which is to be below the count.
+fn input_at(bytes: &[u8], at: usize, k: usize, count: usize) -> Result<usize, Rule>
+    requires { at + 6 + 2 * k ≤ length bytes.now }
+    ensures { ReadsInput bytes.now at k count result }
 {
-    let input = records::field_at(bytes, at, 0);
+    let input = records::field_at(bytes, at, k);
     if count <= input {
-        return false;
+        return Err(Rule::WrongField);
     }
-    if widths[input] <= records::field_at(bytes, at, 1) {
-        return false;
-    }
-    records::field_at(bytes, at, 2) < 6
+    Ok(input)
 }
 
+// The two inputs in fields 0 and 1.
+fn inputs_at(bytes: &[u8], at: usize, count: usize) -> Result<Inputs, Rule>
+    requires { at + 8 ≤ length bytes.now }
+    ensures { ReadsInputs bytes.now at count result }
+{
+    let left = input_at(bytes, at, 0, count)?;
+    let right = input_at(bytes, at, 1, count)?;
+    Ok(Inputs { left, right })
+}
+
+// What both kinds of select have in fields 0 to 2.
+#[derive(Clone, Copy)]
+struct Selection {
+    input: usize,
+    column: usize,
+    comparison: Comparison,
+}
+
+// A select's input, its column, which is to be below the input's width, and its comparison.
+fn selection_at(bytes: &[u8], at: usize, count: usize, widths: &[usize]) -> Result<Selection, Rule>
+    requires { (at + 10 ≤ length bytes.now) × (count ≤ length widths.now) }
+    ensures { ReadsSelection (take count widths.now) bytes.now at result }
+{
+    let input = input_at(bytes, at, 0, count)?;
+    let column = records::field_at(bytes, at, 1);
+    if widths[input] <= column {
+        return Err(Rule::WrongField);
+    }
+    let comparison = Comparison::try_from(records::field_at(bytes, at, 2))?;
+    Ok(Selection {
+        input,
+        column,
+        comparison,
+    })
+}
+
+// ---- rules 6 and 7, one kind after the other
+
 // Kind 2.
-fn read_select_constant(bytes: &[u8], at: usize, count: usize, widths: &[usize]) -> Record
+fn read_select_constant(
+    bytes: &[u8],
+    at: usize,
+    count: usize,
+    widths: &[usize],
+) -> Result<Item, Rule>
     requires { (is_broken bytes.now at ≡ false) × (count ≤ length widths.now) × (kind_at bytes.now at ≡ 2) }
     ensures { ReadsNode (take count widths.now) bytes.now at result }
 {
     if records::u16_at(bytes, at) != 14 {
-        return Record::Refused(6);
+        return Err(Rule::WrongLength);
     }
-    if !select_fits(bytes, at, count, widths) {
-        return Record::Refused(7);
-    }
-    let input = records::field_at(bytes, at, 0);
-    let column = records::field_at(bytes, at, 1);
-    let comparison = records::field_at(bytes, at, 2);
-    let constant = records::u32_at(bytes, at + 10);
-    let operand = Operand::Constant(constant);
-    Record::Item(Item::Node(Node::Select {
+    let Selection {
+        input,
+        column,
+        comparison,
+    } = selection_at(bytes, at, count, widths)?;
+    let operand = Operand::Constant(records::u32_at(bytes, at + 10));
+    Ok(Item::Node(Node::Select {
         input,
         column,
         comparison,
@@ -90,25 +125,24 @@ fn read_select_constant(bytes: &[u8], at: usize, count: usize, widths: &[usize])
 }
 
 // Kind 3.
-fn read_select_column(bytes: &[u8], at: usize, count: usize, widths: &[usize]) -> Record
+fn read_select_column(bytes: &[u8], at: usize, count: usize, widths: &[usize]) -> Result<Item, Rule>
     requires { (is_broken bytes.now at ≡ false) × (count ≤ length widths.now) × (kind_at bytes.now at ≡ 3) }
     ensures { ReadsNode (take count widths.now) bytes.now at result }
 {
     if records::u16_at(bytes, at) != 12 {
-        return Record::Refused(6);
+        return Err(Rule::WrongLength);
     }
-    if !select_fits(bytes, at, count, widths) {
-        return Record::Refused(7);
-    }
-    let input = records::field_at(bytes, at, 0);
+    let Selection {
+        input,
+        column,
+        comparison,
+    } = selection_at(bytes, at, count, widths)?;
     let other = records::field_at(bytes, at, 3);
     if widths[input] <= other {
-        return Record::Refused(7);
+        return Err(Rule::WrongField);
     }
-    let column = records::field_at(bytes, at, 1);
-    let comparison = records::field_at(bytes, at, 2);
     let operand = Operand::Column(other);
-    Record::Item(Item::Node(Node::Select {
+    Ok(Item::Node(Node::Select {
         input,
         column,
         comparison,
@@ -136,22 +170,19 @@ fn counted_shape(bytes: &[u8], at: usize, k: usize, most: usize, each: usize) ->
 }
 
 // Kind 4.
-fn read_project(bytes: &[u8], at: usize, count: usize, widths: &[usize]) -> Record
+fn read_project(bytes: &[u8], at: usize, count: usize, widths: &[usize]) -> Result<Item, Rule>
     requires { (is_broken bytes.now at ≡ false) × (count ≤ length widths.now) × (kind_at bytes.now at ≡ 4) }
     ensures { ReadsNode (take count widths.now) bytes.now at result }
 {
     if !counted_shape(bytes, at, 1, MAX_WIDTH, 1) {
-        return Record::Refused(6);
+        return Err(Rule::WrongLength);
     }
-    let input = records::field_at(bytes, at, 0);
-    if count <= input {
-        return Record::Refused(7);
-    }
+    let input = input_at(bytes, at, 0, count)?;
     let columns = records::field_at(bytes, at, 1);
     if !columns_below(bytes, at, 2, columns, widths[input]) {
-        return Record::Refused(7);
+        return Err(Rule::WrongField);
     }
-    Record::Item(Item::Node(Node::Project { input, columns }))
+    Ok(Item::Node(Node::Project { input, columns }))
 }
 
 // Rule 6 for kind 5.
@@ -181,33 +212,26 @@ fn join_shape(bytes: &[u8], at: usize) -> bool
 }
 
 // Kind 5.
-fn read_join(bytes: &[u8], at: usize, count: usize, widths: &[usize]) -> Record
+fn read_join(bytes: &[u8], at: usize, count: usize, widths: &[usize]) -> Result<Item, Rule>
     requires { (is_broken bytes.now at ≡ false) × (count ≤ length widths.now) × Narrow widths.now
         × (kind_at bytes.now at ≡ 5) }
     ensures { ReadsNode (take count widths.now) bytes.now at result }
 {
     if !join_shape(bytes, at) {
-        return Record::Refused(6);
+        return Err(Rule::WrongLength);
     }
-    let left = records::field_at(bytes, at, 0);
-    if count <= left {
-        return Record::Refused(7);
-    }
-    let right = records::field_at(bytes, at, 1);
-    if count <= right {
-        return Record::Refused(7);
-    }
+    let Inputs { left, right } = inputs_at(bytes, at, count)?;
     let pairs = records::field_at(bytes, at, 2);
     let left_width = widths[left];
     let right_width = widths[right];
     if !pairs_below(bytes, at, pairs, left_width, right_width) {
-        return Record::Refused(7);
+        return Err(Rule::WrongField);
     }
     let columns = records::field_at(bytes, at, 3 + 2 * pairs);
     if !columns_below(bytes, at, 4 + 2 * pairs, columns, left_width + right_width) {
-        return Record::Refused(7);
+        return Err(Rule::WrongField);
     }
-    Record::Item(Item::Node(Node::Join {
+    Ok(Item::Node(Node::Join {
         left,
         right,
         pairs,
@@ -222,26 +246,19 @@ fn read_set(
     at: usize,
     count: usize,
     widths: &[usize],
-) -> Record
+) -> Result<Item, Rule>
     requires { (is_broken bytes.now at ≡ false) × (count ≤ length widths.now)
         × (kind_at bytes.now at ≡ set_kind operation) }
     ensures { ReadsNode (take count widths.now) bytes.now at result }
 {
     if records::u16_at(bytes, at) != 8 {
-        return Record::Refused(6);
+        return Err(Rule::WrongLength);
     }
-    let left = records::field_at(bytes, at, 0);
-    if count <= left {
-        return Record::Refused(7);
-    }
-    let right = records::field_at(bytes, at, 1);
-    if count <= right {
-        return Record::Refused(7);
-    }
+    let Inputs { left, right } = inputs_at(bytes, at, count)?;
     if widths[left] != widths[right] {
-        return Record::Refused(7);
+        return Err(Rule::WrongField);
     }
-    Record::Item(Item::Node(Node::Set {
+    Ok(Item::Node(Node::Set {
         operation,
         left,
         right,
@@ -249,52 +266,42 @@ fn read_set(
 }
 
 // Kind 10.
-fn read_no_match(bytes: &[u8], at: usize, count: usize, widths: &[usize]) -> Record
+fn read_no_match(bytes: &[u8], at: usize, count: usize, widths: &[usize]) -> Result<Item, Rule>
     requires { (is_broken bytes.now at ≡ false) × (count ≤ length widths.now) × (kind_at bytes.now at ≡ 10) }
     ensures { ReadsNode (take count widths.now) bytes.now at result }
 {
     if !counted_shape(bytes, at, 2, MAX_PAIRS, 2) {
-        return Record::Refused(6);
+        return Err(Rule::WrongLength);
     }
-    let left = records::field_at(bytes, at, 0);
-    if count <= left {
-        return Record::Refused(7);
-    }
-    let right = records::field_at(bytes, at, 1);
-    if count <= right {
-        return Record::Refused(7);
-    }
+    let Inputs { left, right } = inputs_at(bytes, at, count)?;
     let pairs = records::field_at(bytes, at, 2);
     if !pairs_below(bytes, at, pairs, widths[left], widths[right]) {
-        return Record::Refused(7);
+        return Err(Rule::WrongField);
     }
-    Record::Item(Item::Node(Node::NoMatch { left, right, pairs }))
-}
-
-// The operation of kind 6, 7 or 8.
-fn set_operation(kind: usize) -> SetOperation
-    requires { (6 ≤ kind) × (kind ≤ 8) }
-    ensures { kind ≡ set_kind result }
-{
-    match kind {
-        6 => SetOperation::Union,
-        7 => SetOperation::Difference,
-        _ => SetOperation::Intersection,
-    }
+    Ok(Item::Node(Node::NoMatch { left, right, pairs }))
 }
 
 // The record of a derived node, by its kind.
-pub fn read_derived(kind: usize, bytes: &[u8], at: usize, count: usize, widths: &[usize]) -> Record
-    requires { (2 ≤ kind) × (kind ≤ 10) × (kind ≡ 9 → ⊥) × (kind_at bytes.now at ≡ kind)
+pub fn read_derived(
+    kind: Kind,
+    bytes: &[u8],
+    at: usize,
+    count: usize,
+    widths: &[usize],
+) -> Result<Item, Rule>
+    requires { (2 ≤ kind_number kind) × (kind_number kind ≡ 9 → ⊥) × (kind_at bytes.now at ≡ kind_number kind)
         × (is_broken bytes.now at ≡ false) × (count ≤ length widths.now) × Narrow widths.now }
     ensures { ReadsNode (take count widths.now) bytes.now at result }
 {
     match kind {
-        2 => read_select_constant(bytes, at, count, widths),
-        3 => read_select_column(bytes, at, count, widths),
-        4 => read_project(bytes, at, count, widths),
-        5 => read_join(bytes, at, count, widths),
-        10 => read_no_match(bytes, at, count, widths),
-        _ => read_set(set_operation(kind), bytes, at, count, widths),
+        Kind::SelectConstant => read_select_constant(bytes, at, count, widths),
+        Kind::SelectColumn => read_select_column(bytes, at, count, widths),
+        Kind::Project => read_project(bytes, at, count, widths),
+        Kind::Join => read_join(bytes, at, count, widths),
+        Kind::Union => read_set(SetOperation::Union, bytes, at, count, widths),
+        Kind::Difference => read_set(SetOperation::Difference, bytes, at, count, widths),
+        Kind::Intersection => read_set(SetOperation::Intersection, bytes, at, count, widths),
+        Kind::NoMatch => read_no_match(bytes, at, count, widths),
+        Kind::Table | Kind::Watch => unreachable!(),
     }
 }

@@ -2,7 +2,7 @@
 use mathlib.Core.Path.{subst, ◌≡◌, refl, sym, ap, ap₂, ◌∙◌}
 use mathlib.Core.Bool.{true, false}
 use mathlib.Core.List.{List, [], ◌∷◌, ◌++◌, append_assoc, append-nil}
-use Prim.Native.Nat.{ℕ, zero, suc, ◌+◌, ◌-◌, ◌≤◌, ◌<◌, Ordering, zero-le}
+use Prim.Native.Nat.{ℕ, zero, suc, ◌+◌, ◌-◌, ◌≤◌, ◌<◌, Ordering}
 use native.Mathlib.Nat.{add-zero}
 use native.Mathlib.Numerals.{add-one}
 use native.Mathlib.Omega.{arith}
@@ -131,17 +131,6 @@ pub record Comparing (old : List ℕ) (m : ℕ) (new : List ℕ) (n : ℕ) (i j 
   pub passed : Passed new n old m j i (take gained picks) (take lost (drop max_rows picks))
 
 module _ (old : List ℕ) (m : ℕ) (new : List ℕ) (n : ℕ) (hm : m ≤ max_rows) (hn : n ≤ max_rows) where
-  pub comparing_start : (picks : List ℕ) → length picks ≡ picks_size → Comparing old m new n 0 0 picks 0 0
-  comparing_start picks e =
-      record {
-        long = e;
-        old-few = zero-le;
-        new-few = zero-le;
-        lost-few = zero-le;
-        gained-few = zero-le;
-        passed = record { ours = picked_start new n old m; theirs = picked_start old m new n };
-      }
-
   module _ (i j : ℕ) (picks : List ℕ) (gained lost : ℕ) (c : Comparing old m new n i j picks gained lost) where
     module _ (h : j < n) where
       pub comparing_less : order_first (row_at stride new j) (rows_from stride old i (m - i)) ≡ Ordering.lt →

@@ -10,7 +10,8 @@ ghost use Rattle.model.specs.Areas.{stride};
 ghost use Rattle.rows.specs.Rows.{first_rows, words};
 ghost use Rattle.differences.specs.Differences.{chosen, picks_size, Compares, Within};
 
-use rows::{MAX_ROWS, Order, STRIDE};
+use rows::{MAX_ROWS, STRIDE};
+use std::cmp::Ordering;
 
 // How many rows a node gained and lost.
 #[derive(Clone, Copy)]
@@ -27,10 +28,8 @@ fn put_numbers(out: &mut [u8], at: usize, from: usize, count: usize)
     requires { (from + count ≤ max_rows) × (at + count ≤ length out.old) }
     ensures { out.new ≡ sets out.old at (count_from from count) }
 {
-    let mut k = 0;
-    while k < count {
+    for k in 0..count {
         out[at + k] = (from + k) as u8;
-        k += 1;
     }
 }
 
@@ -46,18 +45,19 @@ pub fn compare_places(old: &[u32], m: usize, new: &[u32], n: usize, picks: &mut 
     let mut lost = 0;
     let mut i = 0;
     let mut j = 0;
+    // Not a `for`: the outcome says which of the two indices moves on.
     while j < n {
         match merges::compare_first(new, j, old, m, i) {
-            Order::Less => {
+            Ordering::Less => {
                 picks[gained] = j as u8;
                 gained += 1;
                 j += 1;
             }
-            Order::Equal => {
+            Ordering::Equal => {
                 i += 1;
                 j += 1;
             }
-            Order::Greater => {
+            Ordering::Greater => {
                 picks[MAX_ROWS + lost] = i as u8;
                 lost += 1;
                 i += 1;
@@ -79,10 +79,8 @@ pub fn copy_picked(src: &[u32], picks: &[u8], from: usize, count: usize, dst: &m
     ensures { dst.new ≡ paste dst.old at
         (words (chosen src.now (take count (drop from picks.now)))) (count * stride) }
 {
-    let mut k = 0;
-    while k < count {
+    for k in 0..count {
         let row = picks[from + k] as usize;
         words::copy_run(src, row * STRIDE, dst, at + k * STRIDE, STRIDE);
-        k += 1;
     }
 }

@@ -10,8 +10,7 @@ ghost use Rattle.places.specs.Places.{Place, Blank, relation_in, Makes};
 
 use masks::Joining;
 use network::Slot;
-use nodes::{Node, SetOperation};
-use places::Made;
+use nodes::{Inputs, Node, SetOperation};
 
 // The width of the rows of a place, and how many there are.
 #[derive(Clone, Copy)]
@@ -20,14 +19,8 @@ pub struct Held {
     pub count: usize,
 }
 
-// A node's first and its last input.
-#[derive(Clone, Copy)]
-pub struct Inputs {
-    pub left: usize,
-    pub right: usize,
-}
-
-// The rows of a set operation on two places of one width, in an empty place: how many, or that they are more than 64.
+// The rows of a set operation on two places of one width, in an empty place: how many, or None where they are more than
+// 64.
 fn set_rows(
     operation: SetOperation,
     left: &[u32],
@@ -35,7 +28,7 @@ fn set_rows(
     right: &[u32],
     r: Held,
     out: &mut [u32],
-) -> Made
+) -> Option<usize>
     requires { Place l.width left.now l.count × Place l.width right.now r.count × Blank out.old }
     ensures { Makes
         (evaluate_set (operation_of operation) (relation_in l.width left.now l.count)
@@ -46,8 +39,8 @@ fn set_rows(
     let m = r.count;
     match operation {
         SetOperation::Union => unions::union_rows(left, n, right, m, out),
-        SetOperation::Difference => Made::Rows(sets::difference_rows(left, n, right, m, out)),
-        SetOperation::Intersection => Made::Rows(sets::intersect_rows(left, n, right, m, out)),
+        SetOperation::Difference => Some(sets::difference_rows(left, n, right, m, out)),
+        SetOperation::Intersection => Some(sets::intersect_rows(left, n, right, m, out)),
     }
 }
 
@@ -56,17 +49,20 @@ pub fn inputs_of(slot: Slot) -> Inputs
     ensures left { result.left ≡ left_of (slot_node slot) }
     ensures right { result.right ≡ right_of (slot_node slot) }
 {
-    let node = slot.node;
-    let parts = nodes::parts_of(node);
-    Inputs {
-        left: parts.left,
-        right: parts.right,
-    }
+    let parts = nodes::parts_of(slot.node);
+    parts.inputs.unwrap_or(Inputs { left: 0, right: 0 })
 }
 
-// A derived node's rows from those of its inputs, in an empty place: how many, or that they are more than 64. A table's
-// kind gives none.
-pub fn evaluate(slot: Slot, left: &[u32], l: Held, right: &[u32], r: Held, out: &mut [u32]) -> Made
+// A derived node's rows from those of its inputs, in an empty place: how many, or None where they are more than 64. A
+// table's kind gives none.
+pub fn evaluate(
+    slot: Slot,
+    left: &[u32],
+    l: Held,
+    right: &[u32],
+    r: Held,
+    out: &mut [u32],
+) -> Option<usize>
     requires { Shaped slot × Place l.width left.now l.count × Place r.width right.now r.count
         × (fits_on l.width r.width (slot_node slot) ≡ true) × Blank out.old }
     ensures { Makes
@@ -78,22 +74,27 @@ pub fn evaluate(slot: Slot, left: &[u32], l: Held, right: &[u32], r: Held, out: 
     let m = r.count;
     let node = slot.node;
     match node {
-        Node::Table { width: _ } => Made::Rows(0),
+        Node::Table { .. } => Some(0),
         Node::Select {
-            input: _,
             column,
-            comparison: code,
+            comparison,
             operand,
-        } => { Made::Rows(selections::select_rows(left, n, column, code, operand, out)) }
-        Node::Project {
-            input: _,
-            columns: c,
-        } => projections::project_rows(left, n, &slot.columns, c, out),
+            ..
+        } => {
+            let count = selections::select_rows(left, n, column, comparison, operand, out);
+            Some(count)
+        }
+        Node::Project { columns: c, .. } => projections::project_rows(
+            left,
+            n,
+            &slot.columns,
+            c,
+            out,
+        ),
         Node::Join {
-            left: _,
-            right: _,
             pairs: p,
             columns: c,
+            ..
         } => {
             let how = Joining {
                 split: l.width,
@@ -104,15 +105,9 @@ pub fn evaluate(slot: Slot, left: &[u32], l: Held, right: &[u32], r: Held, out: 
             };
             joins::join_rows(left, n, right, m, how, out)
         }
-        Node::Set {
-            operation,
-            left: _,
-            right: _,
-        } => set_rows(operation, left, l, right, r, out),
-        Node::NoMatch {
-            left: _,
-            right: _,
-            pairs: p,
-        } => { Made::Rows(unmatched::unmatched_rows(left, n, right, m, &slot.pairs, p, out)) }
+        Node::Set { operation, .. } => set_rows(operation, left, l, right, r, out),
+        Node::NoMatch { pairs: p, .. } => {
+            Some(unmatched::unmatched_rows(left, n, right, m, &slot.pairs, p, out))
+        }
     }
 }

@@ -10,16 +10,26 @@ use borrow.Author.Tests.{eq-eqb, ltb-true, ne_eqb, leb-false}
 use Rattle.network.specs.Reading.{Built, no_slot, nodes_of, slot_node}
 use Rattle.model.specs.Record.{Bytes, Verdict, accepted, field_at, first_broken, is_broken, kind_at, length_at, offsets, refused, rule}
 use Rattle.model.specs.Batch.{Event, event_at, event_fault, event_fault_by, event_fits, event_fits_by, is_event_kind, max_events, read_batch, read_events}
+use Rattle.records.specs.Actions.{action_number}
+use Rattle.records.specs.declared.Action.{Action}
+use Rattle.records.specs.declared.Action.TheVariants.{Put, Remove}
 use Rattle.records.proofs.Header.{Whole, whole}
 use Rattle.events.specs.Reading.{NumbersOf, ReadsEvent, is_table_in, number_of, size_of}
-use Rattle.events.specs.declared.EventRecord.{EventRecord}
-use Rattle.events.specs.declared.EventRecord.TheVariants.{Event as Brought, Broken, NoEvent, TooMany, Misfit}
+use Rattle.std.specs.Prelude.{Result, Ok, Err}
+use Rattle.verdicts.proofs.Numbers.{rule_some}
+use Rattle.verdicts.specs.declared.Rule.{Rule}
+use Rattle.verdicts.specs.declared.Rule.TheVariants.{BrokenEvent, UnknownEvent, TooManyEvents, WrongEvent}
 use Rattle.network.proofs.Nodes.{level_at, nodes-count, slot_node_lem, width_is}
 use Rattle.records.proofs.Offsets.{remaining, remaining_all, remaining_broken, remaining_none, remaining_whole}
 use Rattle.network.specs.declared.Network.{Network}
 use Rattle.model.specs.Network as model
 
 -- ---- one record
+
+-- each action's kind is one of events
+pub kind_known : (a : Action) → is_event_kind (action_number a) ≡ true
+kind_known Put = refl
+kind_known Remove = refl
 
 module _ (a b c d : Bool) where
   pub fits-first : a ≡ false → false ≡ (a && b && c && d)
@@ -39,25 +49,25 @@ module _ (count : ℕ) (ws ls : List ℕ) (before : ℕ) (bs : Bytes) (at : ℕ)
   abbrev pub event_kind : Bool
   event_kind = is_event_kind (kind_at bs at)
 
-  abbrev Reads : EventRecord → Type 0
+  abbrev Reads : Result ℕ Rule → Type 0
   Reads r = ReadsEvent count ws ls before bs at r
 
   abbrev Fits : Bool
   Fits = event_fits_by count (is_table_in ls) ws bs at
 
-  pub reads-broken : is_broken bs at ≡ true → Reads Broken
+  pub reads-broken : is_broken bs at ≡ true → Reads (Err BrokenEvent)
   reads-broken e = record { number = rw e; size = λ z. absurd (omega arith) }
 
-  pub reads_no_event : is_broken bs at ≡ false → event_kind ≡ false → Reads NoEvent
+  pub reads_no_event : is_broken bs at ≡ false → event_kind ≡ false → Reads (Err UnknownEvent)
   reads_no_event e f = record { number = rw (e, f); size = λ z. absurd (omega arith) }
 
-  pub reads_too_many : is_broken bs at ≡ false → event_kind ≡ true → leb max_events before ≡ true → Reads TooMany
+  pub reads_too_many : is_broken bs at ≡ false → event_kind ≡ true → leb max_events before ≡ true → Reads (Err TooManyEvents)
   reads_too_many e f g = record { number = rw (e, f, g); size = λ z. absurd (omega arith) }
 
-  pub reads_misfit : is_broken bs at ≡ false → event_kind ≡ true → leb max_events before ≡ false → Fits ≡ false → Reads Misfit
+  pub reads_misfit : is_broken bs at ≡ false → event_kind ≡ true → leb max_events before ≡ false → Fits ≡ false → Reads (Err WrongEvent)
   reads_misfit e f g h = record { number = rw (e, f, g, h); size = λ z. absurd (omega arith) }
 
-  pub reads_event : (n : ℕ) → is_broken bs at ≡ false → event_kind ≡ true → leb max_events before ≡ false → Fits ≡ true → n ≡ length_at bs at → Reads (Brought n)
+  pub reads_event : (n : ℕ) → is_broken bs at ≡ false → event_kind ≡ true → leb max_events before ≡ false → Fits ≡ true → n ≡ length_at bs at → Reads (Ok n)
   reads_event n e f g h i = record { number = rw (e, f, g, h); size = λ z. i }
 
 -- ---- the network's numbers are those of its nodes
@@ -98,26 +108,23 @@ module _ (net : Network) (b : Built net) (bs : Bytes) where
           both false q r s u = refl
 
   -- a reading by the arrays says what the rules say of the nodes
-  built-number : (before at : ℕ) (r : EventRecord) → ReadsEvent net.count net.widths net.levels before bs at r → number_of r ≡ event_fault (nodes_of net) before bs at
+  built-number : (before at : ℕ) (r : Result ℕ Rule) → ReadsEvent net.count net.widths net.levels before bs at r → number_of r ≡ event_fault (nodes_of net) before bs at
   unfolding event_fault
   built-number before at r e = e.number ∙ ap (λ (f : Bool). event_fault_by f before bs at) (fits-same at)
 
 -- the same of numbers that are a network's
-pub reads-number : {count : ℕ} {ws ls : List ℕ} (o : NumbersOf count ws ls) (bs : Bytes) (before at : ℕ) (r : EventRecord) → ReadsEvent count ws ls before bs at r →
+pub reads-number : {count : ℕ} {ws ls : List ℕ} (o : NumbersOf count ws ls) (bs : Bytes) (before at : ℕ) (r : Result ℕ Rule) → ReadsEvent count ws ls before bs at r →
     number_of r ≡ event_fault (nodes_of o.net) before bs at
 reads-number o bs before at r e =
     built-number o.net o.built bs before at r (rw (o.count_is, o.widths-are, o.levels-are) e)
 
-pub reads-size : (count : ℕ) (ws ls : List ℕ) (bs : Bytes) (before at : ℕ) (r : EventRecord) (n : ℕ) → ReadsEvent count ws ls before bs at r → r ≡ Brought n → n ≡ length_at bs at
+pub reads-size : (count : ℕ) (ws ls : List ℕ) (bs : Bytes) (before at : ℕ) (r : Result ℕ Rule) (n : ℕ) → ReadsEvent count ws ls before bs at r → r ≡ Ok n → n ≡ length_at bs at
 reads-size count ws ls bs before at r n e f = sym (ap size_of f) ∙ e.size (ap number_of f)
 
 -- what is no event has a number
-pub refused-number : (r : EventRecord) → ((n : ℕ) → r ≡ Brought n → ⊥) → number_of r ≡ 0 → ⊥
-refused-number (Brought n) k e = k n refl
-refused-number Broken k e = omega arith
-refused-number NoEvent k e = omega arith
-refused-number TooMany k e = omega arith
-refused-number Misfit k e = omega arith
+pub refused-number : (r : Result ℕ Rule) → ((n : ℕ) → r ≡ Ok n → ⊥) → number_of r ≡ 0 → ⊥
+refused-number (Ok n) k e = k n refl
+refused-number (Err rule) k e = omega (arith, rule_some rule)
 
 -- ---- what is known of a record without a fault
 
@@ -138,7 +145,7 @@ unfilled fits k bs at e = go (is_broken bs at) (is_event_kind (kind_at bs at)) (
     go false true true u f z = absurd (omega arith)
     go false true false u f z = omega (arith, leb-false max_events k f)
 
-module _ (count : ℕ) (ws ls : List ℕ) (before : ℕ) (bs : Bytes) (at : ℕ) (r : EventRecord) (n : ℕ) (e : ReadsEvent count ws ls before bs at r) (f : r ≡ Brought n) where
+module _ (count : ℕ) (ws ls : List ℕ) (before : ℕ) (bs : Bytes) (at : ℕ) (r : Result ℕ Rule) (n : ℕ) (e : ReadsEvent count ws ls before bs at r) (f : r ≡ Ok n) where
   faultless : event_fault_by (event_fits_by count (is_table_in ls) ws bs at) before bs at ≡ 0
   faultless = sym e.number ∙ ap number_of f
 

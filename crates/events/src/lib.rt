@@ -4,14 +4,14 @@
 
 ghost use Rattle.std.specs.Prelude.{◌≡◌, true, false, ◌+◌, ◌*◌, ◌≤◌, ◌<◌, length};
 ghost use Rattle.model.specs.Record.{is_broken};
-ghost use Rattle.model.specs.Batch.{is_event_kind, event_fits_by, read_batch};
+ghost use Rattle.model.specs.Batch.{event_fits_by, read_batch};
 ghost use Rattle.model.specs.Row.{max_nodes, Narrow};
 ghost use Rattle.network.specs.Reading.{nodes_of};
 ghost use Rattle.verdicts.specs.Verdicts.{verdict_of};
-ghost use Rattle.events.specs.Reading.{NumbersOf, is_table_in, ReadsEvent, number_of};
+ghost use Rattle.events.specs.Reading.{NumbersOf, is_table_in, ReadsEvent};
 
-use records::{MAX_EVENTS, PUT, REMOVE};
-use verdicts::Verdict;
+use records::{Action, MAX_EVENTS};
+use verdicts::{Rule, Verdict};
 
 // Whether a record of at least a header's length names a table and has its table's length: rule 13.
 fn event_fits(bytes: &[u8], at: usize, count: usize, widths: &[usize], levels: &[usize]) -> bool
@@ -35,27 +35,7 @@ fn event_fits(bytes: &[u8], at: usize, count: usize, widths: &[usize], levels: &
     size == 6 + 4 * widths[table]
 }
 
-// Whether a kind is one of events.
-fn is_event(kind: usize) -> bool
-    ensures { result ≡ is_event_kind kind }
-{
-    if kind == PUT {
-        return true;
-    }
-    kind == REMOVE
-}
-
-// What reading a batch's record gives: an event of so many bytes, or the first rule that it breaks.
-#[derive(Clone, Copy)]
-pub enum EventRecord {
-    Event(usize),
-    Broken,
-    NoEvent,
-    TooMany,
-    Misfit,
-}
-
-// The record at an offset, after so many events: rules 10 to 13 in order.
+// How long the event at an offset is, after so many events: rules 10 to 13 in order.
 fn read_event(
     bytes: &[u8],
     at: usize,
@@ -63,37 +43,22 @@ fn read_event(
     count: usize,
     widths: &[usize],
     levels: &[usize],
-) -> EventRecord
+) -> Result<usize, Rule>
     requires { (at < length bytes.now) × (count ≤ length widths.now) × (count ≤ length levels.now)
         × (count ≤ max_nodes) × Narrow widths.now }
     ensures { ReadsEvent count widths.now levels.now before bytes.now at result }
 {
     if records::is_broken(bytes, at) {
-        return EventRecord::Broken;
+        return Err(Rule::BrokenEvent);
     }
-    if !is_event(records::u16_at(bytes, at + 2)) {
-        return EventRecord::NoEvent;
-    }
+    Action::try_from(records::u16_at(bytes, at + 2))?;
     if MAX_EVENTS <= before {
-        return EventRecord::TooMany;
+        return Err(Rule::TooManyEvents);
     }
     if !event_fits(bytes, at, count, widths, levels) {
-        return EventRecord::Misfit;
+        return Err(Rule::WrongEvent);
     }
-    EventRecord::Event(records::u16_at(bytes, at))
-}
-
-// The number of an event's reading.
-fn number_of(reading: EventRecord) -> usize
-    ensures { result ≡ number_of reading }
-{
-    match reading {
-        EventRecord::Event(_) => 0,
-        EventRecord::Broken => 10,
-        EventRecord::NoEvent => 11,
-        EventRecord::TooMany => 12,
-        EventRecord::Misfit => 13,
-    }
+    Ok(records::u16_at(bytes, at))
 }
 
 // What reading a batch says, given a network's node count, widths and levels: refusals 10 to 13, the first record that
@@ -113,11 +78,12 @@ pub fn read_batch<'a>(
     while at < bytes.len() {
         let here = at;
         let reading = read_event(bytes, here, before, count, widths, levels);
-        let EventRecord::Event(size) = reading else {
-            return verdicts::refused(number_of(reading), here);
+        // The form that the order names for records, as in `read_network`.
+        let Ok(size) = reading else {
+            return Err(reading.unwrap_err().at(here));
         };
         before += 1;
         at = here + size;
     }
-    verdicts::accepted()
+    Ok(())
 }

@@ -12,7 +12,7 @@ use Rattle.laws.proofs.Sets.{ascending-holds}
 use Rattle.rows.specs.Rows.{first_rows}
 use Rattle.areas.specs.Lent.{place_at}
 use Rattle.places.specs.Places.{Fills, Makes, Place, relation_in}
-use Rattle.places.specs.declared.Made.{Made}
+use Rattle.std.specs.Prelude.{Option}
 use Rattle.places.proofs.Places.{place-ascending, place-few, place-wide, rows_ascend}
 use Rattle.places.proofs.Same.{fills_place}
 use Rattle.states.proofs.Changes.{less_wide}
@@ -51,7 +51,7 @@ module _ (w i : ℕ) (gained lost head pending : List ℕ) (o : Foldable w i gai
         f
 
     -- with the gained ones
-    pub folds : (out : List ℕ) (r : Made) →
+    pub folds : (out : List ℕ) (r : Option ℕ) →
         ((v : ℕ) → Place v kept n → Place v (place_at gained i) (gained_count head i) →
         Makes (union_rows (relation_in v kept n) (relation_in v (place_at gained i) (gained_count head i))) out r) →
         Makes (folded_words w i gained lost head pending) out r

@@ -1,3 +1,4 @@
+pub mod All
 pub mod Folded
 pub mod Ready
 pub mod Written

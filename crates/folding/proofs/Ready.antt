@@ -22,8 +22,8 @@ use Rattle.laws.proofs.Sets.{ascending-holds, and_first, and_second, insert_once
 use Rattle.laws.proofs.Alerts.{fold_none}
 use Rattle.areas.specs.Lent.{lent, place_at}
 use Rattle.places.specs.Places.{Makes, Place, relation_in}
-use Rattle.places.specs.declared.Made.{Made}
-use Rattle.places.specs.declared.Made.TheVariants.{Rows, Over}
+use Rattle.std.specs.Prelude.{Option, Some, None}
+use Rattle.std.specs.Option.{is_some}
 use Rattle.rows.proofs.Place.{length_held}
 use Rattle.places.proofs.Places.{place-count}
 use Rattle.states.specs.Fitting.{Fitting}
@@ -37,11 +37,9 @@ use Rattle.folding.proofs.Folded.{had_few, came-few}
 
 -- ---- what making the rows says of their number
 
-pub made_fits : (rel : Relation) (out : List ℕ) (r : Made) (m : ℕ) → r ≡ Rows m → Makes rel out r → true ≡ leb (length rel) max_rows
-made_fits rel out r m e f = let fills = rw e at f in sym (le-leb (length rel) max_rows (omega (arith, fills.count, fills.few)))
-
-pub over-fits-not : (rel : Relation) (out : List ℕ) (r : Made) → r ≡ Over → Makes rel out r → false ≡ leb (length rel) max_rows
-over-fits-not rel out r e f = let over = rw e at f in sym (lt-leb (length rel) max_rows over.0)
+pub made_fits : (rel : Relation) (out : List ℕ) (r : Option ℕ) → Makes rel out r → is_some r ≡ leb (length rel) max_rows
+made_fits rel out (Some m) fills = sym (le-leb (length rel) max_rows (omega (arith, fills.count, fills.few)))
+made_fits rel out None over = sym (lt-leb (length rel) max_rows over.0)
 
 -- ---- how many rows
 

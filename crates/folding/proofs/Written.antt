@@ -14,8 +14,7 @@ use Rattle.laws.proofs.Fits.{length-widths}
 use Rattle.laws.proofs.Alerts.{asc_fold, wide_fold}
 use Rattle.areas.specs.Lent.{place_at}
 use Rattle.places.specs.Places.{Fills, Makes, Place, relation_in}
-use Rattle.places.specs.declared.Made.{Made}
-use Rattle.places.specs.declared.Made.TheVariants.{Rows, Over}
+use Rattle.std.specs.Prelude.{Option, Some, None}
 use Rattle.places.proofs.Places.{place-wide}
 use Rattle.places.proofs.Same.{fills_place}
 use Rattle.states.proofs.Pending.{pending_own}
@@ -54,12 +53,12 @@ module _ (net : Network) (gained lost head pending : List ℕ) (o : Ready net ga
       (record { gained = relation_in w (place_at gained i) (gained_count head i); lost = relation_in w (place_at lost i) (lost_count head i) })
       (place-wide w (place_at pending i) (pending_count layout pending i) ready.pending_at) (place-wide w (place_at gained i) (gained_count head i) ready.gained_at)
 
-  module _ (signs : List ℕ) (s : Signed net signs) (e : is_touched (get_or signs i 0) head i ≡ true) (out : List ℕ) (r : Made) (made : Makes folded out r) where
+  module _ (signs : List ℕ) (s : Signed net signs) (e : is_touched (get_or signs i 0) head i ≡ true) (out : List ℕ) (r : Option ℕ) (made : Makes folded out r) where
     -- the rows that were made
-    made_fills : (m : ℕ) → r ≡ Rows m → Fills folded out m
+    made_fills : (m : ℕ) → r ≡ Some m → Fills folded out m
     made_fills m f = rw f at made
 
-    pub made_place : (m : ℕ) → r ≡ Rows m → Place w out m × (relation_in w out m ≡ folded)
+    pub made_place : (m : ℕ) → r ≡ Some m → Place w out m × (relation_in w out m ≡ folded)
     made_place m f =
         fills_place w folded out m ready.pending_at.narrow folded_wide
         (asc_fold (relation_in w (place_at pending i) (pending_count layout pending i))
@@ -67,7 +66,7 @@ module _ (net : Network) (gained lost head pending : List ℕ) (o : Ready net ga
         (made_fills m f)
 
     -- written over those that were pending, with their count
-    pub write_some : (m : ℕ) → r ≡ Rows m → (after : List ℕ) →
+    pub write_some : (m : ℕ) → r ≡ Some m → (after : List ℕ) →
         ((v : ℕ) → Place v out m → Place v (place_at pending i) (pending_count layout pending i) → after ≡ pending_with pending i (relation_in v out m)) →
         after ≡ with_node net gained lost head pending i
     write_some m f after p =
@@ -78,7 +77,7 @@ module _ (net : Network) (gained lost head pending : List ℕ) (o : Ready net ga
         (sym (folded_is net gained lost head pending o i h (touched_alerts net gained lost head pending o i h signs s e)))
 
     -- rows that fit are not too many
-    pub write_fits : r ≡ Over → length (folded_at net gained lost head pending i) ≤ max_rows → ⊥
+    pub write_fits : r ≡ None → length (folded_at net gained lost head pending i) ≤ max_rows → ⊥
     write_fits f fit =
         let over : (max_rows < length folded) × (length out ≡ place_size) = rw f at made in
         let is : folded_at net gained lost head pending i ≡ folded = folded_is net gained lost head pending o i h (touched_alerts net gained lost head pending o i h signs s e) in

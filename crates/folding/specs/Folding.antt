@@ -1,5 +1,5 @@
 -- Folding: what it reads, and what it makes of a node.
-use Rattle.std.specs.Prelude.{◌≡◌, Bool, true, not, ◌&&◌, List, [], ℕ, ◌≤◌, ◌<◌, eqb, get_or, length, set}
+use Rattle.std.specs.Prelude.{◌≡◌, Bool, true, not, ◌&&◌, List, [], ℕ, ◌≤◌, ◌<◌, eqb, get_or, length, set, Result}
 use Rattle.model.specs.Row.{Relation, Narrow, max_nodes, max_rows}
 use Rattle.model.specs.Network.{Node, Network, widths, sign_of}
 use Rattle.model.specs.Delta.{Change}
@@ -7,14 +7,14 @@ use Rattle.model.specs.Areas.{layout, area_size, head_words, gained_count, lost_
 use Rattle.model.specs.Watched.{allows, was_gained}
 use Rattle.model.specs.Pending.{pending_size, pending_count, pending_in, pending_of, good_pending, fold_rows, fold_node}
 use Rattle.model.specs.Calls.{FoldAnswer}
-use Rattle.verdicts.specs.declared.Verdict.{Verdict}
+use Rattle.verdicts.specs.declared.Refusal.{Refusal}
 use Rattle.verdicts.specs.Verdicts.{verdict_of}
 use Rattle.areas.specs.Lent.{lent, place_at}
 use Rattle.places.specs.Places.{Place, relation_in}
 
 -- what folding answers and leaves, in the model's terms
-abbrev pub fold_answer_of : Verdict → List ℕ → FoldAnswer
-fold_answer_of v pending = record { verdict = verdict_of v; pending = pending }
+abbrev pub fold_answer_of : Result (Unit {0}) Refusal → List ℕ → FoldAnswer
+fold_answer_of r pending = record { verdict = verdict_of r; pending = pending }
 
 -- ---- one node
 

@@ -17,26 +17,19 @@ ghost use Rattle.folding.specs.Folding.{FitTo, Signed, Changed, fold_answer_of};
 use areas::{GAINED_COUNTS, LOST_COUNTS, PLACE};
 use network::Network;
 use pending::COUNTS;
-use places::Made;
 use rows::MAX_ROWS;
-use verdicts::Verdict;
+use verdicts::{Rule, Verdict};
 
 // Whether folding touches node i: it alerts, and has gained or lost rows.
 fn is_touched(i: usize, signs: &[u8], head: &[u32]) -> bool
     requires { (i < max_nodes) × (length signs.now ≡ max_nodes) × (head_words ≤ length head.now) }
     ensures { result ≡ is_touched (get_or signs.now i 0) head.now i }
 {
-    if !pending::alerts(signs[i]) {
-        return false;
-    }
-    if head[GAINED_COUNTS + i] != 0 {
-        return true;
-    }
-    head[LOST_COUNTS + i] != 0
+    pending::alerts(signs[i]) && (head[GAINED_COUNTS + i] != 0 || head[LOST_COUNTS + i] != 0)
 }
 
-// Node i's pending rows without its lost rows and with its gained ones, in an empty place: how many, or that they are
-// more than 64.
+// Node i's pending rows without its lost rows and with its gained ones, in an empty place: how many, or None where they
+// are more than 64.
 fn fold_node(
     i: usize,
     gained: &[u32],
@@ -44,7 +37,7 @@ fn fold_node(
     head: &[u32],
     pending: &[u32],
     out: &mut [u32],
-) -> Made
+) -> Option<usize>
     requires { ((w : ℕ) × Foldable w i gained.now lost.now head.now pending.now) × Blank out.old }
     ensures { (w : ℕ) →
         Foldable w i gained.now lost.now head.now pending.now →
@@ -83,10 +76,7 @@ fn node_fits(i: usize, gained: &[u32], lost: &[u32], head: &[u32], pending: &[u3
         return true;
     }
     let mut out = [0u32; PLACE];
-    match fold_node(i, gained, lost, head, pending, &mut out) {
-        Made::Rows(_) => true,
-        Made::Over => false,
-    }
+    fold_node(i, gained, lost, head, pending, &mut out).is_some()
 }
 
 // Whether every one of n nodes has at most 64 pending rows once it is folded.
@@ -100,14 +90,7 @@ fn all_fit(n: usize, gained: &[u32], lost: &[u32], head: &[u32], pending: &[u32]
         (fold_all net (changes_held net.nodes gained.now lost.now head.now)
         (pending_in layout net pending.now)) }
 {
-    let mut i = 0;
-    while i < n {
-        if !node_fits(i, gained, lost, head, pending) {
-            return false;
-        }
-        i += 1;
-    }
-    true
+    (0..n).all(|i| node_fits(i, gained, lost, head, pending))
 }
 
 // Node i's folded rows, which fit, written over its pending ones.
@@ -134,9 +117,8 @@ fn write_node(
         return;
     }
     let mut out = [0u32; PLACE];
-    match fold_node(i, gained, lost, head, pending, &mut out) {
-        Made::Rows(count) => pending::put_rows(&out, count, pending, i),
-        Made::Over => {}
+    if let Some(count) = fold_node(i, gained, lost, head, pending, &mut out) {
+        pending::put_rows(&out, count, pending, i);
     }
 }
 
@@ -160,10 +142,8 @@ fn write_nodes(
         (fold_all net (changes_held net.nodes gained.now lost.now head.now)
         (pending_in layout net pending.old))) pending.old }
 {
-    let mut i = 0;
-    while i < n {
+    for i in 0..n {
         write_node(i, signs, gained, lost, head, pending);
-        i += 1;
     }
 }
 
@@ -184,14 +164,13 @@ fn fold_in(
     let n = network.count;
     let widths = network.widths;
     let signs = network.signs;
-    if !pending::good_pending(&widths, n, &signs, pending) {
-        return verdicts::refused(17, 0);
-    }
-    if !all_fit(n, gained, lost, head, pending) {
-        return verdicts::refused(17, 0);
+    if !pending::good_pending(&widths, n, &signs, pending)
+        || !all_fit(n, gained, lost, head, pending)
+    {
+        return Err(Rule::BadPending.at(0));
     }
     write_nodes(n, &signs, gained, lost, head, pending);
-    verdicts::accepted()
+    Ok(())
 }
 
 // Folds the gained and lost rows of nodes watched with sign 1 or 3 into the pending area: refusals 1 to 8 and 17. A
@@ -209,10 +188,6 @@ pub fn fold(
         (lent rows.now gained.now lost.now head.now)
         pending.old }
 {
-    let reading = admission::read_areas(net, rows, gained, lost, head);
-    let verdict = reading.verdict;
-    if verdict.number != 0 {
-        return verdict;
-    }
-    fold_in(reading.network, gained, lost, head, pending)
+    let network = admission::read_areas(net, rows, gained, lost, head)?;
+    fold_in(network, gained, lost, head, pending)
 }

@@ -3,11 +3,11 @@ use mathlib.Core.Path.{◌≡◌, sym, ap, ap₂, ◌∙◌}
 use mathlib.Core.List.{List, [], ◌∷◌, ◌++◌, append_assoc, append-nil}
 use Prim.Native.Nat.{ℕ, zero, suc, ◌+◌, ◌-◌, ◌*◌, ◌≤◌, ◌<◌}
 use native.Mathlib.Nat.{suc-mul, zero-mul, suc-add, mul-le-mul_right}
-use native.Mathlib.Numerals.{add-one}
 use native.Mathlib.Omega.{arith}
 use lib.ListN.{length-drop, replicate, length-replicate, length, get_or, set, take, drop, length-append, take-append-drop, get_or-append}
-use lib.Seq.{paste, take_all, drop-append-le, get_or-append-add, get_or-drop, take-take, length-slice, take-append-le, slice, slice_empty, slice-cons, take-suc, get_or-take}
-use lib.Seq.{append_snoc, set_at, sets, sets-eq, drop-drop, length-take-le, drop-cons, take_at, drop_at}
+use lib.Seq.{paste, take_all, take-take, length-slice, take-append-le, slice, slice_empty, slice-cons, take-suc, get_or-take}
+use lib.Seq.{append_snoc, set_at, sets, sets-eq, drop-drop, length-take-le, take_at, drop_at}
+use Rattle.std.proofs.lemmas.List.{drop-take}
 use Rattle.model.specs.Row.{Row}
 use Rattle.model.specs.Areas.{fields}
 use Rattle.rows.specs.Rows.{row_at, rows_from, words, stored}
@@ -37,6 +37,13 @@ gap_turn b k to s t p h f e =
     let q : k ≡ suc (k - 1) = omega arith in
     let e' : t ≡ gap b (suc (k - 1)) to s = e ∙ ap (λ (n : ℕ). gap b n to s) q in
     ap (λ (l : List ℕ). set l (k - 1 + b) (get_or l (k - 1) 0)) e' ∙ gap_step b (k - 1) to s (omega arith) f
+
+-- words moved within a list, with the index behind their new place
+pub moved_within : (s : List ℕ) (at from to end : ℕ) → from ≤ to → at + (to - from) ≡ end → paste s at (drop from s) (to - from) ≡ take at s ++ (slice from to s ++ drop end s)
+moved_within s at from to end h f =
+    let e : from + (to - from) ≡ to = omega arith in
+    let part : take (to - from) (drop from s) ≡ slice from to s = sym (drop-take from (to - from) s) ∙ ap (λ (n : ℕ). drop from (take n s)) e in
+    rw (part, f) (append_assoc (take at s) (slice from to s) (drop end s))
 
 -- ---- a row put in at a place
 
@@ -78,9 +85,6 @@ module _ (w : ℕ) (r : Row) (s : List ℕ) (n p : ℕ) (wide : length r ≡ w) 
 abbrev pub shut : ℕ → ℕ → ℕ → List ℕ → List ℕ
 shut b from k s = take from s ++ (slice (from + b) (k + b) s ++ drop k s)
 
-pub slice_snoc : (f t : ℕ) (l : List ℕ) → f ≤ t → t < length l → slice f (suc t) l ≡ slice f t l ++ (get_or l t 0 ∷ [])
-slice_snoc f t l h g = ap (drop f) (take-suc l t 0 g) ∙ drop-append-le f (take t l) (get_or l t 0 ∷ []) (rw (length-take-le t l (omega arith)) h)
-
 module _ (b from : ℕ) (s : List ℕ) where
   head-part : ℕ → List ℕ
   head-part k = take from s ++ slice (from + b) (k + b) s
@@ -92,25 +96,6 @@ module _ (b from : ℕ) (s : List ℕ) where
   shut_split : (k : ℕ) → shut b from k s ≡ head-part k ++ drop k s
   unfolding head-part
   shut_split k = sym (append_assoc (take from s) (slice (from + b) (k + b) s) (drop k s))
-
-  pub shut_none : s ≡ shut b from from s
-  shut_none = sym (rw (slice_empty (from + b) s) (take-append-drop from s))
-
-  pub shut_turn : (k : ℕ) (t : List ℕ) → from ≤ k → k + b < length s → t ≡ shut b from k s → set t k (get_or t (k + b) 0) ≡ shut b from (k + 1) s
-  unfolding head-part
-  shut_turn k t h g e =
-      let p : List ℕ = head-part k in
-      let lp : length p ≡ k = head-length k h (omega arith) in
-      let t-is : t ≡ p ++ drop k s = e ∙ shut_split k in
-      let v : get_or t (k + b) 0 ≡ get_or s (k + b) 0 = ap (λ (l : List ℕ). get_or l (k + b) 0) t-is ∙ ap (λ (n : ℕ). get_or (p ++ drop k s) (n + b) 0) (sym lp) ∙ get_or-append-add p (drop k s) b 0
-      ∙ get_or-drop k s b 0 in
-      let x : ℕ = get_or s (k + b) 0 in
-      let step : slice (from + b) (k + 1 + b) s ≡ slice (from + b) (k + b) s ++ (x ∷ []) =
-      let n : k + 1 + b ≡ suc (k + b) = omega arith in rw n (slice_snoc (from + b) (k + b) s (omega arith) g) in
-      ap₂ (λ (l : List ℕ) (y : ℕ). set l k y) (t-is ∙ ap (λ (l : List ℕ). p ++ l) (drop-cons s k 0 (omega arith))) v
-      ∙ set_at p (get_or s k 0) (drop (suc k) s) x k lp
-      ∙ rw (step, add-one) (append_assoc (take from s) (slice (from + b) (k + b) s) (x ∷ drop (suc k) s)
-      ∙ ap (λ (l : List ℕ). take from s ++ l) (sym (append_snoc (slice (from + b) (k + b) s) x (drop (suc k) s))))
 
   pub shut_clear : (to : ℕ) → from + b ≤ to → to ≤ length s → sets (shut b from (to - b) s) (to - b) (replicate b 0) ≡ take from s ++ (slice (from + b) to s ++ (replicate b 0 ++ drop to s))
   unfolding head-part

@@ -8,10 +8,10 @@ use native.Mathlib.Omega.{arith}
 use Rattle.model.specs.Row.{Row, order, ascending}
 use Rattle.laws.proofs.Sets.{Above, Ascending, ascending-holds, ascending_true}
 use Rattle.rows.specs.Rows.{row_at, rows_from, first_rows, locate, locate_by}
-use Rattle.rows.specs.declared.Found.TheVariants.{Missing}
+use Rattle.std.specs.Prelude.{Err}
 
 -- a row belongs at the start of no rows
-pub none_located : (r : Row) (s : List ℕ) → Missing 0 ≡ locate r (first_rows s 0)
+pub none_located : (r : Row) (s : List ℕ) → Err 0 ≡ locate r (first_rows s 0)
 unfolding rows_from
 none_located r s = refl
 

@@ -10,7 +10,7 @@ use lib.ListN.{length, replicate, drop, length-append, replicate-append-replicat
 use lib.Seq.{drop_at}
 use borrow.Author.Tests.{leb-false, leb-true}
 use Rattle.laws.proofs.Sets.{Ascending, insert_more, insert_new, insert_present, delete_absent, delete_present}
-use Rattle.insertions.specs.declared.Inserted.TheVariants.{Full, New, Present}
+use Rattle.std.specs.Prelude.{None, Some}
 use Rattle.rows.specs.Rows.{Standing, stored, words}
 use Rattle.insertions.specs.Insertions.{Inserts, insert_answer, Removes}
 use Rattle.model.specs.Row.{Wide, Row, insert_row, member, delete_row, same_row}
@@ -18,23 +18,23 @@ use Rattle.model.specs.Areas.{stride}
 use Rattle.rows.proofs.Words.{length-words, stored-stored, drop_zeros, words_append}
 use Rattle.laws.proofs.Widths.{wide_insert, wide-keep}
 
-new-says : (t u : Bool) → New ≡ cond t Present (cond u Full New) → (t ≡ false) × (u ≡ false)
-new-says true u e = let z : ◌≡◌ {A = ℕ} 0 1 = cc in absurd (omega arith)
-new-says false true e = let z : ◌≡◌ {A = ℕ} 0 1 = cc in absurd (omega arith)
+new-says : (t u : Bool) → Some true ≡ cond t (Some false) (cond u None (Some true)) → (t ≡ false) × (u ≡ false)
+new-says true u e = absurd cc
+new-says false true e = absurd cc
 new-says false false e = (refl, refl)
 
-present_says : (t u : Bool) → Present ≡ cond t Present (cond u Full New) → t ≡ true
+present_says : (t u : Bool) → Some false ≡ cond t (Some false) (cond u None (Some true)) → t ≡ true
 present_says true u e = refl
-present_says false true e = let z : ◌≡◌ {A = ℕ} 0 1 = cc in absurd (omega arith)
-present_says false false e = let z : ◌≡◌ {A = ℕ} 0 1 = cc in absurd (omega arith)
+present_says false true e = absurd cc
+present_says false false e = absurd cc
 
-full_says : (t u : Bool) → Full ≡ cond t Present (cond u Full New) → (t ≡ false) × (u ≡ true)
-full_says true u e = let z : ◌≡◌ {A = ℕ} 0 1 = cc in absurd (omega arith)
+full_says : (t u : Bool) → None ≡ cond t (Some false) (cond u None (Some true)) → (t ≡ false) × (u ≡ true)
+full_says true u e = absurd cc
 full_says false true e = (refl, refl)
-full_says false false e = let z : ◌≡◌ {A = ℕ} 0 1 = cc in absurd (omega arith)
+full_says false false e = absurd cc
 
 module _ (most size : ℕ) (r : Row) (l : List Row) (before after : List ℕ) (n : ℕ) (s : Standing most size l before n) where
-  pub put-new : length r ≡ stride → Wide stride l → Inserts most r l before after New → Standing most size (insert_row r l) after (n + 1)
+  pub put-new : length r ≡ stride → Wide stride l → Inserts most r l before after (Some true) → Standing most size (insert_row r l) after (n + 1)
   unfolding insert_answer
   put-new lr wide i =
       let says : (member r l ≡ false) × (leb most (length l) ≡ false) = new-says (member r l) (leb most (length l)) i.says in
@@ -48,13 +48,13 @@ module _ (most size : ℕ) (r : Row) (l : List Row) (before after : List ℕ) (n
         is = i.leaves ∙ ap (stored (insert_row r l)) s.is ∙ stored-stored l (insert_row r l) (replicate size 0) more;
       }
 
-  pub put_present : Ascending l → Inserts most r l before after Present → Standing most size (insert_row r l) after n
+  pub put_present : Ascending l → Inserts most r l before after (Some false) → Standing most size (insert_row r l) after n
   unfolding insert_answer
   put_present asc i =
       let same : insert_row r l ≡ l = insert_present r l asc (present_says (member r l) (leb most (length l)) i.says) in
       record { count = s.count ∙ ap length (sym same); few = s.few; is = i.leaves ∙ s.is ∙ ap (λ (k : List Row). stored k (replicate size 0)) (sym same) }
 
-  pub put_full : Inserts most r l before after Full → (most < length (insert_row r l)) × (after ≡ before)
+  pub put_full : Inserts most r l before after None → (most < length (insert_row r l)) × (after ≡ before)
   unfolding insert_answer
   put_full i =
       let says : (member r l ≡ false) × (leb most (length l) ≡ true) = full_says (member r l) (leb most (length l)) i.says in

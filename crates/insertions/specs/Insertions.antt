@@ -1,20 +1,19 @@
 -- A row put in and a row taken out: what the functions of this crate answer and leave.
 use Rattle.std.specs.Prelude.{◌≡◌, Bool, true, false, cond, List, [], ◌∷◌, ◌++◌, ℕ, leb, length, replicate}
+use Rattle.std.specs.Prelude.{Option, None, Some}
 use Rattle.model.specs.Row.{Row, member, insert_row, delete_row}
 use Rattle.model.specs.Areas.{stride}
 use Rattle.rows.specs.Rows.{stored}
-use Rattle.insertions.specs.declared.Inserted.{Inserted}
-use Rattle.insertions.specs.declared.Inserted.TheVariants.{New, Present, Full}
 
--- what inserting says: the row is there already, or there are as many rows as there may be, or it is new
-unfoldable pub insert_answer : ℕ → Row → List Row → Inserted
-insert_answer capacity r l = cond (member r l) Present (cond (leb capacity (length l)) Full New)
+-- what inserting says: whether the row is new, or none where it is missing and there are as many rows as there may be
+unfoldable pub insert_answer : ℕ → Row → List Row → Option Bool
+insert_answer capacity r l = cond (member r l) (Some false) (cond (leb capacity (length l)) None (Some true))
 
 -- the words after it
-abbrev pub insert_words : Inserted → Row → List Row → List ℕ → List ℕ
-insert_words New r l s = stored (insert_row r l) s
-insert_words Present r l s = s
-insert_words Full r l s = s
+abbrev pub insert_words : Option Bool → Row → List Row → List ℕ → List ℕ
+insert_words (Some true) r l s = stored (insert_row r l) s
+insert_words (Some false) r l s = s
+insert_words None r l s = s
 
 -- the words after removing: the rows that are left, and zeros in the place that became unused
 abbrev pub remove_words : Bool → Row → List Row → List ℕ → List ℕ
@@ -22,7 +21,7 @@ remove_words true r l s = stored (delete_row r l ++ (replicate stride 0 ∷ []))
 remove_words false r l s = s
 
 -- inserting, with its answer and the words it leaves
-pub record Inserts (capacity : ℕ) (r : Row) (l : List Row) (before after : List ℕ) (answer : Inserted) : Type 0 where
+pub record Inserts (capacity : ℕ) (r : Row) (l : List Row) (before after : List ℕ) (answer : Option Bool) : Type 0 where
   pub says : answer ≡ insert_answer capacity r l
   pub leaves : after ≡ insert_words answer r l before
 

@@ -17,7 +17,7 @@ use Rattle.rows.proofs.Padding.{field_padded, keep-padded}
 use Rattle.keys.proofs.Keys.{agree-padded}
 use Rattle.nodes.specs.Nodes.{pairs_of}
 use Rattle.places.specs.Places.{relation_in, Place, Stored, Makes, insert_all}
-use Rattle.places.specs.declared.Made.{Made}
+use Rattle.std.specs.Prelude.{Option}
 use Rattle.places.proofs.Places.{place-rows, place-wide}
 use Rattle.places.proofs.Puts.{put_up_to, made_is, made_wide, model_makes}
 use Rattle.columns.specs.Columns.{joined_field, joined_row}
@@ -114,7 +114,7 @@ module _ (how : Joining) (w : ℕ) (left : List ℕ) (n : ℕ) (right : List ℕ
       made_wide (joined_with how (first_rows right m)) (join_one (pairs_of how.p how.pairs) (take how.n how.columns) (relation_in w right m)) how.split
       (length (take how.n how.columns)) left n pl one_padded one_wide
 
-  pub join_makes : JoinFits how → (out : List ℕ) (made : Made) → Stored (joined_rows how (first_rows left n) (first_rows right m)) out made →
+  pub join_makes : JoinFits how → (out : List ℕ) (made : Option ℕ) → Stored (joined_rows how (first_rows left n) (first_rows right m)) out made →
       Makes (join_rows (pairs_of how.p how.pairs) (take how.n how.columns) (relation_in how.split left n) (relation_in w right m)) out made
   join_makes fits =
       model_makes (joined_rows how (first_rows left n) (first_rows right m))

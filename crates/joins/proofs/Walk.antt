@@ -12,8 +12,7 @@ use Rattle.laws.proofs.Sets.{Ascending}
 use Rattle.rows.specs.Rows.{first_rows, row_at}
 use Rattle.nodes.specs.Nodes.{pairs_of}
 use Rattle.places.specs.Places.{Stands, Stored, insert_all}
-use Rattle.places.specs.declared.Made.{Made}
-use Rattle.places.specs.declared.Made.TheVariants.{Rows, Over}
+use Rattle.std.specs.Prelude.{Option, Some, None}
 use Rattle.places.proofs.Puts.{put_exceeds, put_none, put_ready, put-size, put-stands, put_start, put-turn, put_up_to}
 use Rattle.columns.specs.Columns.{joined_row}
 use Rattle.columns.proofs.Rows.{joined_length, row_made}
@@ -95,7 +94,7 @@ module _ (how : Joining) (fits : JoinFits how) (l : Row) (key : ℕ) (own : Keye
         (put_none (joined_if how l) base right m (wide_joined how fits l) wide asc at out rows (other_key at inside d) w.stands)
 
     -- the row that one with the key makes, put in
-    module _ (agrees : get_or keys at 0 ≡ key) (row : Row) (is : row ≡ joined_row how.split (take how.n how.columns) l (row_at stride right at)) (after : List ℕ) (made : Made)
+    module _ (agrees : get_or keys at 0 ≡ key) (row : Row) (is : row ≡ joined_row how.split (take how.n how.columns) l (row_at stride right at)) (after : List ℕ) (made : Option ℕ)
         (put : Stored (insert_row (row_at stride row 0) (first_rows out rows)) after made) where
       brought : Stored (insert_all (joined_if how l (row_at stride right at)) (first_rows out rows)) after made
       brought =
@@ -104,12 +103,12 @@ module _ (how : Joining) (fits : JoinFits how) (l : Row) (key : ℕ) (own : Keye
           rw (key_agrees (pairs_of how.p how.pairs) l key own right m keys keyed at inside agrees)
           (rw (row_made row (joined_row how.split columns l r) is (joined_length how.split columns l r (few_given how fits))) at put)
 
-      pub walk_puts : (more : ℕ) → made ≡ Rows more → Walked how l key right m keys base (get_or next at 0) after more
+      pub walk_puts : (more : ℕ) → made ≡ Some more → Walked how l key right m keys base (get_or next at 0) after more
       walk_puts more q =
           stepped (at + 1) (get_or next at 0) after more (omega (arith, inside)) link
           (put-stands (joined_if how l) base right m (wide_joined how fits l) wide asc at out after rows more made q w.stands brought).1
 
-      pub walk_exceeds : made ≡ Over → (max_rows < length (insert_all (joined_with how (first_rows right m) l) base)) × (length after ≡ place_size)
+      pub walk_exceeds : made ≡ None → (max_rows < length (insert_all (joined_with how (first_rows right m) l) base)) × (length after ≡ place_size)
       walk_exceeds q =
           rw (← joined_from how fits l base right m) (put_exceeds (joined_if how l) base right m (wide_joined how fits l) wide asc at out after rows made q inside w.stands brought)
 

@@ -15,7 +15,6 @@ ghost use Rattle.keys.specs.Chains.{Chained};
 ghost use Rattle.joins.specs.Joins.{joined_with, joined_rows, JoinsIn};
 
 use masks::Joining;
-use places::Made;
 use rows::{MAX_ROWS, STRIDE};
 
 // Row i of the left place with each right row that agrees, which are those with its key, put among the rows of a place:
@@ -31,7 +30,7 @@ fn join_row(
     next: &[u8; MAX_ROWS],
     out: &mut [u32],
     count: usize,
-) -> Made
+) -> Option<usize>
     requires { (i * stride + stride ≤ length left.now) × (m * stride ≤ length right.now) × JoinFits how
         × Stands (first_rows out.old count) out.old count × (ascending (first_rows out.old count) ≡ true)
         × (length out.old ≡ place_size) × (m ≤ max_rows)
@@ -46,22 +45,27 @@ fn join_row(
     let mut rows = count;
     let slot = keys::slot_of(key);
     let mut at = heads[slot] as usize;
+    // Not a `for`: it follows a chain.
     while at < m {
         let j = at;
         at = next[j] as usize;
         if keys[j] == key {
             let row = columns::columns_row(left, i, right, j, how.split, &how.columns, how.n);
-            let Made::Rows(more) = places::put_row(out, rows, &row, 0) else {
-                return Made::Over;
-            };
-            rows = more;
+            rows = places::put_row(out, rows, &row, 0)?;
         }
     }
-    Made::Rows(rows)
+    Some(rows)
 }
 
-// The rows that all left and right rows make, in an empty place: how many, or that they are more than 64.
-fn join_all(left: &[u32], n: usize, right: &[u32], m: usize, how: Joining, out: &mut [u32]) -> Made
+// The rows that all left and right rows make, in an empty place: how many, or None where they are more than 64.
+fn join_all(
+    left: &[u32],
+    n: usize,
+    right: &[u32],
+    m: usize,
+    how: Joining,
+    out: &mut [u32],
+) -> Option<usize>
     requires { (n * stride ≤ length left.now) × (m * stride ≤ length right.now) × JoinFits how
         × Blank out.old × (m ≤ max_rows) }
     ensures { Stored (joined_rows how (first_rows left.now n) (first_rows right.now m))
@@ -72,16 +76,10 @@ fn join_all(left: &[u32], n: usize, right: &[u32], m: usize, how: Joining, out: 
     let mut next = [0u8; MAX_ROWS];
     keys::chain_keys(&keys, m, &mut heads, &mut next);
     let mut count = 0;
-    let mut i = 0;
-    while i < n {
-        let Made::Rows(more) = join_row(left, i, right, m, how, &keys, &heads, &next, out, count)
-        else {
-            return Made::Over;
-        };
-        count = more;
-        i += 1;
+    for i in 0..n {
+        count = join_row(left, i, right, m, how, &keys, &heads, &next, out, count)?;
     }
-    Made::Rows(count)
+    Some(count)
 }
 
 // The same, with the right rows masked if that brings anything.
@@ -92,7 +90,7 @@ fn join_masked(
     m: usize,
     how: Joining,
     out: &mut [u32],
-) -> Made
+) -> Option<usize>
     requires { (n * stride ≤ length left.now) × (m * stride ≤ length right.now) × JoinFits how
         × Blank out.old × (m ≤ max_rows) }
     ensures { Stored (joined_rows how (first_rows left.now n) (first_rows right.now m))
@@ -110,7 +108,7 @@ fn join_masked(
     join_all(left, n, &masked, k, how, out)
 }
 
-// The rows of a join, in an empty place: how many, or that they are more than 64.
+// The rows of a join, in an empty place: how many, or None where they are more than 64.
 pub fn join_rows(
     left: &[u32],
     n: usize,
@@ -118,7 +116,7 @@ pub fn join_rows(
     m: usize,
     how: Joining,
     out: &mut [u32],
-) -> Made
+) -> Option<usize>
     requires { (n * stride ≤ length left.now) × (m * stride ≤ length right.now) × JoinFits how
         × Blank out.old × (m ≤ max_rows) }
     ensures { (w : ℕ) → Place how.split left.now n → Place w right.now m →
@@ -126,6 +124,7 @@ pub fn join_rows(
         Makes (join_rows (pairs_of how.p how.pairs) (take how.n how.columns)
         (relation_in how.split left.now n) (relation_in w right.now m)) out.new result }
 {
+    // `|`: one test in place of two.
     if (m <= 1) | (MAX_ROWS < n) {
         return join_masked(left, n, right, m, how, out);
     }

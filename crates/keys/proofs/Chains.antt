@@ -103,9 +103,6 @@ module _ (keys : List ℕ) (n : ℕ) where
     pub head_at : (s : ℕ) → s < max_rows → get_or heads s 0 ≡ key_in keys n i s
     head_at s h = ap (λ (l : List ℕ). get_or l s 0) c.first ∙ counted_in max_rows (key_in keys n i) s h
 
-    pub head_most : (s : ℕ) → s < max_rows → i ≤ n → get_or heads s 0 ≤ n
-    head_most s h g = rw (head_at s h) (omega (arith, first_most (in_slot keys s) i (n - i)))
-
     pub link_at : (j : ℕ) → n ≤ max_rows → i ≤ j → j < n → get_or next j 0 ≡ key_in keys n (j + 1) (slot_of (get_or keys j 0))
     link_at j few g h =
         ap (λ (l : List ℕ). get_or l j 0) c.links ∙ counted_in max_rows (key_after keys n i) j (omega arith) ∙ rw (le-leb i j g, lt-ltb j n h)

@@ -3,54 +3,21 @@ use mathlib.Core.Path.{◌≡◌, refl, sym, ap, ap₂, ◌∙◌}
 use mathlib.Core.Bool.{Bool, true, false, ◌&&◌}
 use mathlib.Core.List.{List, [], ◌∷◌, map}
 use mathlib.Core.Logic.{⊎_elim}
-use Prim.Native.Nat.{ℕ, zero, suc, ◌+◌, ◌-◌, ◌*◌, ◌≤◌, ◌<◌}
-use native.Mathlib.Nat.{not-suc-le-zero, eq-or-lt_of_le, zero-add}
+use Prim.Native.Nat.{ℕ, ◌+◌, ◌-◌, ◌*◌, ◌<◌}
+use native.Mathlib.Nat.{eq-or-lt_of_le, zero-add}
 use native.Mathlib.Omega.{arith}
 use lib.Dec.{eqb, ltb}
-use lib.ListN.{length, get_or, set, drop, get_or-append, replicate}
-use lib.Seq.{get_or-drop}
+use lib.ListN.{length, get_or, set, get_or-append, replicate}
 use borrow.Author.Tests.{eqb-true, eqb-false, eq-eqb, ne_eqb, ltb-true}
 use Rattle.model.specs.Row.{Row, numbers_below, max_rows}
 use Rattle.model.specs.Algebra.{Pair, agree}
 use Rattle.model.specs.Areas.{padded, stride}
 use Rattle.model.specs.Network.{pairs_below}
 use Rattle.laws.proofs.Sets.{and_first, and_second}
-use Rattle.nodes.specs.Nodes.{pairs_of}
 use Rattle.laws.proofs.Parts.{length-counted, counted_at, numbers_more, map-append}
 use Rattle.rows.proofs.Padding.{padded_more, field_padded}
 use Rattle.rows.specs.Rows.{row_at}
-use Rattle.keys.specs.Keys.{side_column, side_columns, key_of, FieldsFit, Keyed, KeyedRows}
-
--- ---- the columns of pairs
-
--- the column of the pair at an index on a side
-side_column_lem : (pairs : List ℕ) (k side : ℕ) → side ≤ 1 → side_column side (record { left = get_or (drop k pairs) 0 0; right = get_or (drop k pairs) 1 0 }) ≡ get_or pairs (k + side) 0
-side_column_lem pairs k zero h = get_or-drop k pairs 0 0
-side_column_lem pairs k (suc zero) h = get_or-drop k pairs 1 0
-side_column_lem pairs k (suc (suc s)) h = absurd (omega arith)
-
--- ---- one key
-
-module _ (pairs : List ℕ) (p side : ℕ) (r : Row) where
-  pub key_none : p < 1 → Keyed (side_columns side (pairs_of p pairs)) r 0
-  key_none h = let e : p ≡ 0 = omega arith in rw e (record { is = refl; fit = tt })
-
-  module _ (s : side ≤ 1) (x : ℕ) (is : x ≡ get_or r (get_or pairs (2 * 0 + side) 0) 0) (small : x < 4294967296) where
-    first : get_or r (side_column side (record { left = get_or pairs 0 0; right = get_or pairs 1 0 })) 0 ≡ x
-    first = ap (λ (c : ℕ). get_or r c 0) (side_column_lem pairs 0 side s) ∙ sym is
-
-    pub key_one : (p < 1 → ⊥) → p < 2 → Keyed (side_columns side (pairs_of p pairs)) r x
-    key_one g h =
-        let e : p ≡ 1 = omega arith in
-        rw e (record { is = omega (arith, first); fit = (omega (arith, first), tt) })
-
-    pub key_two : (p < 2 → ⊥) → p ≤ 2 → (y : ℕ) → y ≡ get_or r (get_or pairs (2 * 1 + side) 0) 0 → y < 4294967296 →
-        Keyed (side_columns side (pairs_of p pairs)) r (x + 4294967296 * y)
-    key_two g h y f b =
-        let e : p ≡ 2 = omega arith in
-        let second : get_or r (side_column side (record { left = get_or (drop 2 pairs) 0 0; right = get_or (drop 2 pairs) 1 0 })) 0 ≡ y =
-        ap (λ (c : ℕ). get_or r c 0) (side_column_lem pairs 2 side s) ∙ sym f in
-        rw e (record { is = omega (arith, first, second); fit = (omega (arith, first), (omega (arith, second), tt)) })
+use Rattle.keys.specs.Keys.{side_columns, key_of, FieldsFit, Keyed, KeyedRows}
 
 -- ---- rows agree where their keys are equal
 
@@ -84,9 +51,6 @@ agree-padded (p ∷ pairs) v w l r e f g =
 -- ---- keys one after the other
 
 module _ (columns : List ℕ) (s : List ℕ) where
-  pub keys_none : KeyedRows columns s 0 (replicate max_rows 0)
-  keys_none = record { are = refl; fit = λ i h. absurd (not-suc-le-zero h) }
-
   pub keys_more : (i : ℕ) (keys : List ℕ) (x : ℕ) → i < max_rows → KeyedRows columns s i keys → Keyed columns (row_at stride s i) x → KeyedRows columns s (i + 1) (set keys i x)
   keys_more i keys x h e f = record {
     are = ap₂ {A = List ℕ} {B = ℕ} {C = List ℕ} (λ k y. set k i y) e.are f.is
@@ -111,8 +75,8 @@ module _ (columns : List ℕ) (s : List ℕ) where
 -- ---- a right row with a left row's key
 
 module _ (pairs : List Pair) (l : Row) (key : ℕ) (k : Keyed (side_columns 0 pairs) l key) (right : List ℕ) (m : ℕ) (keys : List ℕ) (ks : KeyedRows (side_columns 1 pairs) right m keys) where
-  same : (j : ℕ) → j < m → eqb (get_or keys j 0) key ≡ agree pairs l (row_at stride right j)
-  same j h =
+  pub key_same : (j : ℕ) → j < m → eqb (get_or keys j 0) key ≡ agree pairs l (row_at stride right j)
+  key_same j h =
       let own : key_of (side_columns 1 pairs) (row_at stride right j) ≡ get_or keys j 0 = sym (key_at (side_columns 1 pairs) right m j keys ks h) in
       let other : key_of (side_columns 0 pairs) l ≡ key = sym k.is in
       let agreed = keys_agree pairs l (row_at stride right j) k.fit (ks.fit j h) in
@@ -126,7 +90,7 @@ module _ (pairs : List Pair) (l : Row) (key : ℕ) (k : Keyed (side_columns 0 pa
           go false e = sym (ne_eqb b a (λ q. eqb-false a b e (sym q)))
 
   pub key_agrees : (j : ℕ) → j < m → get_or keys j 0 ≡ key → agree pairs l (row_at stride right j) ≡ true
-  key_agrees j h e = sym (same j h) ∙ eq-eqb (get_or keys j 0) key e
+  key_agrees j h e = sym (key_same j h) ∙ eq-eqb (get_or keys j 0) key e
 
   pub key_differs : (j : ℕ) → j < m → (get_or keys j 0 ≡ key → ⊥) → agree pairs l (row_at stride right j) ≡ false
-  key_differs j h e = sym (same j h) ∙ ne_eqb (get_or keys j 0) key e
+  key_differs j h e = sym (key_same j h) ∙ ne_eqb (get_or keys j 0) key e

@@ -54,10 +54,8 @@ pub fn keys_of(rows: &[u32], n: usize, pairs: &[u16], p: usize, side: usize) -> 
     ensures { KeyedRows (side_columns side (pairs_of p pairs.now)) rows.now n result }
 {
     let mut keys = [0u64; MAX_ROWS];
-    let mut i = 0;
-    while i < n {
+    for i in 0..n {
         keys[i] = key_of(rows, i, pairs, p, side);
-        i += 1;
     }
     keys
 }
@@ -79,9 +77,7 @@ pub fn chain_keys(
     requires { (n ≤ max_rows) × (heads.old ≡ replicate max_rows n) × (next.old ≡ replicate max_rows 0) }
     ensures { Chained keys.now n 0 heads.new next.new }
 {
-    let mut j = n;
-    while 0 < j {
-        j -= 1;
+    for j in (0..n).rev() {
         let slot = slot_of(keys[j]);
         next[j] = heads[slot];
         heads[slot] = j as u8;

@@ -2,97 +2,40 @@
 use mathlib.Core.List.{◌++◌, [], ◌∷◌, List, flat_map, append_assoc}
 use mathlib.Core.Bool.{Bool, cond, false, true}
 use mathlib.Core.Path.{ap, refl, sym, ◌∙◌, ◌≡◌, ap₂}
-use Prim.Native.Nat.{◌%◌, ◌*◌, ◌+◌, ◌-◌, ◌/◌, ◌<◌, suc, zero, ℕ, ◌≤◌}
+use Prim.Native.Nat.{◌%◌, ◌*◌, ◌+◌, ◌-◌, ◌/◌, ◌<◌, ◌^◌, suc, zero, ℕ, ◌≤◌}
 use native.Mathlib.Omega.{arith}
 use native.Mathlib.Numerals.{add-one}
-use native.Mathlib.Nat.{le_refl}
-use lib.Dec.{eqb, ltb}
+use native.Mathlib.Nat.{le_refl, one-le-pow, pow-succ'}
+use lib.Dec.{ltb}
 use lib.ListN.{length, length-append, drop, get_or, set, take}
 use lib.Seq.{drop-cons, get_or_at, get_or-take, length-take-le, set_comm, sets, take_all, take_at, take-suc, take-take}
-use borrow.Author.Tests.{eq-eqb, ltb-false, ltb-true, ne_eqb}
+use borrow.Author.Tests.{le-ltb, lt-ltb, ltb-true}
+use Rattle.std.specs.Option.{IfNone, IfSome, unwrap_or}
+use Rattle.std.specs.declared.option.Option.{Option}
+use Rattle.std.specs.declared.option.Option.TheVariants.{None, Some}
 use Rattle.model.specs.Text.{decimal, digits, line, newline, space}
-use Rattle.laws.proofs.Parts.{flat_append, flat_one, sets_more}
+use Rattle.laws.proofs.Parts.{flat_append, flat_one}
 use Rattle.lines.specs.Numbers.{numbers_text}
-
--- ---- enough digits
-
--- 10 to a power
-pow10 : ℕ → ℕ
-pow10 zero = 1
-pow10 (suc f) = 10 * pow10 f
-
--- the number has at most so many digits
-pub Within : ℕ → ℕ → Type 0
-Within f n = n < pow10 f
-
-pub within_all : (n : ℕ) → n < 18446744073709551616 → Within 20 n
-unfolding Within pow10
-within_all n h = omega arith
-
-within_tenth : (f n : ℕ) → Within (suc f) n → Within f (n / 10)
-unfolding Within pow10
-within_tenth f n h = omega arith
-
-within_zero : (n : ℕ) → Within 0 n → n ≡ 0
-unfolding Within pow10
-within_zero n h = omega arith
 
 -- ---- counting
 
--- how many digits stand before those that were counted
-abbrev pub before : ℕ → ℕ → ℕ
-before f n = cond (eqb n 0) 0 (length (digits f n))
-
-digits-turn : (f n : ℕ) → length (digits (suc f) n) ≡ 1 + before f (n / 10)
+-- the digits of a number above 0, by the power of 10 at or below it
+count_digits : (k f n : ℕ) → 10 ^ k ≤ n → n < 10 * 10 ^ k → k < f → length (digits f n) ≡ k + 1
 unfolding digits
-digits-turn f n = go (ltb n 10) refl
-  where
-    go : (t : Bool) → ltb n 10 ≡ t → length (cond t ((48 + n) ∷ []) (digits f (n / 10) ++ ((48 + (n % 10)) ∷ []))) ≡ 1 + before f (n / 10)
-    go true e = let z : n / 10 ≡ 0 = omega (arith, ltb-true n 10 e) in rw z
-    go false e =
-        let z : eqb (n / 10) 0 ≡ false = ne_eqb (n / 10) 0 (λ y. absurd (omega (arith, ltb-false n 10 e))) in
-        rw z (length-append (digits f (n / 10)) ((48 + (n % 10)) ∷ []) ∙ omega arith)
+count_digits k zero n h g m = absurd (omega arith)
+count_digits zero (suc f) n h g m = rw (lt-ltb n 10 g) refl
+count_digits (suc k) (suc f) n h g m =
+    let p : 10 ^ suc k ≡ 10 * 10 ^ k = pow-succ' 10 k in
+    let big : 10 ≤ n = omega (arith, one-le-pow k 10 (omega arith)) in
+    let ih : length (digits f (n / 10)) ≡ k + 1 = count_digits k f (n / 10) (omega arith) (omega arith) (omega arith) in
+    rw (le-ltb n 10 big) (length-append (digits f (n / 10)) ((48 + (n % 10)) ∷ []) ∙ omega arith)
 
--- what has been counted: count digits of x, and rest before them
-pub record Counted (x count rest : ℕ) : Type 0 where
-  pub few : count ≤ 20
-  pub positive : 1 ≤ count
-  pub within : Within (20 - count) rest
-  pub total : length (decimal x) ≡ count + before (20 - count) rest
-
-pub count_start : (x : ℕ) → x < 18446744073709551616 → Counted x 1 (x / 10)
-unfolding decimal
-count_start x h = record { few = omega arith; positive = omega arith; within = within_tenth 19 x (within_all x h); total = digits-turn 19 x }
-
-pub count_more : (x count rest : ℕ) → 0 < rest → Counted x count rest → Counted x (count + 1) (rest / 10)
-count_more x count rest h c =
-    let room : count < 20 = not_full count rest h c in
-    let e : 20 - count ≡ suc (20 - (count + 1)) = omega arith in
-    let w : Within (suc (20 - (count + 1))) rest = rw (← e) c.within in
-    record {
-      few = omega arith;
-      positive = omega arith;
-      within = within_tenth (20 - (count + 1)) rest w;
-      total =
-          c.total
-          ∙ ap (λ (k : ℕ). count + before k rest) e
-          ∙ ap (λ (t : Bool). count + cond t 0 (length (digits (suc (20 - (count + 1))) rest))) (ne_eqb rest 0 (λ z. absurd (omega arith)))
-          ∙ ap (λ (k : ℕ). count + k) (digits-turn (20 - (count + 1)) rest)
-          ∙ omega arith;
-    }
-  where
-    not_full : (count rest : ℕ) → 0 < rest → Counted x count rest → count < 20
-    not_full count rest h c = go (ltb count 20) refl
-      where
-        go : (t : Bool) → ltb count 20 ≡ t → count < 20
-        go true e = ltb-true count 20 e
-        go false e =
-            let z : 20 - count ≡ 0 = omega (arith, ltb-false count 20 e) in
-            let w : rest ≡ 0 = within_zero rest (rw z at c.within) in
-            absurd (omega arith)
-
-pub count_done : (x count rest : ℕ) → rest ≡ 0 → Counted x count rest → count ≡ length (decimal x)
-count_done x count rest z c = sym (c.total ∙ ap (λ (t : Bool). count + cond t 0 (length (digits (20 - count) rest))) (eq-eqb rest 0 z) ∙ omega arith)
+-- how many digits, by what the logarithm answers
+pub log_counts : (x : ℕ) (log : Option ℕ) → IfNone log (x ≡ 0) → IfSome log (λ k. 10 ^ k ≤ x) → IfSome log (λ k. x < 10 * 10 ^ k) → IfSome log (λ k. k < 20) →
+    unwrap_or log 0 + 1 ≡ length (decimal x)
+unfolding decimal digits
+log_counts x None none low high few = rw none refl
+log_counts x (Some k) none low high few = sym (count_digits k 20 x low high few)
 
 -- ---- writing from the last digit to the first
 
@@ -169,14 +112,6 @@ numbers_none numbers = refl
 pub line_is : (word numbers : List ℕ) → (word ++ numbers_text numbers) ++ (newline ∷ []) ≡ line word numbers
 unfolding line
 line_is word numbers = refl
-
--- one byte more of a text
-pub put_one : (out₀ out text : List ℕ) (at k : ℕ) → k < length text → out ≡ sets out₀ at (take k text) → set out (at + k) (get_or text k 0) ≡ sets out₀ at (take (k + 1) text)
-put_one out₀ out text at k h e =
-    let size : length (take k text) ≡ k = length-take-le k text (omega arith) in
-    let more : take (k + 1) text ≡ take k text ++ (get_or text k 0 ∷ []) = rw add-one (take-suc text k 0 h) in
-    sets_more out₀ out (set out (at + k) (get_or text k 0)) at (at + k) (take k text) (get_or text k 0 ∷ []) e (ap (λ (n : ℕ). at + n) (sym size)) refl
-    ∙ ap (sets out₀ at) (sym more)
 
 pub numbers_end : (at to : ℕ) (text : List ℕ) → to ≡ at + length text → to + 1 ≡ at + length (text ++ (space ∷ []))
 numbers_end at to text e = omega (arith, length-append text (space ∷ []))

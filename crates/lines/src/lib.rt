@@ -1,4 +1,4 @@
-// Lines of text: a word, then numbers, written into lent bytes.
+// Lines of text: a word, then numbers, written into lent bytes. There is no heap, so no String that `write!` could fill.
 
 #![tactic(auto)]
 
@@ -13,13 +13,7 @@ fn digit_count(x: usize) -> usize
     ensures counts { result ≡ length (decimal x) }
     ensures few { result ≤ 20 }
 {
-    let mut count = 1;
-    let mut rest = x / 10;
-    while 0 < rest {
-        rest /= 10;
-        count += 1;
-    }
-    count
+    x.checked_ilog10().unwrap_or(0) as usize + 1
 }
 
 // A number in decimal, count digits from an offset on.
@@ -28,10 +22,8 @@ fn put_digits(out: &mut [u8], at: usize, x: usize, count: usize)
     ensures { out.new ≡ sets out.old at (decimal x) }
 {
     let mut rest = x;
-    let mut k = count;
-    while 0 < k {
-        k -= 1;
-        out[at + k] = 48 + (rest % 10) as u8;
+    for k in (0..count).rev() {
+        out[at + k] = b'0' + (rest % 10) as u8;
         rest /= 10;
     }
 }
@@ -52,13 +44,9 @@ fn put_bytes(out: &mut [u8], at: usize, text: &[u8]) -> usize
     ensures bytes { out.new ≡ sets out.old at text.now }
     ensures next { result ≡ at + length text.now }
 {
-    let n = text.len();
-    let mut k = 0;
-    while k < n {
-        out[at + k] = text[k];
-        k += 1;
-    }
-    at + n
+    let end = at + text.len();
+    out[at..end].copy_from_slice(text);
+    end
 }
 
 // Numbers, a space before each, from an offset on: where the bytes after them begin.
@@ -67,13 +55,10 @@ fn put_numbers(out: &mut [u8], at: usize, numbers: &[usize]) -> usize
     ensures { Put (numbers_text numbers.now) (21 * length numbers.now) at
         out.old out.new result }
 {
-    let n = numbers.len();
     let mut to = at;
-    let mut k = 0;
-    while k < n {
-        out[to] = 32;
-        to = put_number(out, to + 1, numbers[k]);
-        k += 1;
+    for x in numbers {
+        out[to] = b' ';
+        to = put_number(out, to + 1, *x);
     }
     to
 }
@@ -86,7 +71,7 @@ pub fn put_line_at(out: &mut [u8], at: usize, word: &[u8], numbers: &[usize]) ->
 {
     let from = put_bytes(out, at, word);
     let end = put_numbers(out, from, numbers);
-    out[end] = 10;
+    out[end] = b'\n';
     end + 1
 }
 

@@ -4,11 +4,10 @@ use mathlib.Core.Bool.{Bool, true, ◌&&◌, ◌||◌, or-true}
 use mathlib.Core.List.{List, [], ◌∷◌, ◌++◌, map}
 use Prim.Native.Nat.{ℕ, zero, suc, ◌+◌, ◌*◌, ◌%◌, ◌≤◌, ◌<◌}
 use native.Mathlib.Nat.{le_of_suc-le-suc}
-use native.Mathlib.Numerals.{add-one}
 use native.Mathlib.Omega.{arith}
 use lib.Dec.{ltb}
-use lib.ListN.{length, length-append, get_or, take, drop, replicate}
-use lib.Seq.{length-paste, paste, sets, take_all, take-suc}
+use lib.ListN.{length, length-append, drop, replicate}
+use lib.Seq.{length-paste, paste, sets, take_all}
 use borrow.Author.Tests.{ltb-true}
 use Rattle.model.specs.Row.{Row, insert_row, max_rows, max_width, member, same_row, set_of, Wide}
 use Rattle.model.specs.Areas.{place_size, stride}
@@ -23,13 +22,6 @@ use Rattle.columns.proofs.Rows.{masked_is, masked_length, row_made}
 use Rattle.masked_rows.specs.MaskedRows.{row_slot, slot_from, MaskedSet}
 
 -- ---- a row's slot
-
-slot_snoc : (slot : ℕ) (r : Row) (x : ℕ) → slot_from slot (r ++ (x ∷ [])) ≡ (slot_from slot r * 9 + x) % max_rows
-slot_snoc slot [] x = refl
-slot_snoc slot (y ∷ r) x = slot_snoc ((slot * 9 + y) % max_rows) r x
-
-pub slot_more : (r : Row) (k : ℕ) → k < length r → slot_from 0 (take (k + 1) r) ≡ (slot_from 0 (take k r) * 9 + get_or r k 0) % max_rows
-slot_more r k h = let e : take (k + 1) r ≡ take k r ++ (get_or r k 0 ∷ []) = rw add-one (take-suc r k 0 h) in ap (slot_from 0) e ∙ slot_snoc 0 (take k r) (get_or r k 0)
 
 pub slots_below : (slot : ℕ) (r : Row) → slot < max_rows → slot_from slot r < max_rows
 slots_below slot [] h = h

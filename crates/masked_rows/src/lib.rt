@@ -9,7 +9,7 @@ ghost use Rattle.model.specs.Areas.{place_size, stride};
 ghost use Rattle.rows.specs.Rows.{row_at, first_rows};
 ghost use Rattle.masked_rows.specs.MaskedRows.{row_slot, MaskedSet};
 
-use rows::{MAX_ROWS, Order, STRIDE};
+use rows::{MAX_ROWS, STRIDE};
 
 // How far apart the slots of two rows are that differ by 1 in the field before the last.
 const SPREAD: usize = 9;
@@ -20,10 +20,8 @@ fn slot_of_row(row: &[u32]) -> usize
     ensures { result ≡ row_slot row.now }
 {
     let mut slot = 0;
-    let mut k = 0;
-    while k < STRIDE {
+    for k in 0..STRIDE {
         slot = (slot * SPREAD + row[k] as usize) % MAX_ROWS;
-        k += 1;
     }
     slot
 }
@@ -34,14 +32,7 @@ fn stands_at(words: &[u32], n: usize, at: usize, row: &[u32; STRIDE]) -> bool
     ensures { result ≡ (ltb at n
         && same_row (row_at stride row.now 0) (row_at stride words.now at)) }
 {
-    if n <= at {
-        return false;
-    }
-    match rows::compare_rows(row, 0, words, at) {
-        Order::Less => false,
-        Order::Equal => true,
-        Order::Greater => false,
-    }
+    at < n && rows::compare_rows(row, 0, words, at).is_eq()
 }
 
 // The masked rows in no order, at the front of a place: how many. A row that was the last one in its slot is left out.
@@ -54,11 +45,9 @@ pub fn mask_unordered(input: &[u32], n: usize, columns: &[u16], out: &mut [u32])
     let zeros = [0u32; STRIDE];
     let mut last = [0usize; MAX_ROWS];
     let mut count = 0;
-    let mut i = 0;
-    while i < n {
+    for i in 0..n {
         let row = columns::columns_row(input, i, &zeros, 0, STRIDE, columns, STRIDE);
         let slot = slot_of_row(&row);
-        i += 1;
         if !stands_at(out, count, last[slot], &row) {
             words::copy_run(&row, 0, out, count * STRIDE, STRIDE);
             last[slot] = count;

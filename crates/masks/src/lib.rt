@@ -32,11 +32,9 @@ fn keep_pairs(used: &mut [u16; STRIDE], pairs: &[u16], p: usize, side: usize)
         × (pairs_below stride stride (pairs_of p pairs.now) ≡ true) }
     ensures { used.new ≡ keeping (pair_columns pairs.now p side) used.old }
 {
-    let mut j = 0;
-    while j < p {
+    for j in 0..p {
         let c = pairs[2 * j + side];
         used[c as usize] = c;
-        j += 1;
     }
 }
 
@@ -46,15 +44,11 @@ fn keep_columns(used: &mut [u16; STRIDE], columns: &[u16], n: usize, first: usiz
     ensures { used.new ≡ keeping (columns_from first end (take n columns.now))
         used.old }
 {
-    let mut j = 0;
-    while j < n {
+    for j in 0..n {
         let c = columns[j] as usize;
-        if first <= c {
-            if c < end {
-                used[c - first] = (c - first) as u16;
-            }
+        if first <= c && c < end {
+            used[c - first] = (c - first) as u16;
         }
-        j += 1;
     }
 }
 
@@ -74,10 +68,7 @@ fn leaves_column(rows: &[u32], n: usize, used: &[u16; STRIDE], k: usize) -> bool
     requires { (n * stride ≤ length rows.now) × (k < stride) }
     ensures { result ≡ leaves_column used.now (first_rows rows.now n) k }
 {
-    if used[k] != MASKED {
-        return true;
-    }
-    row_checks::zero_field(rows, n, k)
+    used[k] != MASKED || row_checks::zero_field(rows, n, k)
 }
 
 // Whether a mask leaves every row as it is.
@@ -85,12 +76,10 @@ pub fn leaves_rows(rows: &[u32], n: usize, used: &[u16; STRIDE]) -> bool
     requires { n * stride ≤ length rows.now }
     ensures { result ≡ leaves_rows used.now (first_rows rows.now n) }
 {
-    let mut k = 0;
-    while k < STRIDE {
+    for k in 0..STRIDE {
         if !leaves_column(rows, n, used, k) {
             return false;
         }
-        k += 1;
     }
     true
 }

@@ -13,7 +13,7 @@ use Rattle.model.specs.Row.{Row, order, member, keep, max_rows}
 use Rattle.model.specs.Areas.{padded, place_size, stride}
 use Rattle.laws.proofs.Widths.{wide-append}
 use Rattle.rows.specs.Rows.{row_at, rows_from, first_rows, order_of, words, stored}
-use Rattle.rows.specs.declared.Order.{Order}
+use Rattle.std.specs.declared.cmp.Ordering.{Ordering as Outcome}
 use Rattle.rows.proofs.Words.{length-rows, length-words, rows_cons, rows_none, wide_rows, words_append, words-rows}
 use Rattle.rows.proofs.Padding.{difference-padded}
 use Rattle.places.specs.Places.{relation_in, Place, Blank, Stands}
@@ -117,7 +117,7 @@ module _ (op : List Row → List Row → List Row) (left : List ℕ) (n : ℕ) (
           (rw (rows_cons stride left n i h, rows_cons stride right m j g) (ps.greater first (row_at stride right j) (left_from (i + 1)) (right_from (j + 1)) (facing Ordering.gt e))) a
 
 -- the outcome of a comparison, by its answer
-pub told : {answer known : Order} {o : Ordering} → answer ≡ known → order_of answer ≡ o → o ≡ order_of known
+pub told : {answer known : Outcome} {o : Ordering} → answer ≡ known → order_of answer ≡ o → o ≡ order_of known
 told e f = sym f ∙ ap order_of e
 
 -- a row that is not below the rest of some rows: there is a row left

@@ -9,10 +9,11 @@ ghost use Rattle.rows.specs.Rows.{row_at, rows_from, first_rows, order_of};
 ghost use Rattle.places.specs.Places.{Stands};
 ghost use Rattle.merges.specs.Merges.{order_first, Appends};
 
-use rows::{Order, STRIDE};
+use rows::STRIDE;
+use std::cmp::Ordering;
 
 // How row i of left compares with row j of right's m rows; past the last of them it is less.
-pub fn compare_first(left: &[u32], i: usize, right: &[u32], m: usize, j: usize) -> Order
+pub fn compare_first(left: &[u32], i: usize, right: &[u32], m: usize, j: usize) -> Ordering
     requires { (i * stride + stride ≤ length left.now) × (m * stride ≤ length right.now) }
     ensures { order_of result ≡ order_first (row_at stride left.now i)
         (rows_from stride right.now j (m - j)) }
@@ -20,7 +21,7 @@ pub fn compare_first(left: &[u32], i: usize, right: &[u32], m: usize, j: usize) 
     if j < m {
         rows::compare_rows(left, i, right, j)
     } else {
-        Order::Less
+        Ordering::Less
     }
 }
 

@@ -11,11 +11,15 @@ use lib.Seq.{take-suc, take-suc-set, take-set-lt, get_or-set_other, get_or-set_s
 use lib.Dec.{ltb}
 use borrow.Author.Tests.{ltb-false, ltb-true, not-true, not-false}
 use Rattle.model.specs.Record.{Bytes, fields_at}
-use Rattle.model.specs.Network.{node_item, watch_item, width_of, width_on, level_of, levels, widths, highest, inputs_of, is_table, left_of, right_of, node_fits, fits_on, pairs_at, sign_of, priority_of}
+use Rattle.model.specs.Network.{node_item, watch_item, width_of, width_on, level_of, levels, widths, highest, inputs_of, is_table}
+use Rattle.model.specs.Network.{left_of, right_of, node_fits, fits_on, pairs_at, sign_of, priority_of}
 use Rattle.laws.proofs.Build.{build_more}
 use Rattle.laws.proofs.Fits.{widths_more}
 use Rattle.laws.proofs.Inputs.{inputs_below, inputs_fit, inputs_high, inputs_highest}
-use Rattle.nodes.specs.Nodes.{lists_of, with_lists, PartsAre}
+use Rattle.std.proofs.lemmas.Bool.{false≢true}
+use Rattle.std.specs.Prelude.{Some, None}
+use Rattle.nodes.specs.Nodes.{lists_of, with_lists, own_or, PartsAre}
+use Rattle.nodes.specs.declared.Inputs.{Inputs}
 use Rattle.derived_records.specs.Bodies.{node_in_record, NodeFits}
 use Rattle.nodes.specs.declared.Parts.{Parts}
 use Rattle.network.specs.Reading.{slot_node, nodes_of, network_of, Sound, Built, Extends, NextSlot, InputsBelow, WidthIs, LevelIs, Ends, Shaped, no_slot}
@@ -197,28 +201,39 @@ level_low n ws ls f low = go (is_table n) refl
         let b : (left_of n < length ws) × (right_of n < length ws) × (fits_on (get_or ws (left_of n) 0) (get_or ws (right_of n) 0) n ≡ true) = inputs_fit ws n e f in
         inputs_high ls n (length ws) (omega (arith, low (left_of n), b.0)) (omega (arith, low (right_of n), b.1))
 
+-- a table's width does not go by another's
+table_width : (n : model.Node) → is_table n ≡ true → (u v : ℕ) → width_on u n ≡ width_on v n
+table_width (model.table w) e u v = refl
+table_width (model.select i c k o) e u v = absurd (false≢true e)
+table_width (model.project i columns) e u v = refl
+table_width (model.join l r pairs columns) e u v = refl
+table_width (model.set_operation o l r) e u v = absurd (false≢true e)
+table_width (model.no_match l r pairs) e u v = absurd (false≢true e)
+
 -- a node's width and level, from its parts
 module _ (n : Node) (r : Parts) (are : PartsAre n r) where
-  pub width-first : (ws : List ℕ) → r.inherited ≡ true → WidthIs n ws (get_or ws r.left 0)
-  width-first ws e columns pairs h =
-      let v : ℕ = get_or ws (left_of (with_lists n columns pairs)) 0 in
-      let w : v ≡ width_on v (with_lists n columns pairs) = ap (λ (t : Bool). cond t v r.width) (sym e) ∙ are.width columns pairs v h in
-      ap (λ (i : ℕ). get_or ws i 0) (are.left columns pairs) ∙ w
+  pub width_next : (ws : List ℕ) (i : Inputs) → r.inputs ≡ Some i → WidthIs n ws (own_or (get_or ws i.left 0) r.width)
+  width_next ws i e columns pairs h =
+      let first : i.left ≡ left_of (with_lists n columns pairs) = rw e at are.left columns pairs in
+      ap (λ (j : ℕ). own_or (get_or ws j 0) r.width) first ∙ are.width columns pairs (get_or ws (left_of (with_lists n columns pairs)) 0) h
 
-  pub width_own : (ws : List ℕ) → r.inherited ≡ false → WidthIs n ws r.width
-  width_own ws e columns pairs h =
-      let v : ℕ = get_or ws (left_of (with_lists n columns pairs)) 0 in
-      ap (λ (t : Bool). cond t v r.width) (sym e) ∙ are.width columns pairs v h
-
-  pub level_none : (ls : List ℕ) → r.derived ≡ false → LevelIs n ls 0
-  level_none ls e columns pairs = rw (not-false (is_table (with_lists n columns pairs)) (sym (are.derived columns pairs) ∙ e))
-
-  pub level_next : (ls : List ℕ) → r.derived ≡ true → LevelIs n ls (max (get_or ls r.left 0) (get_or ls r.right 0) + 1)
-  level_next ls e columns pairs =
+  pub width_none : (ws : List ℕ) → r.inputs ≡ None → WidthIs n ws (own_or 0 r.width)
+  width_none ws e columns pairs h =
       let m : model.Node = with_lists n columns pairs in
-      let d : is_table m ≡ false = not-true (is_table m) (sym (are.derived columns pairs) ∙ e) in
+      let d : is_table m ≡ true = not-false (is_table m) (sym (rw e at are.derived columns pairs)) in
+      are.width columns pairs 0 h ∙ table_width m d 0 (get_or ws (left_of m) 0)
+
+  pub level_none : (ls : List ℕ) → r.inputs ≡ None → LevelIs n ls 0
+  level_none ls e columns pairs = rw (not-false (is_table (with_lists n columns pairs)) (sym (rw e at are.derived columns pairs)))
+
+  pub level_next : (ls : List ℕ) (i : Inputs) → r.inputs ≡ Some i → LevelIs n ls (max (get_or ls i.left 0) (get_or ls i.right 0) + 1)
+  level_next ls i e columns pairs =
+      let m : model.Node = with_lists n columns pairs in
+      let d : is_table m ≡ false = not-true (is_table m) (sym (rw e at are.derived columns pairs)) in
+      let left : i.left ≡ left_of m = rw e at are.left columns pairs in
+      let right : i.right ≡ right_of m = rw e at are.right columns pairs in
       let high : highest ls (inputs_of m) ≡ max (get_or ls (left_of m) 0) (get_or ls (right_of m) 0) = inputs_highest ls m d in
-      rw (d, high, ← are.left columns pairs, ← are.right columns pairs) (add-one _)
+      rw (d, high, ← left, ← right) (add-one _)
 
 -- the node that comes next, from the arrays
 module _ (net : Network) (n : Node) (bs : Bytes) (at : ℕ) (b : Built net) (f : NodeFits n (take net.count net.widths) bs at) where

@@ -17,9 +17,9 @@ use Rattle.node_records.specs.NodeRecords.{Room, ReadsRecord}
 use Rattle.network.specs.Reading.{network_of, Built, Extends, Follows}
 use Rattle.nodes.specs.declared.Item as declaredItem
 use Rattle.nodes.specs.declared.Item.TheVariants.{Node as NodeBrought, Watch as WatchBrought}
-use Rattle.nodes.specs.declared.Record.TheVariants.{Item as Brought}
+use Rattle.std.specs.Prelude.{Result, Ok}
+use Rattle.verdicts.specs.declared.Rule.{Rule}
 use lib.Seq.{length-take-le}
-use Rattle.nodes.specs.declared.Record.{Record}
 use Rattle.network.specs.declared.Network.{Network}
 
 -- a record without a fault is whole
@@ -65,7 +65,7 @@ reached_start (x ∷ bs) net h b e =
       same = ap₂ {A = model.Network} {B = List ℕ} {C = model.Reading} (λ n l. read_records (x ∷ bs) n l) (sym e) (remaining_all (x ∷ bs));
     }
 
-module _ (bs : Bytes) (net : Network) (at : ℕ) (so : Reached bs net at) (inside : at < length bs) (r : Record)
+module _ (bs : Bytes) (net : Network) (at : ℕ) (so : Reached bs net at) (inside : at < length bs) (r : Result declaredItem.Item Rule)
     (reads : ReadsRecord (take net.count net.widths) (take net.count net.signs) bs at r) where
   fault : number_of r ≡ record_fault (model.widths (network_of net).nodes) (network_of net).signs bs at
   fault = reads.number ∙ ap (λ (ws : List ℕ). record_fault ws (take net.count net.signs) bs at) so.built.sound.widths
@@ -96,8 +96,8 @@ unfolding read_records
 reached_end bs net at so h = sym (so.same ∙ ap (read_records bs (network_of net)) (remaining_none bs at h))
 
 -- what a record brings can come next
-pub follows : (i : declaredItem.Item) (net : Network) (bs : Bytes) (at : ℕ) → Built net → Fits (Brought i) (take net.count net.widths) (take net.count net.signs) bs at →
-    Room (Brought i) (take net.count net.widths) → Follows i net bs at
+pub follows : (i : declaredItem.Item) (net : Network) (bs : Bytes) (at : ℕ) → Built net → Fits (Ok i) (take net.count net.widths) (take net.count net.signs) bs at →
+    Room (Ok i) (take net.count net.widths) → Follows i net bs at
 follows (NodeBrought n) net bs at b f r =
     let e : length (take net.count net.widths) ≡ net.count = length-take-le net.count net.widths (omega (arith, b.sound.few, b.widths-length)) in
     (rw e at r, f)

@@ -1,10 +1,10 @@
 -- What the reader's networks mean: the model's network and reading.
-use Rattle.std.specs.Prelude.{◌≡◌, List, [], map, ℕ, ◌*◌, ◌≤◌, ◌<◌, get_or, take, length}
-use Rattle.model.specs.Record.{Bytes}
+use Rattle.std.specs.Prelude.{◌≡◌, List, [], map, ℕ, ◌*◌, ◌≤◌, ◌<◌, get_or, take, length, Result, Ok, Err, IfOk}
+use Rattle.model.specs.Record.{Bytes, accepted}
 use Rattle.model.specs.Algebra.{Pair}
 use Rattle.model.specs.Network.{Item, read_network, max_pairs}
 use Rattle.model.specs.Areas.{Areas}
-use Rattle.model.specs.Calls.{Result}
+use Rattle.model.specs.Calls as calls
 use Rattle.nodes.specs.Nodes.{node_of, lists_of, with_lists}
 use Rattle.derived_records.specs.Bodies.{NodeFits}
 use Rattle.nodes.specs.declared.Node.{Node}
@@ -12,9 +12,8 @@ use Rattle.nodes.specs.declared.Node.TheVariants.{Table}
 use Rattle.nodes.specs.declared.Item.TheVariants.{Node as NodeBrought, Watch as WatchBrought}
 use Rattle.network.specs.declared.Slot.{Slot}
 use Rattle.network.specs.declared.Network.{Network}
-use Rattle.verdicts.specs.declared.Verdict.{Verdict}
-use Rattle.verdicts.specs.Verdicts.{verdict_of}
-use Rattle.network.specs.declared.Reading.{Reading}
+use Rattle.verdicts.specs.declared.Refusal.{Refusal}
+use Rattle.verdicts.specs.Verdicts.{refusal_of, verdict_of}
 use Rattle.model.specs.Network as model
 use Rattle.model.specs.Row.{max_nodes, max_width, Narrow}
 use Rattle.nodes.specs.declared.Item as declaredItem
@@ -42,13 +41,14 @@ network_of net =
       priorities = take net.count net.priorities;
     }
 
--- a verdict, with the areas that a call leaves
-abbrev pub result_with : Verdict → Areas → Result
-result_with v a = record { verdict = verdict_of v; areas = a }
+-- an answer's verdict, with the areas that a call leaves
+abbrev pub result_with : {X : Type 0} → Result X Refusal → Areas → calls.Result
+result_with r a = record { verdict = verdict_of r; areas = a }
 
 -- the model's reading
-abbrev pub reading_of : Reading → model.Reading
-reading_of r = record { verdict = verdict_of r.verdict; network = network_of r.network }
+abbrev pub reading_of : Result Network Refusal → model.Reading
+reading_of (Ok net) = record { verdict = accepted; network = network_of net }
+reading_of (Err r) = record { verdict = refusal_of r; network = model.no_network }
 
 -- a node's numbers of columns and of pairs are those that its slot has room for
 abbrev pub CountsFit : Node → Type 0
@@ -123,6 +123,6 @@ pub record NextSlot (net : Network) (slot : Slot) (width level : ℕ) : Type 0 w
   pub low : level ≤ net.count
 
 -- a network is read: "the first record that fails decides"
-pub record ReadsNetwork (bs : Bytes) (r : Reading) : Type 0 where
+pub record ReadsNetwork (bs : Bytes) (r : Result Network Refusal) : Type 0 where
   pub is : reading_of r ≡ read_network bs
-  pub built : Built r.network
+  pub built : IfOk r Built

@@ -2,19 +2,19 @@
 
 #![tactic(auto)]
 
-ghost use Rattle.std.specs.Prelude.{◌≡◌, ℕ, ◌+◌, ◌*◌, ◌≤◌, ◌<◌, max, length, get_or};
-ghost use Rattle.model.specs.Network.{no_network, refused_reading, max_pairs};
+ghost use Rattle.std.specs.Prelude.{◌≡◌, ℕ, ◌+◌, ◌*◌, ◌≤◌, ◌<◌, max, length, get_or, take};
+ghost use Rattle.model.specs.Network.{no_network, node_item};
 ghost use Rattle.model.specs.Record.{fields_at};
 ghost use Rattle.model.specs.Areas.{padded};
-ghost use Rattle.model.specs.Row.{max_nodes, max_width};
+ghost use Rattle.model.specs.Row.{max_nodes};
 ghost use Rattle.nodes.specs.Nodes.{lists_of};
-ghost use Rattle.derived_records.specs.Bodies.{node_in_record, ListsFit};
-ghost use Rattle.network.specs.Reading.{ReadsNetwork, Built, network_of, reading_of};
+ghost use Rattle.derived_records.specs.Bodies.{node_in_record, ListsFit, NodeFits};
+ghost use Rattle.network.specs.Reading.{ReadsNetwork, Built, Extends, network_of};
 ghost use Rattle.network.specs.Reading.{slot_node, Shaped, InputsBelow, WidthIs, LevelIs};
 
-use nodes::{Item, MAX_PAIRS, Node, Record};
+use nodes::{Item, MAX_PAIRS, Node};
 use rows::{MAX_NODES, MAX_WIDTH};
-use verdicts::Verdict;
+use verdicts::{Refusal, Rule};
 
 // A node with its columns, and its pairs as left and right columns in turn.
 #[derive(Clone, Copy)]
@@ -36,39 +36,16 @@ pub struct Network {
     pub priorities: [u8; MAX_NODES],
 }
 
-// The verdict, and the network where it is accepted.
-#[derive(Clone, Copy)]
-pub struct Reading {
-    pub verdict: Verdict,
-    pub network: Network,
-}
-
 // ---- building the network
 
-// n columns of the record from field k on, then zeros.
-fn columns_of(bytes: &[u8], at: usize, k: usize, n: usize) -> [u16; MAX_WIDTH]
-    requires { (1 ≤ n → at + 4 + 2 * k + 2 * n ≤ length bytes.now) × (n ≤ max_width) }
-    ensures { result ≡ padded max_width (fields_at bytes.now at k n) }
+// n fields of the record from field k on, then zeros.
+fn fields_of<const N: usize>(bytes: &[u8], at: usize, k: usize, n: usize) -> [u16; N]
+    requires { (1 ≤ n → at + 4 + 2 * k + 2 * n ≤ length bytes.now) × (n ≤ N) }
+    ensures { result ≡ padded N (fields_at bytes.now at k n) }
 {
-    let mut fields = [0u16; MAX_WIDTH];
-    let mut i = 0;
-    while i < n {
+    let mut fields = [0u16; N];
+    for i in 0..n {
         fields[i] = records::field_at(bytes, at, k + i) as u16;
-        i += 1;
-    }
-    fields
-}
-
-// The columns of n pairs of the record from field 3 on, then zeros.
-fn pairs_of(bytes: &[u8], at: usize, n: usize) -> [u16; 2 * MAX_PAIRS]
-    requires { (1 ≤ n → at + 10 + 4 * n ≤ length bytes.now) × (n ≤ max_pairs) }
-    ensures { result ≡ padded (2 * max_pairs) (fields_at bytes.now at 3 (2 * n)) }
-{
-    let mut fields = [0u16; 2 * MAX_PAIRS];
-    let mut i = 0;
-    while i < 2 * n {
-        fields[i] = records::field_at(bytes, at, 3 + i) as u16;
-        i += 1;
     }
     fields
 }
@@ -80,8 +57,8 @@ fn slot_at(bytes: &[u8], at: usize, node: Node) -> Slot
     ensures shaped { Shaped result }
 {
     let parts = nodes::parts_of(node);
-    let pairs = pairs_of(bytes, at, parts.pairs);
-    let columns = columns_of(bytes, at, parts.from + 2 * parts.pairs, parts.columns);
+    let pairs = fields_of(bytes, at, 3, 2 * parts.pairs);
+    let columns = fields_of(bytes, at, parts.from + 2 * parts.pairs, parts.columns);
     Slot {
         node,
         columns,
@@ -95,18 +72,18 @@ fn width_of(node: Node, widths: &[usize]) -> usize
     ensures { WidthIs node widths.now result }
 {
     let parts = nodes::parts_of(node);
-    if parts.inherited {
-        let left = parts.left;
-        return widths[left];
-    }
-    parts.width
+    let first = match parts.inputs {
+        Some(inputs) => widths[inputs.left],
+        None => 0,
+    };
+    parts.width.unwrap_or(first)
 }
 
-// The greater of two numbers.
+// The greater of two numbers: std's `max`, under the name that other crates call.
 pub fn greater(a: usize, b: usize) -> usize
     ensures { result ≡ max a b }
 {
-    if a < b { b } else { a }
+    a.max(b)
 }
 
 // A node's level, from the levels of the nodes before it.
@@ -115,13 +92,10 @@ fn level_of(node: Node, levels: &[usize]) -> usize
         × (length levels.now ≤ max_nodes) }
     ensures { LevelIs node levels.now result }
 {
-    let parts = nodes::parts_of(node);
-    if parts.derived {
-        let left = parts.left;
-        let right = parts.right;
-        return greater(levels[left], levels[right]) + 1;
+    match nodes::parts_of(node).inputs {
+        Some(inputs) => greater(levels[inputs.left], levels[inputs.right]) + 1,
+        None => 0,
     }
-    0
 }
 
 // A network with no node.
@@ -144,44 +118,41 @@ fn no_network() -> Network
     }
 }
 
-// A refusal, with no network beside it.
-pub fn refused_reading(number: usize, place: usize) -> Reading
-    ensures refuses { reading_of result ≡ refused_reading number place }
-    ensures built { Built result.network }
+// Adds the node of the record at an offset, with its width and its level.
+fn add_node(net: &mut Network, bytes: &[u8], at: usize, node: Node)
+    requires { Built net.old × (net.old.count < max_nodes)
+        × NodeFits node (take net.old.count net.old.widths) bytes.now at }
+    ensures { Extends net.old (node_item (node_in_record node bytes.now at)) net.new }
 {
-    Reading {
-        verdict: verdicts::refused(number, place),
-        network: no_network(),
-    }
+    let count = net.count;
+    let slot = slot_at(bytes, at, node);
+    let width = width_of(node, &net.widths);
+    let level = level_of(node, &net.levels);
+    net.slots[count] = slot;
+    net.widths[count] = width;
+    net.levels[count] = level;
+    net.count = count + 1;
 }
 
 // A network from its bytes: refusals 2 to 7. It is built in place, so that no record copies it.
-pub fn read_network(bytes: &[u8]) -> Reading
+pub fn read_network(bytes: &[u8]) -> Result<Network, Refusal>
     ensures reads { ReadsNetwork bytes.now result }
 {
-    if bytes.len() == 0 {
-        return refused_reading(2, 0);
+    if bytes.is_empty() {
+        return Err(Rule::EmptyNetwork.at(0));
     }
     let mut net = no_network();
     let mut at = 0;
     while at < bytes.len() {
         let here = at;
-        let count = net.count;
-        let reading = node_records::read_record(bytes, here, count, &net.widths, &net.signs);
-        let Record::Item(item) = reading else {
-            return refused_reading(nodes::number_of(reading), here);
+        let reading = node_records::read_record(bytes, here, net.count, &net.widths, &net.signs);
+        // The order asks for `let .. else` here.
+        let Ok(item) = reading else {
+            return Err(reading.unwrap_err().at(here));
         };
         at = here + records::u16_at(bytes, here);
         match item {
-            Item::Node(node) => {
-                let slot = slot_at(bytes, here, node);
-                let width = width_of(node, &net.widths);
-                let level = level_of(node, &net.levels);
-                net.slots[count] = slot;
-                net.widths[count] = width;
-                net.levels[count] = level;
-                net.count = count + 1;
-            }
+            Item::Node(node) => add_node(&mut net, bytes, here, node),
             Item::Watch {
                 node,
                 sign,
@@ -192,8 +163,5 @@ pub fn read_network(bytes: &[u8]) -> Reading
             }
         }
     }
-    Reading {
-        verdict: verdicts::accepted(),
-        network: net,
-    }
+    Ok(net)
 }

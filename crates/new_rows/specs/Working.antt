@@ -5,6 +5,7 @@ use Rattle.model.specs.Record.{Bytes, offsets}
 use Rattle.model.specs.Areas.{row_count, area_size, head_words}
 use Rattle.network.specs.declared.Slot.{Slot}
 use Rattle.network.specs.Reading.{slot_node}
+use Rattle.new_rows.specs.declared.Work.{Work}
 use Rattle.areas.specs.Lent.{place_at}
 use Rattle.places.specs.Places.{Place, Blank, relation_in}
 use Rattle.model.specs.Network.{left_of, right_of, evaluate_on}
@@ -26,6 +27,10 @@ pub record Working : Type 0 where
 abbrev pub working : List ℕ → List ℕ → List ℕ → List ℕ → List Bool → Working
 working widths rows work counts changed = record
     { widths = widths; rows = rows; work = work; counts = counts; changed = changed }
+
+-- the same with a batch's working memory
+abbrev pub working_in : List ℕ → List ℕ → Work → Working
+working_in widths rows work = working widths rows work.rows work.counts work.changed
 
 -- each of these has its size
 pub record Sized (m : Working) : Type 0 where
@@ -59,7 +64,8 @@ old_rows head m i = held_at m.widths head m.rows i
 abbrev pub worked_rows : Slot → ℕ → Bytes → List ℕ → Working → ℕ → Relation
 worked_rows slot level bs head m i =
     cond (eqb level 0) (fold_rows bs i (get_or m.widths i 0) (offsets bs) (old_rows head m i))
-    (evaluate_on (slot_node slot) (present_rows m (left_of (slot_node slot))) (present_rows m (right_of (slot_node slot))))
+    (evaluate_on (slot_node slot) (present_rows m (left_of (slot_node slot)))
+    (present_rows m (right_of (slot_node slot))))
 
 -- a node that can be worked, number i of a level
 pub record Workable (slot : Slot) (level : ℕ) (bs : Bytes) (head : List ℕ) (m : Working) (i : ℕ) : Type 0 where

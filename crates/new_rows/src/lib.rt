@@ -11,14 +11,22 @@ ghost use Rattle.model.specs.Network.{left_of, right_of, evaluate_on, fits_on};
 ghost use Rattle.model.specs.Areas.{area_size};
 ghost use Rattle.model.specs.Row.{max_nodes};
 ghost use Rattle.tables.specs.Fold.{Foldable, fold_rows};
-ghost use Rattle.new_rows.specs.Working.{working, Sized, Present, present_rows, worked_rows, Workable};
+ghost use Rattle.new_rows.specs.Working.{working_in, Sized, Present, present_rows, worked_rows, Workable};
 
-use areas::{PLACE, ROW_COUNTS};
+use areas::{AREA, PLACE, ROW_COUNTS};
 use evaluation::Held;
 use network::Slot;
-use places::Made;
-use rows::{MAX_ROWS, STRIDE};
+use rows::{MAX_NODES, MAX_ROWS, STRIDE};
 use tables::FOLDED;
+
+// A batch's working memory: for each node worked so far its new rows, in a place of its own, where they are others than
+// before, their count, and whether they are.
+#[derive(Drop)]
+pub struct Work {
+    pub rows: [u32; AREA],
+    pub counts: [u32; MAX_NODES],
+    pub changed: [bool; MAX_NODES],
+}
 
 // The place of node i's present rows: in the working rows where they changed, else in the rows area.
 fn place_of<'a>(changed: bool, work: &'a [u32], rows: &'a [u32], i: usize) -> &'a [u32]
@@ -31,7 +39,7 @@ fn place_of<'a>(changed: bool, work: &'a [u32], rows: &'a [u32], i: usize) -> &'
     &rows[i * PLACE..i * PLACE + PLACE]
 }
 
-// A table's rows after its events, in an empty place: how many, or that they are more than 64.
+// A table's rows after its events, in an empty place: how many, or None where they are more than 64.
 fn work_table(
     bytes: &[u8],
     table: usize,
@@ -39,7 +47,7 @@ fn work_table(
     rows: &[u32],
     n: usize,
     out: &mut [u32],
-) -> Made
+) -> Option<usize>
     requires { Foldable bytes.now table width × (table < max_nodes) × (area_size ≤ length rows.now)
         × Place width (place_at rows.now table) n
         × Blank out.old }
@@ -52,57 +60,51 @@ fn work_table(
     words::copy_run(rows, table * PLACE, &mut words, 0, n * STRIDE);
     let count = tables::fold(&mut words, n, bytes, table, width);
     if MAX_ROWS < count {
-        return Made::Over;
+        return None;
     }
     words::copy_run(&words, 0, out, 0, count * STRIDE);
-    Made::Rows(count)
+    Some(count)
 }
 
-// What a derived node's kind gives from its inputs' present rows, in an empty place: how many, or that they are
-// more than 64.
+// What a derived node's kind gives from its inputs' present rows, in an empty place: how many, or None where they
+// are more than 64.
 fn work_derived<'a>(
     slot: Slot,
     widths: &[usize],
     rows: &'a [u32],
-    work: &'a [u32],
-    counts: &[u32],
-    changed: &[bool],
+    work: &'a Work,
     out: &mut [u32],
-) -> Made
-    requires { Sized (working widths.now rows.now work.now counts.now changed.now) × Shaped slot
+) -> Option<usize>
+    requires { Sized (working_in widths.now rows.now work.now) × Shaped slot
         × (left_of (slot_node slot) < max_nodes)
         × (right_of (slot_node slot) < max_nodes)
-        × Present (working widths.now rows.now work.now counts.now changed.now) (left_of (slot_node slot))
-        × Present (working widths.now rows.now work.now counts.now changed.now) (right_of (slot_node slot))
+        × Present (working_in widths.now rows.now work.now) (left_of (slot_node slot))
+        × Present (working_in widths.now rows.now work.now) (right_of (slot_node slot))
         × (fits_on (get_or widths.now (left_of (slot_node slot)) 0) (get_or widths.now (right_of (slot_node slot)) 0)
         (slot_node slot) ≡ true)
         × Blank out.old }
     ensures { Makes
         (evaluate_on (slot_node slot)
-        (present_rows (working widths.now rows.now work.now counts.now
-        changed.now)
-        (left_of (slot_node slot)))
-        (present_rows (working widths.now rows.now work.now counts.now
-        changed.now)
-        (right_of (slot_node slot)))) out.new result }
+        (present_rows (working_in widths.now rows.now work.now) (left_of (slot_node slot)))
+        (present_rows (working_in widths.now rows.now work.now) (right_of (slot_node slot)))) out.new result }
 {
     let inputs = evaluation::inputs_of(slot);
     let l = inputs.left;
     let r = inputs.right;
     let left = Held {
         width: widths[l],
-        count: counts[l] as usize,
+        count: work.counts[l] as usize,
     };
     let right = Held {
         width: widths[r],
-        count: counts[r] as usize,
+        count: work.counts[r] as usize,
     };
-    let from = place_of(changed[l], work, rows, l);
-    let with = place_of(changed[r], work, rows, r);
+    let from = place_of(work.changed[l], &work.rows, rows, l);
+    let with = place_of(work.changed[r], &work.rows, rows, r);
     evaluation::evaluate(slot, from, left, with, right, out)
 }
 
-// Node i's rows, of a level, worked in an empty place: how many, or that they are more than 64.
+// Node i's rows, of a level, worked in an empty place: how many, or None where they are more than 64.
 pub fn work_rows<'a>(
     slot: Slot,
     level: usize,
@@ -111,18 +113,13 @@ pub fn work_rows<'a>(
     widths: &[usize],
     rows: &'a [u32],
     head: &[u32],
-    work: &'a [u32],
-    counts: &[u32],
-    changed: &[bool],
+    work: &'a Work,
     out: &mut [u32],
-) -> Made
-    requires { Workable slot level bytes.now head.now
-        (working widths.now rows.now work.now counts.now changed.now) i
+) -> Option<usize>
+    requires { Workable slot level bytes.now head.now (working_in widths.now rows.now work.now) i
         × Blank out.old }
     ensures { Makes
-        (worked_rows slot level bytes.now head.now
-        (working widths.now rows.now work.now counts.now
-        changed.now) i) out.new result }
+        (worked_rows slot level bytes.now head.now (working_in widths.now rows.now work.now) i) out.new result }
 {
     if level == 0 {
         return work_table(
@@ -134,5 +131,5 @@ pub fn work_rows<'a>(
             out,
         );
     }
-    work_derived(slot, widths, rows, work, counts, changed, out)
+    work_derived(slot, widths, rows, work, out)
 }

@@ -2,6 +2,7 @@
 use mathlib.Core.Path.{◌≡◌, refl}
 use mathlib.Core.Bool.{Bool, true, false}
 use mathlib.Core.List.{List}
+use Rattle.std.specs.Prelude.{Err}
 use Prim.Native.Nat.{ℕ, ◌≤◌, ◌<◌}
 use native.Mathlib.Omega.{arith}
 use lib.Dec.{leb, eqb}
@@ -12,7 +13,7 @@ use Rattle.model.specs.Network.{has_shape, item_at, item_fits, node_fits, watch_
 use Rattle.model.specs.Row.{max_width}
 use Rattle.derived_records.specs.Bodies.{NodeRecord, body_fault, ReadsBody}
 use Rattle.nodes.specs.declared.Node.TheVariants.{Table}
-use Rattle.nodes.specs.declared.Record.TheVariants.{Refused}
+use Rattle.verdicts.specs.declared.Rule.TheVariants.{WrongLength, WrongField}
 use Rattle.derived_records.proofs.Body.{counted, first_at, no_second, none_fit, reads_6, reads_7, reads-node}
 use Rattle.node_records.specs.NodeRecords.{WatchRecord}
 
@@ -25,7 +26,7 @@ module _ (ws signs : List ℕ) (bs : Bytes) (at : ℕ) (kind : ℕ) (shape : has
 -- ---- kind 1
 
 module _ (ws signs : List ℕ) (bs : Bytes) (at size : ℕ) (sized : size ≡ length_at bs at) where
-  pub table-size : (size ≡ 6 → ⊥) → ReadsBody ws signs 1 bs at (Refused 6)
+  pub table-size : (size ≡ 6 → ⊥) → ReadsBody ws signs 1 bs at (Err WrongLength)
   unfolding has_shape
   table-size h = reads_6 ws signs bs at 1 (rw (← sized) (ne_eqb size 6 h))
 
@@ -34,11 +35,11 @@ module _ (ws signs : List ℕ) (bs : Bytes) (at size : ℕ) (sized : size ≡ le
     unfolding has_shape
     shaped = rw (← sized) (eq-eqb size 6 six)
 
-    pub table-low : w < 1 → ReadsBody ws signs 1 bs at (Refused 7)
+    pub table-low : w < 1 → ReadsBody ws signs 1 bs at (Err WrongField)
     unfolding item_fits item_at node_fits fits_on
     table-low h = reads_7 ws signs bs at 1 shaped (rw (← is, lt-leb 1 w h))
 
-    pub table_high : max_width < w → ReadsBody ws signs 1 bs at (Refused 7)
+    pub table_high : max_width < w → ReadsBody ws signs 1 bs at (Err WrongField)
     unfolding item_fits item_at node_fits fits_on
     table_high h = reads_7 ws signs bs at 1 shaped (rw (← is) (no_second (leb 1 w) (leb w max_width) (lt-leb w max_width h)))
 
@@ -57,7 +58,7 @@ watch_least bs at e = go (eqb (length_at bs at) 8) refl
     go false f = omega (arith, eqb-true (length_at bs at) 10 (rw f at e))
 
 module _ (xs : List ℕ) (count : ℕ) (long : count ≤ length xs) (ws : List ℕ) (bs : Bytes) (at : ℕ) where
-  pub watch_size : watch_shape bs at ≡ false → ReadsBody ws (take count xs) 9 bs at (Refused 6)
+  pub watch_size : watch_shape bs at ≡ false → ReadsBody ws (take count xs) 9 bs at (Err WrongLength)
   unfolding has_shape
   watch_size e = reads_6 ws (take count xs) bs at 9 e
 
@@ -66,21 +67,21 @@ module _ (xs : List ℕ) (count : ℕ) (long : count ≤ length xs) (ws : List �
     unfolding has_shape
     watch_shaped = shape
 
-    pub watch_no_node : count ≤ n → ReadsBody ws (take count xs) 9 bs at (Refused 7)
+    pub watch_no_node : count ≤ n → ReadsBody ws (take count xs) 9 bs at (Err WrongField)
     unfolding item_fits item_at watch_fits
     watch_no_node h = reads_7 ws (take count xs) bs at 9 watch_shaped (rw (← is, counted xs count long bs at, le-ltb n count h))
 
     module _ (within : n < count) (s : ℕ) (of : s ≡ field_at bs at 1) where
-      pub watch_low : s < 1 → ReadsBody ws (take count xs) 9 bs at (Refused 7)
+      pub watch_low : s < 1 → ReadsBody ws (take count xs) 9 bs at (Err WrongField)
       unfolding item_fits item_at watch_fits
       watch_low h = reads_7 ws (take count xs) bs at 9 watch_shaped (rw (← is, ← of, counted xs count long bs at, lt-ltb n count within, lt-leb 1 s h))
 
-      pub watch_high : 1 ≤ s → 3 < s → ReadsBody ws (take count xs) 9 bs at (Refused 7)
+      pub watch_high : 1 ≤ s → 3 < s → ReadsBody ws (take count xs) 9 bs at (Err WrongField)
       unfolding item_fits item_at watch_fits
       watch_high h g = reads_7 ws (take count xs) bs at 9 watch_shaped (rw (← is, ← of, counted xs count long bs at, lt-ltb n count within, le-leb 1 s h, lt-leb s 3 g))
 
       module _ (low : 1 ≤ s) (high : s ≤ 3) where
-        pub watch_second : (get_or xs n 0 ≡ 0 → ⊥) → ReadsBody ws (take count xs) 9 bs at (Refused 7)
+        pub watch_second : (get_or xs n 0 ≡ 0 → ⊥) → ReadsBody ws (take count xs) 9 bs at (Err WrongField)
         unfolding item_fits item_at watch_fits
         watch_second h =
             reads_7 ws (take count xs) bs at 9 watch_shaped
@@ -89,9 +90,19 @@ module _ (xs : List ℕ) (count : ℕ) (long : count ≤ length xs) (ws : List �
         module _ (first : get_or xs n 0 ≡ 0) (p : ℕ) (ranks : p ≡ priority_at bs at) where
           watch_fits_lem : (t : Bool) → leb p max_priority ≡ t → item_fits ws (take count xs) (item_at 9 bs at) ≡ t
           unfolding item_fits item_at watch_fits
-          watch_fits_lem t e = rw (← is, ← of, counted xs count long bs at, lt-ltb n count within, le-leb 1 s low, le-leb s 3 high, first_at xs count n within, eq-eqb (get_or xs n 0) 0 first, ← ranks) e
+          watch_fits_lem t e = rw (
+            ← is,
+            ← of,
+            counted xs count long bs at,
+            lt-ltb n count within,
+            le-leb 1 s low,
+            le-leb s 3 high,
+            first_at xs count n within,
+            eq-eqb (get_or xs n 0) 0 first,
+            ← ranks,
+          ) e
 
-          pub watch_above : max_priority < p → ReadsBody ws (take count xs) 9 bs at (Refused 7)
+          pub watch_above : max_priority < p → ReadsBody ws (take count xs) 9 bs at (Err WrongField)
           watch_above h = reads_7 ws (take count xs) bs at 9 watch_shaped (watch_fits_lem false (lt-leb p max_priority h))
 
           pub watch_ok : p ≤ max_priority → ReadsBody ws (take count xs) 9 bs at (WatchRecord n s p)

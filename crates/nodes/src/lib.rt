@@ -3,10 +3,116 @@
 #![tactic(auto)]
 
 ghost use Rattle.std.specs.Prelude.{◌≡◌, true};
-ghost use Rattle.nodes.specs.Nodes.{select_kind, set_kind, PartsAre, number_of};
+ghost use Rattle.nodes.specs.Nodes.{select_kind, set_kind, PartsAre, kind_number, code_of, IsKind, IsComparison};
+
+use verdicts::Rule;
 
 // The most pairs of a join and of a no match.
 pub const MAX_PAIRS: usize = 2;
+
+// The kinds of records, in the order of their numbers.
+#[derive(Clone, Copy, PartialEq, Eq)]
+pub enum Kind {
+    Table,
+    SelectConstant,
+    SelectColumn,
+    Project,
+    Join,
+    Union,
+    Difference,
+    Intersection,
+    Watch,
+    NoMatch,
+}
+
+impl Kind {
+    // The kind's number.
+    pub fn number(self) -> usize
+        ensures { result ≡ kind_number self }
+    {
+        match self {
+            Kind::Table => 1,
+            Kind::SelectConstant => 2,
+            Kind::SelectColumn => 3,
+            Kind::Project => 4,
+            Kind::Join => 5,
+            Kind::Union => 6,
+            Kind::Difference => 7,
+            Kind::Intersection => 8,
+            Kind::Watch => 9,
+            Kind::NoMatch => 10,
+        }
+    }
+}
+
+impl TryFrom<usize> for Kind {
+    type Error = Rule;
+
+    ghost try_from_gives = { IsKind };
+
+    // The kind of a number: rule 4.
+    fn try_from(number: usize) -> Result<Self, Rule> {
+        match number {
+            1 => Ok(Kind::Table),
+            2 => Ok(Kind::SelectConstant),
+            3 => Ok(Kind::SelectColumn),
+            4 => Ok(Kind::Project),
+            5 => Ok(Kind::Join),
+            6 => Ok(Kind::Union),
+            7 => Ok(Kind::Difference),
+            8 => Ok(Kind::Intersection),
+            9 => Ok(Kind::Watch),
+            10 => Ok(Kind::NoMatch),
+            _ => Err(Rule::UnknownKind),
+        }
+    }
+}
+
+// How a select compares, in the order of the codes.
+#[derive(Clone, Copy, PartialEq, Eq)]
+pub enum Comparison {
+    Equal,
+    Unequal,
+    Less,
+    AtMost,
+    Greater,
+    AtLeast,
+}
+
+impl Comparison {
+    // The comparison's code.
+    pub fn number(self) -> usize
+        ensures { result ≡ code_of self }
+    {
+        match self {
+            Comparison::Equal => 0,
+            Comparison::Unequal => 1,
+            Comparison::Less => 2,
+            Comparison::AtMost => 3,
+            Comparison::Greater => 4,
+            Comparison::AtLeast => 5,
+        }
+    }
+}
+
+impl TryFrom<usize> for Comparison {
+    type Error = Rule;
+
+    ghost try_from_gives = { IsComparison };
+
+    // The comparison of a code: a part of rule 7.
+    fn try_from(code: usize) -> Result<Self, Rule> {
+        match code {
+            0 => Ok(Comparison::Equal),
+            1 => Ok(Comparison::Unequal),
+            2 => Ok(Comparison::Less),
+            3 => Ok(Comparison::AtMost),
+            4 => Ok(Comparison::Greater),
+            5 => Ok(Comparison::AtLeast),
+            _ => Err(Rule::WrongField),
+        }
+    }
+}
 
 // What a select compares its column with.
 #[derive(Clone, Copy)]
@@ -32,7 +138,7 @@ pub enum Node {
     Select {
         input: usize,
         column: usize,
-        comparison: usize,
+        comparison: Comparison,
         operand: Operand,
     },
     Project {
@@ -64,85 +170,94 @@ pub enum Item {
     Watch { node: usize, sign: u8, priority: u8 },
 }
 
-// What reading a record gives: what it brings, or the number of the rule that it breaks.
-#[derive(Clone, Copy)]
-pub enum Record {
-    Item(Item),
-    Refused(usize),
-}
-
 // ---- what goes by a node's kind, but for its rows
+
+// The nodes that a node uses, both the only one if there is one.
+#[derive(Clone, Copy)]
+pub struct Inputs {
+    pub left: usize,
+    pub right: usize,
+}
 
 // A node's kind, inputs, width and lists.
 #[derive(Clone, Copy)]
 pub struct Parts {
-    pub kind: usize,
-    // Whether it has inputs, and the first and the last of them, 0 if it has none.
-    pub derived: bool,
-    pub left: usize,
-    pub right: usize,
-    // Its own width, or that it has its first input's.
-    pub inherited: bool,
-    pub width: usize,
+    pub kind: Kind,
+    // None for a table.
+    pub inputs: Option<Inputs>,
+    // Its own width, or none where it has its first input's.
+    pub width: Option<usize>,
     // How many pairs and columns its record has: the pairs from field 3 on, the columns behind them from a field on.
     pub pairs: usize,
     pub columns: usize,
     pub from: usize,
 }
 
-// The number of a select's kind.
-fn select_kind(operand: Operand) -> usize
-    ensures { result ≡ select_kind operand }
+// The kind of a select.
+fn select_kind(operand: Operand) -> Kind
+    ensures { kind_number result ≡ select_kind operand }
 {
     match operand {
-        Operand::Constant(_) => 2,
-        Operand::Column(_) => 3,
+        Operand::Constant(_) => Kind::SelectConstant,
+        Operand::Column(_) => Kind::SelectColumn,
     }
 }
 
-// The number of a set operation's kind.
-fn set_kind(operation: SetOperation) -> usize
-    ensures { result ≡ set_kind operation }
+// The kind of a set operation.
+fn set_kind(operation: SetOperation) -> Kind
+    ensures { kind_number result ≡ set_kind operation }
 {
     match operation {
-        SetOperation::Union => 6,
-        SetOperation::Difference => 7,
-        SetOperation::Intersection => 8,
+        SetOperation::Union => Kind::Union,
+        SetOperation::Difference => Kind::Difference,
+        SetOperation::Intersection => Kind::Intersection,
     }
 }
 
-// The parts of a node with inputs: its own width is the number of its columns.
-fn derived(
-    kind: usize,
+// The parts of a node with inputs and with its first input's width, which has no columns.
+fn derived(kind: Kind, left: usize, right: usize, pairs: usize) -> Parts
+    ensures { result ≡ record {
+      kind = kind;
+      inputs = Some (record { left = left; right = right });
+      width = None;
+      pairs = pairs;
+      columns = 0;
+      from = 0;
+    } }
+{
+    Parts {
+        kind,
+        inputs: Some(Inputs { left, right }),
+        width: None,
+        pairs,
+        columns: 0,
+        from: 0,
+    }
+}
+
+// The parts of a node with inputs and columns: it is as wide as it has columns.
+fn with_columns(
+    kind: Kind,
     left: usize,
     right: usize,
-    inherited: bool,
     pairs: usize,
     columns: usize,
     from: usize,
 ) -> Parts
     ensures { result ≡ record {
       kind = kind;
-      derived = true;
-      left = left;
-      right = right;
-      inherited = inherited;
-      width = columns;
+      inputs = Some (record { left = left; right = right });
+      width = Some columns;
       pairs = pairs;
       columns = columns;
       from = from;
     } }
 {
     Parts {
-        kind,
-        derived: true,
-        left,
-        right,
-        inherited,
-        width: columns,
-        pairs,
+        width: Some(columns),
         columns,
         from,
+        ..derived(kind, left, right, pairs)
     }
 }
 
@@ -152,44 +267,33 @@ pub fn parts_of(node: Node) -> Parts
 {
     match node {
         Node::Table { width } => Parts {
-            kind: 1,
-            derived: false,
-            left: 0,
-            right: 0,
-            inherited: false,
-            width,
+            kind: Kind::Table,
+            inputs: None,
+            width: Some(width),
             pairs: 0,
             columns: 0,
             from: 0,
         },
-        Node::Select {
+        Node::Select { input, operand, .. } => derived(select_kind(operand), input, input, 0),
+        Node::Project { input, columns } => with_columns(
+            Kind::Project,
             input,
-            column: _,
-            comparison: _,
-            operand,
-        } => derived(select_kind(operand), input, input, true, 0, 0, 0),
-        Node::Project { input, columns } => derived(4, input, input, false, 0, columns, 2),
+            input,
+            0,
+            columns,
+            2,
+        ),
         Node::Join {
             left,
             right,
             pairs,
             columns,
-        } => derived(5, left, right, false, pairs, columns, 4),
+        } => with_columns(Kind::Join, left, right, pairs, columns, 4),
         Node::Set {
             operation,
             left,
             right,
-        } => derived(set_kind(operation), left, right, true, 0, 0, 0),
-        Node::NoMatch { left, right, pairs } => derived(10, left, right, true, pairs, 0, 0),
-    }
-}
-
-// A record reading's number.
-pub fn number_of(reading: Record) -> usize
-    ensures { result ≡ number_of reading }
-{
-    match reading {
-        Record::Item(_) => 0,
-        Record::Refused(number) => number,
+        } => derived(set_kind(operation), left, right, 0),
+        Node::NoMatch { left, right, pairs } => derived(Kind::NoMatch, left, right, pairs),
     }
 }

@@ -9,7 +9,7 @@ ghost use Rattle.network.specs.Reading.{result_with};
 ghost use Rattle.areas.specs.Lent.{lent};
 
 use areas::{AREA, HEAD};
-use verdicts::Verdict;
+use verdicts::{Rule, Verdict};
 
 // Every named word set to 0.
 fn clear(rows: &mut [u32], gained: &mut [u32], lost: &mut [u32], head: &mut [u32])
@@ -37,12 +37,9 @@ pub fn open(
         (lent rows.old gained.old lost.old head.old) }
 {
     if !areas::long_enough(rows, gained, lost, head) {
-        return verdicts::refused(1, 0);
+        return Err(Rule::ShortArea.at(0));
     }
-    let reading = network::read_network(net);
-    let verdict = reading.verdict;
-    if verdict.number == 0 {
-        clear(rows, gained, lost, head);
-    }
-    verdict
+    network::read_network(net)?;
+    clear(rows, gained, lost, head);
+    Ok(())
 }

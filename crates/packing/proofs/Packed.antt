@@ -1,44 +1,13 @@
 -- Answers of 64 bits, and the reader's words. Assumes nothing.
-use Prim.Native.Nat.{ℕ, ◌*◌, ◌+◌, ◌<◌, ◌≤◌, suc, zero}
-use mathlib.Core.Path.{◌≡◌, sym, refl, ◌∙◌, ap, subst}
+use Prim.Native.Nat.{ℕ, ◌+◌, ◌<◌, ◌≤◌, suc}
+use mathlib.Core.Path.{◌≡◌, sym, refl, ◌∙◌, ap}
 use mathlib.Core.List.{List, ◌∷◌, ◌++◌, []}
-use mathlib.Core.Bool.{false, true, Bool, cond}
-use native.Mathlib.Nat.{zero-add, div-eq_of_lt, mod-eq_of_lt, mul-add-div_right, mul-add-mod_self_right}
 use native.Mathlib.Omega.{arith}
 use lib.ListN.{length, take, set, get_or, length-append, drop}
 use lib.Seq.{sets, length-take-le, take-suc}
-use borrow.Author.Tests.{ne_eqb}
-use Rattle.model.specs.Record.{SmallVerdict, refused, is_accepted, Verdict}
 use Rattle.model.specs.Calls.{ReadAnswer}
 use Rattle.laws.proofs.Parts.{sets_more, sets_first}
-use Rattle.packing.specs.Packing.{Answers, FitWords, ReadFits, half, lower, packed, read_words}
-
--- ---- the two halves
-
-lower-small : (v : Verdict) (value : ℕ) → SmallVerdict v → value < half → lower v value < half
-lower-small v value s h = go (is_accepted v)
-  where
-    go : (t : Bool) → cond t value v.place < half
-    go true = h
-    go false = s.place
-
--- a small verdict and a value of 32 bits can be read back
-answers-packed : (v : Verdict) (value : ℕ) → SmallVerdict v → value < half → Answers v value (packed v value)
-answers-packed v value s h =
-    let l : lower v value < half = lower-small v value s h in
-    let positive : 0 < half = omega arith in
-    record {
-      packs = refl;
-      small = s;
-      upper_half = mul-add-div_right positive v.number (lower v value) ∙ rw (div-eq_of_lt l) (omega arith);
-      lower-half = mul-add-mod_self_right v.number half (lower v value) ∙ mod-eq_of_lt l;
-    }
-
-pub pack_accepted : (number place value : ℕ) → SmallVerdict (refused number place) → value < half → number ≡ 0 → Answers (refused number place) value value
-pack_accepted number place value s h e = subst (Answers (refused number place) value) (rw e (zero-add value)) (answers-packed (refused number place) value s h)
-
-pub pack_refused : (number place value : ℕ) → SmallVerdict (refused number place) → value < half → (number ≡ 0 → ⊥) → Answers (refused number place) value (number * half + place)
-pack_refused number place value s h n = subst (Answers (refused number place) value) (rw (ne_eqb number 0 n) refl) (answers-packed (refused number place) value s h)
+use Rattle.packing.specs.Packing.{ReadFits, read_words}
 
 -- ---- numbers written as words
 
@@ -52,11 +21,6 @@ list_more answer before at list k h e =
     ∙ ap (sets answer at) (sym (ap (λ (n : ℕ). take n list) s ∙ take-suc list k 0 h))
 
 -- ---- the reader's answer
-
--- the count, as a list of one number
-pub count_word : (n : ℕ) → n < half → FitWords (n ∷ [])
-count_word n h zero = h
-count_word n h (suc i) = omega arith
 
 -- its four lists, written one after the other
 pub words_written : (answer : List ℕ) (x : ReadAnswer) → ReadFits x → 97 ≤ length answer → (a1 a2 a3 a4 : List ℕ) →

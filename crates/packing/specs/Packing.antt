@@ -1,8 +1,9 @@
 -- Answers for C: a number of 64 bits, and the reader's words.
-use Rattle.std.specs.Prelude.{◌≡◌, cond, List, [], ◌∷◌, ◌++◌, ℕ, ◌+◌, ◌*◌, ◌/◌, ◌%◌, ◌<◌, get_or, length}
+use Rattle.std.specs.Prelude.{◌≡◌, cond, List, [], ◌∷◌, ◌++◌, ℕ, ◌+◌, ◌*◌, ◌/◌, ◌%◌, ◌<◌, get_or, length, Result, Ok, Err}
 use Rattle.model.specs.Record.{Verdict, SmallVerdict, is_accepted}
 use Rattle.model.specs.Row.{max_nodes}
 use Rattle.model.specs.Calls.{ReadAnswer}
+use Rattle.verdicts.specs.declared.Refusal.{Refusal}
 
 -- 32 bits
 abbrev pub half : ℕ
@@ -23,6 +24,11 @@ pub record Answers (v : Verdict) (value answer : ℕ) : Type 0 where
   pub small : SmallVerdict v
   pub upper_half : answer / half ≡ v.number
   pub lower-half : answer % half ≡ lower v value
+
+-- the value of an answer, 0 beside a refusal
+abbrev pub value_of : Result ℕ Refusal → ℕ
+value_of (Ok value) = value
+value_of (Err refusal) = 0
 
 -- every number of a list fits a word of 32 bits
 abbrev pub FitWords : List ℕ → Type 0

@@ -2,13 +2,15 @@
 
 #![tactic(auto)]
 
-ghost use Rattle.std.specs.Prelude.{◌≡◌, ◌++◌, ◌+◌, ◌≤◌, ◌<◌, length, drop};
+ghost use Rattle.std.specs.Prelude.{◌≡◌, ◌++◌, ◌+◌, ◌≤◌, ◌<◌, length, drop, Ok};
 ghost use Rattle.std.proofs.lemmas.List.Edits.{sets};
 ghost use Rattle.model.specs.Record.{refused, SmallVerdict};
+ghost use Rattle.verdicts.specs.Verdicts.{verdict_of};
 ghost use Rattle.reader.specs.Answer.{answer_of};
-ghost use Rattle.packing.specs.Packing.{half, Answers, FitWords, ReadFits, read_words};
+ghost use Rattle.packing.specs.Packing.{half, Answers, FitWords, ReadFits, read_words, value_of};
 
 use reader::Answer;
+use verdicts::Refusal;
 
 // The number in the upper 32 bits; below it the value, or beside a refusal the place.
 pub fn pack(number: usize, place: usize, value: usize) -> u64
@@ -16,9 +18,21 @@ pub fn pack(number: usize, place: usize, value: usize) -> u64
     ensures { Answers (refused number place) value result }
 {
     if number == 0 {
-        return value as u64;
+        value as u64
+    } else {
+        (number * 4294967296 + place) as u64
     }
-    (number * 4294967296 + place) as u64
+}
+
+// An answer's value, or its refusal's number above its place.
+pub fn pack_answer(answer: Result<usize, Refusal>) -> u64
+    requires { SmallVerdict (verdict_of answer) × (value_of answer < half) }
+    ensures { Answers (verdict_of answer) (value_of answer) result }
+{
+    match answer {
+        Ok(value) => pack(0, 0, value),
+        Err(refusal) => pack(refusal.rule.number(), refusal.place, 0),
+    }
 }
 
 // Numbers written as words, from an index on.
@@ -26,18 +40,15 @@ fn write_list(answer: &mut [u32], at: usize, list: &[usize])
     requires { (at + length list.now ≤ length answer.old) × FitWords list.now }
     ensures { answer.new ≡ sets answer.old at list.now }
 {
-    let n = list.len();
-    let mut k = 0;
-    while k < n {
-        answer[at + k] = list[k] as u32;
-        k += 1;
+    for (k, number) in list.iter().enumerate() {
+        answer[at + k] = *number as u32;
     }
 }
 
 // The reader's answer in its 97 words: the count, then the kinds, widths and levels.
 pub fn write_answer(answer: &mut [u32], read: Answer)
-    requires { (97 ≤ length answer.old) × ReadFits (answer_of read) }
-    ensures { answer.new ≡ read_words (answer_of read) ++ drop 97 answer.old }
+    requires { (97 ≤ length answer.old) × ReadFits (answer_of (Ok read)) }
+    ensures { answer.new ≡ read_words (answer_of (Ok read)) ++ drop 97 answer.old }
 {
     let first = [read.count];
     let kinds = read.kinds;

@@ -1,3 +1,4 @@
+pub mod All
 pub mod Put
 pub mod Judged
 pub mod Node

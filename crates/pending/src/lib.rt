@@ -34,10 +34,7 @@ fn may_hold(signs: &[u8], pending: &[u32], i: usize) -> bool
     requires { (i < max_nodes) × (length signs.now ≡ max_nodes) × (pending_size ≤ length pending.now) }
     ensures { result ≡ may_hold signs.now pending.now i }
 {
-    if alerts(signs[i]) {
-        return true;
-    }
-    pending[COUNTS + i] == 0
+    alerts(signs[i]) || pending[COUNTS + i] == 0
 }
 
 // Whether only nodes that alert hold rows.
@@ -45,14 +42,7 @@ fn held_by_alerts(signs: &[u8], pending: &[u32]) -> bool
     requires { (length signs.now ≡ max_nodes) × (pending_size ≤ length pending.now) }
     ensures { result ≡ all_of (may_hold signs.now pending.now) (numbers_below max_nodes) }
 {
-    let mut i = 0;
-    while i < MAX_NODES {
-        if !may_hold(signs, pending, i) {
-            return false;
-        }
-        i += 1;
-    }
-    true
+    (0..MAX_NODES).all(|i| may_hold(signs, pending, i))
 }
 
 // Whether the pending area is of good form, for a network of n nodes with these widths and signs.
@@ -64,13 +54,9 @@ pub fn good_pending(widths: &[usize], n: usize, signs: &[u8], pending: &[u32]) -
         ((i : ℕ) → get_or signs.now i 0 ≡ sign_of net i) →
         result ≡ good_pending layout net pending.now }
 {
-    if pending.len() < PENDING {
-        return false;
-    }
-    if !areas::good_area(pending, widths, n, pending, COUNTS) {
-        return false;
-    }
-    held_by_alerts(signs, pending)
+    pending.len() >= PENDING
+        && areas::good_area(pending, widths, n, pending, COUNTS)
+        && held_by_alerts(signs, pending)
 }
 
 // The n rows of a place, and their count, written over node i's pending ones, unless they are the same.

@@ -26,10 +26,7 @@ fn is_mark(file: &[u8], at: usize) -> bool
     requires { at + 4 ≤ length file.now }
     ensures { result ≡ is_mark file.now at }
 {
-    if records::u16_at(file, at) != MARK_SIZE {
-        return false;
-    }
-    records::u16_at(file, at + 2) == MARK
+    records::u16_at(file, at) == MARK_SIZE && records::u16_at(file, at + 2) == MARK
 }
 
 // The piece of a file that starts at an offset, past the end none: the mark is looked for by record lengths.
@@ -48,7 +45,8 @@ pub fn next_piece(file: &[u8], start: usize) -> Piece
         at = here + records::u16_at(file, here);
     }
     if start < file.len() {
-        return Piece::Unfinished;
+        Piece::Unfinished
+    } else {
+        Piece::End
     }
-    Piece::End
 }

@@ -15,8 +15,7 @@ use Rattle.laws.proofs.Widths.{wide_insert, wide_each, wide-set_of}
 use Rattle.rows.proofs.Padding.{map-append, set_of-padded}
 use Rattle.rows.proofs.Place.{length-map-padded}
 use Rattle.places.specs.Places.{relation_in, Place, Blank, Fills, Stands, Stored, Makes, insert_all}
-use Rattle.places.specs.declared.Made.{Made}
-use Rattle.places.specs.declared.Made.TheVariants.{Rows, Over}
+use Rattle.std.specs.Prelude.{Option, None, Some}
 use Rattle.places.proofs.Places.{place-rows, place-wide, stored-blank}
 
 -- ---- rows put in
@@ -116,7 +115,7 @@ module _ (f : Row → List Row) (b : List Row) (s : List ℕ) (n : ℕ) (wf : (r
       ∙ insert_swap (flat_map f (first_rows s i)) (f (row_at stride s i)) b asc
 
   -- what one row more brings
-  put_more : (i : ℕ) (out out' : List ℕ) (count : ℕ) (made : Made) → Stands (put_up_to f b s i) out count →
+  put_more : (i : ℕ) (out out' : List ℕ) (count : ℕ) (made : Option ℕ) → Stands (put_up_to f b s i) out count →
       Stored (insert_all (f (row_at stride s i)) (first_rows out count)) out' made → Stored (put_up_to f b s (i + 1)) out' made
   put_more i out out' count made t x =
       let turn : put_up_to f b s (i + 1) ≡ insert_all (f (row_at stride s i)) (first_rows out count) =
@@ -137,14 +136,14 @@ module _ (f : Row → List Row) (b : List Row) (s : List ℕ) (n : ℕ) (wf : (r
       le_trans (put_grows i k) (rw e at step)
 
   -- one row more that stands there: what stands then
-  pub put-stands : (i : ℕ) (out out' : List ℕ) (count more : ℕ) (made : Made) → made ≡ Rows more → Stands (put_up_to f b s i) out count →
+  pub put-stands : (i : ℕ) (out out' : List ℕ) (count more : ℕ) (made : Option ℕ) → made ≡ Some more → Stands (put_up_to f b s i) out count →
       Stored (insert_all (f (row_at stride s i)) (first_rows out count)) out' made → (length out' ≡ place_size) × Stands (put_up_to f b s (i + 1)) out' more
   put-stands i out out' count more made e t x =
       let there : Stands (put_up_to f b s (i + 1)) out' more = rw e at (put_more i out out' count made t x) in
       (put-size (i + 1) out' more there, there)
 
   -- one row more that is too many: all of them are too many
-  pub put_exceeds : (i : ℕ) (out out' : List ℕ) (count : ℕ) (made : Made) → made ≡ Over → i < n → Stands (put_up_to f b s i) out count →
+  pub put_exceeds : (i : ℕ) (out out' : List ℕ) (count : ℕ) (made : Option ℕ) → made ≡ None → i < n → Stands (put_up_to f b s i) out count →
       Stored (insert_all (f (row_at stride s i)) (first_rows out count)) out' made → (max_rows < length (put_up_to f b s n)) × (length out' ≡ place_size)
   put_exceeds i out out' count made e h t x =
       let over : (max_rows < length (put_up_to f b s (i + 1))) × (length out' ≡ place_size) = rw e at (put_more i out out' count made t x) in
@@ -167,9 +166,9 @@ module _ (x : List Row) (rel : Relation) (v : ℕ) (narrow : v ≤ max_width) (w
   pub model_exceeds : max_rows < length x → max_rows < length rel
   model_exceeds h = rw (sym (length-map-padded stride rel) ∙ ap length (sym same)) h
 
-  pub model_makes : (out : List ℕ) (made : Made) → Stored x out made → Makes rel out made
-  model_makes out (Rows n) s = model_fills out n s
-  model_makes out Over s = (model_exceeds s.0, s.1)
+  pub model_makes : (out : List ℕ) (made : Option ℕ) → Stored x out made → Makes rel out made
+  model_makes out (Some n) s = model_fills out n s
+  model_makes out None s = (model_exceeds s.0, s.1)
 
 each_padded : (f g : Row → List Row) (w : ℕ) (rel : Relation) → Wide w rel → ((r : Row) → length r ≡ w → f (padded stride r) ≡ map (padded stride) (g r)) → flat_map f (map (padded stride) rel)
     ≡ map (padded stride) (flat_map g rel)

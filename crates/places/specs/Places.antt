@@ -1,10 +1,8 @@
 -- Relations in places of 64 rows: what the operators read and leave.
-use Rattle.std.specs.Prelude.{◌≡◌, Bool, true, List, [], ◌∷◌, ℕ, ◌≤◌, ◌<◌, length, replicate}
+use Rattle.std.specs.Prelude.{◌≡◌, Bool, true, List, [], ◌∷◌, ℕ, ◌≤◌, ◌<◌, length, replicate, Option, None, Some}
 use Rattle.model.specs.Row.{Row, Relation, keep, insert_row, max_rows, max_width}
 use Rattle.model.specs.Areas.{layout, held_in, good_place, place_of, place_size}
 use Rattle.rows.specs.Rows.{first_rows, stored, Standing}
-use Rattle.places.specs.declared.Made.{Made}
-use Rattle.places.specs.declared.Made.TheVariants.{Rows, Over}
 
 -- the relation that a place holds
 abbrev pub relation_in : ℕ → List ℕ → ℕ → Relation
@@ -38,14 +36,14 @@ abbrev pub Stands : List Row → List ℕ → ℕ → Type 0
 Stands l out n = Standing max_rows place_size l out n
 
 -- some rows stand in the place, or they are more than 64
-abbrev pub Stored : List Row → List ℕ → Made → Type 0
-Stored l out (Rows n) = Stands l out n
-Stored l out Over = (max_rows < length l) × (length out ≡ place_size)
+abbrev pub Stored : List Row → List ℕ → Option ℕ → Type 0
+Stored l out (Some n) = Stands l out n
+Stored l out None = (max_rows < length l) × (length out ≡ place_size)
 
 -- a relation stands in the place, or it has more than 64 rows
-abbrev pub Makes : Relation → List ℕ → Made → Type 0
-Makes rel out (Rows n) = Fills rel out n
-Makes rel out Over = (max_rows < length rel) × (length out ≡ place_size)
+abbrev pub Makes : Relation → List ℕ → Option ℕ → Type 0
+Makes rel out (Some n) = Fills rel out n
+Makes rel out None = (max_rows < length rel) × (length out ≡ place_size)
 
 -- the rows of a put into b, from the last to the first
 abbrev pub insert_all : List Row → List Row → List Row

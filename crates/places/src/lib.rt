@@ -1,4 +1,4 @@
-// Places that operators fill: how many rows were made, a row put among the rows of a place, two places compared.
+// Places that operators fill: a row put among the rows of a place, two places compared.
 
 #![tactic(auto)]
 
@@ -8,28 +8,18 @@ ghost use Rattle.model.specs.Areas.{place_size, stride};
 ghost use Rattle.rows.specs.Rows.{row_at, first_rows};
 ghost use Rattle.places.specs.Places.{Stands, Stored, Place, relation_in};
 
-use insertions::Inserted;
 use rows::{MAX_ROWS, STRIDE};
 
-// How many rows an operator made, or that they are more than 64.
-#[derive(Clone, Copy)]
-pub enum Made {
-    Rows(usize),
-    Over,
-}
-
-// Row i of src put among the rows of a place, which ascend.
-pub fn put_row(out: &mut [u32], n: usize, src: &[u32], i: usize) -> Made
+// Row i of src put among the rows of a place, which ascend: how many rows there are then, or None where they would be
+// more than 64.
+pub fn put_row(out: &mut [u32], n: usize, src: &[u32], i: usize) -> Option<usize>
     requires { Stands (first_rows out.old n) out.old n × (i * stride + stride ≤ length src.now)
         × (ascending (first_rows out.old n) ≡ true) × (length out.old ≡ place_size) }
     ensures { Stored (insert_row (row_at stride src.now i) (first_rows out.old n))
         out.new result }
 {
-    match insertions::insert(out, n, src, i, MAX_ROWS) {
-        Inserted::New => Made::Rows(n + 1),
-        Inserted::Present => Made::Rows(n),
-        Inserted::Full => Made::Over,
-    }
+    let is_new = insertions::insert(out, n, src, i, MAX_ROWS)?;
+    Some(if is_new { n + 1 } else { n })
 }
 
 // Whether two places, of n and of m rows, hold the same rows.

@@ -12,7 +12,7 @@ use Rattle.model.specs.Areas.{padded, stride}
 use Rattle.model.specs.Network.{columns_below}
 use Rattle.rows.proofs.Padding.{field_padded}
 use Rattle.places.specs.Places.{relation_in, Place, Stored, Makes}
-use Rattle.places.specs.declared.Made.{Made}
+use Rattle.std.specs.Prelude.{Option}
 use Rattle.places.proofs.Puts.{put_up_to, put_all, made_is, made_wide, model_makes}
 use Rattle.rows.specs.Rows.{first_rows}
 use Rattle.columns.specs.Columns.{joined_field, masked_row, masked_rows}
@@ -55,5 +55,5 @@ module _ (columns : List ℕ) (w : ℕ) (s : List ℕ) (n : ℕ) (pl : Place w s
   project-wide =
       rw (← each_map (columns_of columns) (relation_in w s n)) (made_wide (projected columns) (λ r. columns_of columns r ∷ []) w (length columns) s n pl project-row columns-wide)
 
-  pub project_makes : length columns ≤ max_width → (out : List ℕ) (made : Made) → Stored (masked_rows columns (first_rows s n)) out made → Makes (project_rows columns (relation_in w s n)) out made
+  pub project_makes : length columns ≤ max_width → (out : List ℕ) (made : Option ℕ) → Stored (masked_rows columns (first_rows s n)) out made → Makes (project_rows columns (relation_in w s n)) out made
   project_makes few = model_makes (masked_rows columns (first_rows s n)) (project_rows columns (relation_in w s n)) (length columns) few project-wide project_is

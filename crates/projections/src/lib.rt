@@ -9,11 +9,16 @@ ghost use Rattle.model.specs.Network.{columns_below};
 ghost use Rattle.model.specs.Areas.{stride};
 ghost use Rattle.places.specs.Places.{Place, Blank, relation_in, Makes};
 
-use places::Made;
 use rows::STRIDE;
 
-// The named columns of a place's rows, in an empty place: how many rows, or that they are more than 64.
-pub fn project_rows(input: &[u32], n: usize, columns: &[u16], c: usize, out: &mut [u32]) -> Made
+// The named columns of a place's rows, in an empty place: how many rows, or None where they are more than 64.
+pub fn project_rows(
+    input: &[u32],
+    n: usize,
+    columns: &[u16],
+    c: usize,
+    out: &mut [u32],
+) -> Option<usize>
     requires { (n * stride ≤ length input.now) × (c ≤ max_width) × (c ≤ length columns.now)
         × (columns_below stride (take c columns.now) ≡ true) × Blank out.old }
     ensures { (w : ℕ) → Place w input.now n → columns_below w (take c columns.now) ≡ true →
@@ -22,14 +27,9 @@ pub fn project_rows(input: &[u32], n: usize, columns: &[u16], c: usize, out: &mu
 {
     let zeros = [0u32; STRIDE];
     let mut count = 0;
-    let mut i = 0;
-    while i < n {
+    for i in 0..n {
         let row = columns::columns_row(input, i, &zeros, 0, STRIDE, columns, c);
-        let Made::Rows(more) = places::put_row(out, count, &row, 0) else {
-            return Made::Over;
-        };
-        count = more;
-        i += 1;
+        count = places::put_row(out, count, &row, 0)?;
     }
-    Made::Rows(count)
+    Some(count)
 }

@@ -9,7 +9,7 @@ use mathlib.Core.Bool.{Bool, true, false, not, cond, ◌||◌, or-false}
 use borrow.Author.Tests.{ltb-true, ltb-false, eqb-true, eqb-false, ne_eqb}
 use native.Mathlib.Omega.{arith}
 use native.Mathlib.Nat.{le_refl, not-suc-le-zero, zero-add}
-use Rattle.model.specs.Network.{Node, AllFit, widths, node_at, is_table, table, left_of, right_of, evaluate_on}
+use Rattle.model.specs.Network.{Node, AllFit, widths, node_at, is_table, left_of, right_of, evaluate_on}
 use Rattle.network.specs.declared.Network.{Network}
 use Rattle.model.specs.Record.{Bytes, Verdict, accepted, refused, offsets}
 use Rattle.propagation.specs.Propagated.{Propagatable, Unworked, Marked, tables_after, new_rows, changed_in, limit_verdict, Propagates}
@@ -18,9 +18,11 @@ use Rattle.working.specs.Worked.{Changes, told, SizedChanges, Untold, Worked, Wo
 use Rattle.named_tables.specs.Named.{is_named}
 use Rattle.named_tables.proofs.Marks.{named_at, length-marks}
 use Rattle.worklist.specs.Listed.{input_changed}
-use Rattle.propagation.specs.declared.Propagated.TheVariants.{All, Over}
+use Rattle.std.specs.Prelude.{Err, None, Ok, Option, Some}
+use Rattle.std.specs.Option.{ok_or}
+use Rattle.verdicts.specs.declared.Rule.TheVariants.{TooManyRows}
 use Rattle.network.specs.Reading.{nodes_of, Built, no_slot, slot_node}
-use Rattle.model.specs.Row.{Relation, ascending, same_rows, place, max_nodes, max_rows, Wide}
+use Rattle.model.specs.Row.{Relation, ascending, same_rows, max_nodes, max_rows, Wide}
 use Rattle.coherence.specs.Held.{rows_held, Places, held_at, Derived}
 use Rattle.coherence.proofs.Coherent.{rows_held_lem, rows-length, level_derived, level_table}
 use Rattle.network.proofs.Nodes.{nodes-count, width_is, slot_node_lem, narrow-widths}
@@ -28,7 +30,6 @@ use Rattle.laws.proofs.Fits.{length-widths}
 use Rattle.laws.proofs.Parts.{same_at}
 use Rattle.model.specs.Evaluation.{rows_at, overfull}
 use Rattle.states.specs.Fitting.{Fitting}
-use Rattle.states.proofs.Written.{sized}
 use Rattle.rows.proofs.Place.{held_wide}
 use Rattle.model.specs.Areas.{layout, row_count, tables_of, area_size, place_size}
 use Rattle.places.specs.Places.{Blank}
@@ -405,8 +406,14 @@ module _ (net : Network) (rows head : List ℕ) (bs : Bytes) (ready : Propagatab
 
 -- ---- the verdict
 
+-- the refusal where nothing is worked
+pub refused_with : {X E : Type 0} (o : Option X) (e x : E) → Err x ≡ ok_or o e → x ≡ e
+refused_with (Some y) e x f = absurd cc
+refused_with None e x f = cc
+
 module _ (head : List ℕ) (new : List Relation) (net : Network) (m : Working) (d : Changes) (due : List Bool) (many : length new ≡ net.count) where
-  pub propagates_over : (i : ℕ) → i < net.count → max_rows < length (rows_at new i) → ((j : ℕ) → j < i → length (rows_at new j) ≤ max_rows) → Propagates head new net m d due (Over i)
+  pub propagates_over : (i : ℕ) → i < net.count → max_rows < length (rows_at new i) → ((j : ℕ) → j < i → length (rows_at new j) ≤ max_rows) →
+      Propagates head new net m d due (Err (record { rule = TooManyRows; place = i }))
   propagates_over i h o u =
       let first : (rest : List ℕ) × (overfull 0 new ≡ (0 + i) ∷ rest) = first-over 0 new i (rw many h) o u in
       record {
@@ -418,6 +425,6 @@ module _ (head : List ℕ) (new : List Relation) (net : Network) (m : Working) (
       refused-not : {i : ℕ} → refused 14 i ≡ accepted → ⊥
       refused-not e = let z : ◌≡◌ {A = ℕ} 14 0 = ap (λ (v : Verdict). v.number) e in omega arith
 
-  pub propagates_all : WorkedTo head new m d net.count → Marked net m.changed due net.count → Propagates head new net m d due All
-  propagates_all w k =
+  pub propagates_all : (u : Unit {0}) → WorkedTo head new m d net.count → Marked net m.changed due net.count → Propagates head new net m d due (Ok u)
+  propagates_all u w k =
       record { verdict = sym (ap limit_verdict (all_under 0 new (λ i h. (w.worked i (rw many at h)).few))); worked = λ e. w; marked = λ e. k }

@@ -1,6 +1,7 @@
 -- The nodes' rows after a batch, as they are worked out: document 000's propagation, with a node's own kind in place
 -- of its differentials.
-use Rattle.std.specs.Prelude.{◌≡◌, Bool, true, false, not, ◌||◌, cond, List, [], ◌∷◌, ℕ, ◌*◌, ◌<◌, length, get_or, replicate}
+use Rattle.std.specs.Prelude.{◌≡◌, Bool, true, false, not, ◌||◌, cond, List, [], ◌∷◌, ℕ, ◌*◌, ◌<◌}
+use Rattle.std.specs.Prelude.{length, get_or, replicate, Result}
 use Rattle.model.specs.Row.{Relation, same_rows, max_nodes}
 use Rattle.model.specs.Record.{Bytes, Verdict, accepted, refused, is_accepted, offsets}
 use Rattle.model.specs.Network.{Node, build, is_table, left_of, right_of, evaluate_on}
@@ -15,8 +16,8 @@ use Rattle.named_tables.specs.Named.{named_marks}
 use Rattle.worklist.specs.Listed.{input_changed}
 use Rattle.new_rows.specs.Working.{Working}
 use Rattle.working.specs.Worked.{Changes, WorkedTo}
-use Rattle.propagation.specs.declared.Propagated.{Propagated}
-use Rattle.propagation.specs.declared.Propagated.TheVariants.{All, Over}
+use Rattle.verdicts.specs.declared.Refusal.{Refusal}
+use Rattle.verdicts.specs.Verdicts.{verdict_of}
 
 -- ---- the rows
 
@@ -63,11 +64,6 @@ pub record Propagatable (net : Network) (rows head : List ℕ) (bs : Bytes) : Ty
 
 -- ---- the answer
 
--- the order's number and place of each case: 14 at the node named
-abbrev pub verdict_by : Propagated → Verdict
-verdict_by All = accepted
-verdict_by (Over i) = refused 14 i
-
 -- rule 14, from the nodes with more than 64 rows: "the lowest such node is named"
 abbrev pub limit_verdict : List ℕ → Verdict
 limit_verdict [] = accepted
@@ -80,7 +76,7 @@ Marked net changed due n = (j : ℕ) → j < n → (get_or net.levels j 0 ≡ 0 
 
 -- every node is worked, unless rule 14 refuses
 pub record Propagates (head : List ℕ) (new : List Relation) (net : Network) (m : Working) (d : Changes)
-    (due : List Bool) (r : Propagated) : Type 0 where
-  pub verdict : verdict_by r ≡ limit_verdict (overfull 0 new)
-  pub worked : verdict_by r ≡ accepted → WorkedTo head new m d net.count
-  pub marked : verdict_by r ≡ accepted → Marked net m.changed due net.count
+    (due : List Bool) (r : Result (Unit {0}) Refusal) : Type 0 where
+  pub verdict : verdict_of r ≡ limit_verdict (overfull 0 new)
+  pub worked : verdict_of r ≡ accepted → WorkedTo head new m d net.count
+  pub marked : verdict_of r ≡ accepted → Marked net m.changed due net.count

@@ -2,58 +2,37 @@
 
 #![tactic(auto)]
 
-ghost use Rattle.std.specs.Prelude.{◌≡◌};
-ghost use Rattle.verdicts.specs.Verdicts.{verdict_of};
-ghost use Rattle.new_rows.specs.Working.{working};
-ghost use Rattle.working.specs.Worked.{told};
-ghost use Rattle.propagation.specs.Propagated.{new_rows, Propagatable, Unworked, verdict_by, Propagates};
+ghost use Rattle.new_rows.specs.Working.{working_in};
+ghost use Rattle.working.specs.Worked.{told_in};
+ghost use Rattle.propagation.specs.Propagated.{new_rows, Propagatable, Unworked, Propagates};
 
 use network::Network;
-use verdicts::Verdict;
+use new_rows::Work;
+use verdicts::{Rule, Verdict};
+use working::Told;
 
-// Whether every node is worked, or the lowest node with more than 64 rows.
-#[derive(Clone, Copy)]
-pub enum Propagated {
-    All,
-    Over(usize),
-}
-
-// The verdict: refusal 14 names the node with more than 64 rows.
-pub fn verdict_of(done: Propagated) -> Verdict
-    ensures { verdict_of result ≡ verdict_by done }
-{
-    match done {
-        Propagated::All => verdicts::accepted(),
-        Propagated::Over(node) => verdicts::refused(14, node),
-    }
-}
-
-// Every node's new rows and its change, worked in number order into working memory in which no node is worked yet.
+// Every node's new rows and its change, worked in number order into working memory in which no node is worked yet, or
+// refusal 14, which names the lowest node with more than 64 rows.
 pub fn propagate(
     net: Network,
     bytes: &[u8],
     rows: &[u32],
     head: &[u32],
-    work: &mut [u32],
-    counts: &mut [u32],
-    changed: &mut [bool],
+    work: &mut Work,
     due: &mut [bool],
-    picks: &mut [u8],
-    sizes: &mut [u32],
-) -> Propagated
+    told: &mut Told,
+) -> Verdict
     requires { Propagatable net rows.now head.now bytes.now
-        × Unworked bytes.now work.old counts.old changed.old due.old picks.old sizes.old }
+        × Unworked bytes.now work.old.rows work.old.counts work.old.changed due.old told.old.picks told.old.sizes }
     ensures propagates { Propagates head.now
         (new_rows net rows.now head.now bytes.now) net
-        (working net.widths rows.now work.new counts.new changed.new)
-        (told picks.new sizes.new) due.new result }
+        (working_in net.widths rows.now work.new) (told_in told.new) due.new result }
 {
     let count = net.count;
-    let mut i = 0;
-    while i < count {
+    for i in 0..count {
         let slot = net.slots[i];
         let level = net.levels[i];
-        if !working::work_node(
+        working::work_node(
             slot,
             level,
             i,
@@ -62,15 +41,10 @@ pub fn propagate(
             rows,
             head,
             work,
-            counts,
-            changed,
             due,
-            picks,
-            sizes,
-        ) {
-            return Propagated::Over(i);
-        }
-        i += 1;
+            told,
+        )
+        .ok_or(Rule::TooManyRows.at(i))?;
     }
-    Propagated::All
+    Ok(())
 }

@@ -8,15 +8,15 @@ use lib.ListN.{length, get_or, set, take, length-map}
 use lib.Seq.{take-suc, length-take-le}
 use Rattle.model.specs.Areas.{padded}
 use Rattle.model.specs.Network.{kind_of}
-use Rattle.model.specs.Record.{Bytes}
+use Rattle.model.specs.Record.{Bytes, accepted}
 use Rattle.model.specs.Calls.{ReadAnswer, read_call}
 use Rattle.model.specs.Row.{max_nodes}
 use Rattle.model.specs.Network as model
 use Rattle.rows.proofs.Padding.{padded_more}
 use Rattle.network.specs.Reading.{slot_node, no_slot, nodes_of, reading_of, Built, ReadsNetwork}
-use Rattle.verdicts.specs.Verdicts.{verdict_of}
 use Rattle.network.specs.declared.Network.{Network}
-use Rattle.network.specs.declared.Reading.{Reading}
+use Rattle.verdicts.specs.declared.Refusal.{Refusal}
+use Rattle.std.specs.Prelude.{Ok, Err}
 use Rattle.network.specs.declared.Slot.{Slot}
 use Rattle.network.proofs.Kept.{ends_padded}
 use Rattle.reader.specs.Answer.{answer_of}
@@ -54,27 +54,22 @@ answer r =
       levels = padded max_nodes (model.levels r.network.nodes);
     }
 
-pub answered : (bs : Bytes) (r : Reading) (kinds : List ℕ) → ReadsNetwork bs r → kinds ≡ padded max_nodes (map kind_of (nodes_of r.network)) →
-    answer_of (record { number = r.verdict.number; place = r.verdict.place; count = r.network.count; kinds = kinds; widths = r.network.widths; levels = r.network.levels })
-    ≡ read_call bs
+pub answered : (bs : Bytes) (net : Network) (kinds : List ℕ) → ReadsNetwork bs (Ok net) → kinds ≡ padded max_nodes (map kind_of (nodes_of net)) →
+    answer_of (Ok (record { count = net.count; kinds = kinds; widths = net.widths; levels = net.levels })) ≡ read_call bs
 unfolding read_call answer
-answered bs r kinds h k =
-    let b : Built r.network = h.built in
-    let net : Network = r.network in
+answered bs net kinds h k =
+    let b : Built net = h.built in
     let count : net.count
     ≡ length (nodes_of net) = sym
-    (length-map (take net.count net.slots) slot_node ∙ length-take-le net.count net.slots (omega (arith, h.built.sound.few, h.built.slots_length))) in
+    (length-map (take net.count net.slots) slot_node ∙ length-take-le net.count net.slots (omega (arith, b.sound.few, b.slots_length))) in
     let ws : net.widths ≡ padded max_nodes (model.widths (nodes_of net)) = ends_padded max_nodes net.count net.widths b.widths-length b.sound.few b.widths-end
     ∙ ap (padded max_nodes) b.sound.widths in
     let ls : net.levels ≡ padded max_nodes (model.levels (nodes_of net)) = ends_padded max_nodes net.count net.levels b.levels-length b.sound.few b.levels-end
     ∙ ap (padded max_nodes) b.sound.levels in
-    let same : answer_of (record {
-      number = r.verdict.number;
-      place = r.verdict.place;
-      count = r.network.count;
-      kinds = kinds;
-      widths = r.network.widths;
-      levels = r.network.levels;
-    }) ≡ answer (reading_of r) =
-    λ i. record { verdict = verdict_of r.verdict; count = count i; kinds = k i; widths = ws i; levels = ls i } in
+    let same : answer_of (Ok (record { count = net.count; kinds = kinds; widths = net.widths; levels = net.levels })) ≡ answer (reading_of (Ok net)) =
+    λ i. record { verdict = accepted; count = count i; kinds = k i; widths = ws i; levels = ls i } in
     same ∙ ap answer h.is
+
+pub answered-refused : (bs : Bytes) (d : Refusal) → ReadsNetwork bs (Err d) → answer_of (Err d) ≡ read_call bs
+unfolding read_call answer model.widths model.levels model.build
+answered-refused bs d h = ap answer h.is

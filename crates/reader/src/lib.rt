@@ -12,12 +12,11 @@ ghost use Rattle.reader.specs.Answer.{answer_of};
 
 use network::Network;
 use rows::MAX_NODES;
+use verdicts::Refusal;
 
-// What the reader answers: the node count, each node's kind, width and level, 0 past the last; zeros beside a refusal.
+// What the reader answers: the node count, each node's kind, width and level, 0 past the last.
 #[derive(Clone, Copy)]
 pub struct Answer {
-    pub number: usize,
-    pub place: usize,
     pub count: usize,
     pub kinds: [usize; MAX_NODES],
     pub widths: [usize; MAX_NODES],
@@ -25,39 +24,26 @@ pub struct Answer {
 }
 
 // The numbers of the nodes' kinds, then zeros.
-fn kinds_of(net: Network) -> [usize; MAX_NODES]
-    requires { Built net }
-    ensures { result ≡ padded max_nodes (map kind_of (nodes_of net)) }
+fn kinds_of(net: &Network) -> [usize; MAX_NODES]
+    requires { Built net.now }
+    ensures { result ≡ padded max_nodes (map kind_of (nodes_of net.now)) }
 {
     let mut kinds = [0usize; MAX_NODES];
-    let count = net.count;
-    let mut i = 0;
-    while i < count {
-        let slot = net.slots[i];
-        let node = slot.node;
-        let parts = nodes::parts_of(node);
-        kinds[i] = parts.kind;
-        i += 1;
+    for i in 0..net.count {
+        kinds[i] = nodes::parts_of(net.slots[i].node).kind.number();
     }
     kinds
 }
 
 // The reader: refusals 2 to 7, or what it answers.
-pub fn read(bytes: &[u8]) -> Answer
+pub fn read(bytes: &[u8]) -> Result<Answer, Refusal>
     ensures answers { answer_of result ≡ read_call bytes.now }
 {
-    let reading = network::read_network(bytes);
-    let verdict = reading.verdict;
-    let net = reading.network;
-    let kinds = kinds_of(net);
-    let widths = net.widths;
-    let levels = net.levels;
-    Answer {
-        number: verdict.number,
-        place: verdict.place,
-        count: net.count,
-        kinds,
-        widths,
-        levels,
-    }
+    let network = network::read_network(bytes)?;
+    Ok(Answer {
+        count: network.count,
+        kinds: kinds_of(&network),
+        widths: network.widths,
+        levels: network.levels,
+    })
 }

@@ -4,15 +4,18 @@ use mathlib.Core.Path.{◌≡◌, refl, ap, subst, sym, ◌∙◌}
 use Prim.Native.Nat.{ℕ, ◌≤◌, zero-le, ◌+◌}
 use lib.ListN.{length}
 use lib.Seq.{append_snoc}
-use borrow.Author.Tests.{le-leb, ne_eqb, eq-eqb}
+use borrow.Author.Tests.{le-leb, eq-eqb}
 use mathlib.Core.Bool.{false, Bool, cond, true≢false, true}
-use Rattle.model.specs.Record.{Bytes, Verdict, is_accepted, refused}
+use Rattle.model.specs.Record.{Bytes, Verdict, is_accepted}
 use Rattle.model.specs.Areas.{Areas, cleared, layout}
 use Rattle.model.specs.Calls.{Result, Applied, open_call}
 use Rattle.demand3.specs.Runs.{Meets, Runs, end_of}
 use Rattle.replay.specs.Replayed.{Reaches, calls_of, Replayed}
 use Rattle.model.specs.Text.{pieces, batch, bytes_between, Piece, pieces_from}
-use Rattle.pieces.specs.Pieces.{pieces_on}
+use mathlib.Core.Logic.{◌⊎◌, inl, inr}
+use Rattle.pieces.specs.Pieces.{Next, pieces_on}
+use Rattle.pieces.specs.declared.Piece as cut
+use Rattle.pieces.specs.declared.Piece.TheVariants.{Broken, Unfinished, End}
 use Rattle.pieces.proofs.Cut.{pieces_all}
 use Rattle.records.proofs.Offsets.{remaining_none}
 use Rattle.demand3.proofs.Theorem.{demand_3, demand-words}
@@ -28,6 +31,12 @@ runs_more net a (d ∷ done) (x ∷ results) c r run m = (run.0, runs_more net x
 end_more : (a : Areas) (results : List Result) (r : Result) → end_of a (results ++ (r ∷ [])) ≡ r.areas
 end_more a [] r = refl
 end_more a (x ∷ results) r = end_more x.areas results r
+
+-- what ends a file leaves no batch
+pub none_left : (file : Bytes) (start : ℕ) (p : cut.Piece) → ((at : ℕ) × (p ≡ Broken at)) ⊎ (p ≡ Unfinished) ⊎ (p ≡ End) → Next file start p → calls_of (pieces_on file start) ≡ []
+none_left file start p (inl e) n = ap calls_of (rw e.1 at n)
+none_left file start p (inr (inl e)) n = ap calls_of (rw e at n)
+none_left file start p (inr (inr e)) n = ap calls_of (rw e at n)
 
 -- the batches before an offset are applied
 pub record Replaying (net file : Bytes) (a after : Areas) (start : ℕ) : Type 0 where
@@ -69,12 +78,12 @@ module _ (net file : Bytes) (a : Areas) where
 
   -- ---- opening first
 
-  pub replay_refused : (v : Verdict) (after : Areas) → record { verdict = v; areas = after } ≡ open_call net a → (v.number ≡ 0 → ⊥) →
+  pub replay_refused : (v : Verdict) (after : Areas) → record { verdict = v; areas = after } ≡ open_call net a → is_accepted v ≡ false →
       Replayed net file a (record { verdict = v; areas = after })
   unfolding open_call
   replay_refused v after e n =
       let same : v ≡ (open_call net a).verdict = ap (λ (x : Result). x.verdict) e in
-      let no : is_accepted (open_call net a).verdict ≡ false = ap is_accepted (sym same) ∙ ne_eqb v.number 0 n in
+      let no : is_accepted (open_call net a).verdict ≡ false = ap is_accepted (sym same) ∙ n in
       record {
         verdict = same;
         refused = λ z. ap (λ (x : Result). x.areas) e ∙ ap (λ (t : Bool). cond t (cleared layout a) a) no;

@@ -30,16 +30,10 @@ fn replay_batches(
         let from = start;
         match pieces::next_piece(file, from) {
             Piece::Batch(end) => {
-                applying::apply(net, &file[from..end], rows, gained, lost, head);
+                let _ = applying::apply(net, &file[from..end], rows, gained, lost, head);
                 start = end + 4;
             }
-            Piece::Broken(_) => {
-                return;
-            }
-            Piece::Unfinished => {
-                return;
-            }
-            Piece::End => {
+            Piece::Broken(_) | Piece::Unfinished | Piece::End => {
                 return;
             }
         }
@@ -60,10 +54,7 @@ pub fn replay(
         (lent rows.old gained.old lost.old head.old)
         (result_with result (lent rows.new gained.new lost.new head.new)) }
 {
-    let verdict = opening::open(net, rows, gained, lost, head);
-    if verdict.number != 0 {
-        return verdict;
-    }
+    opening::open(net, rows, gained, lost, head)?;
     replay_batches(net, file, rows, gained, lost, head);
-    verdict
+    Ok(())
 }

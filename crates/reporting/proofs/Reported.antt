@@ -11,7 +11,9 @@ use borrow.Author.Tests.{le-leb, lt-leb, lt-ltb, ltb-false, ltb-true, ne_eqb}
 use Rattle.network.specs.declared.Network.{Network}
 use Rattle.model.specs.Areas.{changes_in, gained_count, lost_count}
 use Rattle.network.specs.Reading.{Built, network_of, nodes_of}
-use Rattle.verdicts.specs.Verdicts.{verdict_of}
+use Rattle.std.specs.Prelude.{Ok, Err}
+use Rattle.verdicts.specs.declared.Refusal.{Refusal}
+use Rattle.verdicts.specs.Verdicts.{refusal_of}
 use Rattle.model.specs.Record.{Bytes, accepted, refused, Verdict}
 use Rattle.model.specs.Delta.{Change}
 use Rattle.reports.specs.Written.{report_size}
@@ -19,8 +21,8 @@ use Rattle.model.specs.Calls.{is_watched, report_bytes, report_call, report_in, 
 use Rattle.network.proofs.Nodes.{nodes-count}
 use Rattle.areas.specs.Lent.{lent}
 use Rattle.reports.proofs.Bytes.{report_length}
-use Rattle.network.specs.declared.Reading.{Reading}
-use Rattle.admission.specs.Admission.{Admits, change_in}
+use Rattle.admission.specs.Admission.{change_in}
+use Rattle.admission.specs.Admission.{Admits}
 use Rattle.admission.proofs.Admitted.{after_admitted, after-refused}
 use Rattle.admission.proofs.Changes.{change_at_lem}
 use Rattle.model.specs.Network as model
@@ -93,7 +95,7 @@ module _ (net : Network) (b : Built net) (node : ℕ) (gained lost head : List �
 
 -- ---- the whole call
 
-module _ (net : Bytes) (node : ℕ) (rows gained lost head out : List ℕ) (r : Reading) (f : Admits net (lent rows gained lost head) r) where
+module _ (net : Bytes) (node : ℕ) (rows gained lost head out : List ℕ) where
   -- what is answered for a network that was read, and for a refusal
   abbrev answer : model.Network → ReportAnswer
   answer n = report_in n node (lent rows gained lost head) out
@@ -101,16 +103,17 @@ module _ (net : Bytes) (node : ℕ) (rows gained lost head out : List ℕ) (r : 
   abbrev refusal : Verdict → ReportAnswer
   refusal v = record { verdict = v; size = 0; out = out }
 
-  pub report_refused : (r.verdict.number ≡ 0 → ⊥) → record { verdict = verdict_of r.verdict; size = 0; out = out } ≡ report_call net node (lent rows gained lost head) out
+  pub report_refused : (r : Refusal) → Admits net (lent rows gained lost head) (Err r) → record { verdict = refusal_of r; size = 0; out = out }
+      ≡ report_call net node (lent rows gained lost head) out
   unfolding report_call
-  report_refused n = sym (after-refused net rows gained lost head r f answer refusal n)
+  report_refused r f = sym (after-refused net rows gained lost head r f answer refusal)
 
   -- the rows are not looked at
   without_rows : (n : model.Network) → report_in n node (lent [] gained lost head) out ≡ answer n
   unfolding report_in report_of changes_in
   without_rows n = refl
 
-  pub report_known : r.verdict.number ≡ 0 → (x : ReportAnswer) → x ≡ report_in (network_of r.network) node (lent [] gained lost head) out →
+  pub report_known : (n : Network) → Admits net (lent rows gained lost head) (Ok n) → (x : ReportAnswer) → x ≡ report_in (network_of n) node (lent [] gained lost head) out →
       x ≡ report_call net node (lent rows gained lost head) out
   unfolding report_call
-  report_known z x k = k ∙ without_rows (network_of r.network) ∙ sym (after_admitted net rows gained lost head r f z answer refusal)
+  report_known n f x k = k ∙ without_rows (network_of n) ∙ sym (after_admitted net rows gained lost head n f answer refusal)

@@ -11,14 +11,7 @@ ghost use Rattle.reporting.specs.Answer.{report_answer_of};
 
 use areas::{GAINED_COUNTS, LOST_COUNTS};
 use network::Network;
-
-// A verdict, and how many bytes the report takes (0 beside a refusal).
-#[derive(Clone, Copy)]
-pub struct ReportAnswer {
-    pub number: usize,
-    pub place: usize,
-    pub size: usize,
-}
+use verdicts::{Refusal, Rule};
 
 // The sign of a node's watch: 0 if it has none, or if there is no such node.
 fn sign_of(count: usize, signs: &[u8], node: usize) -> usize
@@ -26,9 +19,10 @@ fn sign_of(count: usize, signs: &[u8], node: usize) -> usize
     ensures { result ≡ get_or (take count signs.now) node 0 }
 {
     if node < count {
-        return signs[node] as usize;
+        signs[node] as usize
+    } else {
+        0
     }
-    0
 }
 
 // The report of a node of a network for whose areas 1 to 8 hold: refusals 15 and 16, or its bytes.
@@ -39,38 +33,25 @@ fn report_node(
     lost: &[u32],
     head: &[u32],
     out: &mut [u8],
-) -> ReportAnswer
+) -> Result<usize, Refusal>
     requires { Built network × Changes network gained.now lost.now head.now }
     ensures { report_answer_of result out.new
         ≡ report_in (network_of network) node (lent [] gained.now lost.now head.now)
         out.old }
 {
-    let count = network.count;
-    let sign = sign_of(count, &network.signs, node);
+    let sign = sign_of(network.count, &network.signs, node);
     if sign == 0 {
-        return ReportAnswer {
-            number: 15,
-            place: 0,
-            size: 0,
-        };
+        return Err(Rule::Unwatched.at(0));
     }
     let w = network.widths[node];
     let g = head[GAINED_COUNTS + node] as usize;
     let l = head[LOST_COUNTS + node] as usize;
     let size = reports::report_size(sign, w, g, l);
     if out.len() < size {
-        return ReportAnswer {
-            number: 16,
-            place: 0,
-            size: 0,
-        };
+        return Err(Rule::ShortReport.at(0));
     }
     reports::put_report(out, sign, node, w, gained, g, lost, l);
-    ReportAnswer {
-        number: 0,
-        place: 0,
-        size,
-    }
+    Ok(size)
 }
 
 // The report of a watched node: refusals 1 to 8, 15 and 16, or its bytes from the first lent one on. A refusal writes
@@ -83,22 +64,12 @@ pub fn report(
     lost: &[u32],
     head: &[u32],
     out: &mut [u8],
-) -> ReportAnswer
+) -> Result<usize, Refusal>
     ensures reports { report_answer_of result out.new
         ≡ report_call net.now node
         (lent rows.now gained.now lost.now head.now)
         out.old }
 {
-    let reading = admission::read_areas(net, rows, gained, lost, head);
-    let verdict = reading.verdict;
-    let number = verdict.number;
-    let place = verdict.place;
-    if number != 0 {
-        return ReportAnswer {
-            number,
-            place,
-            size: 0,
-        };
-    }
-    report_node(reading.network, node, gained, lost, head, out)
+    let network = admission::read_areas(net, rows, gained, lost, head)?;
+    report_node(network, node, gained, lost, head, out)
 }

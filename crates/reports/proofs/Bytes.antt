@@ -2,10 +2,11 @@
 use mathlib.Core.List.{◌++◌, List, [], flat_map, map, ◌∷◌}
 use mathlib.Core.Bool.{Bool, cond, false, true}
 use mathlib.Core.Path.{ap, ap₂, refl, sym, ◌∙◌, ◌≡◌}
-use Prim.Native.Nat.{◌*◌, ◌+◌, ◌<◌, suc, zero, zero-le, ℕ, ◌≤◌}
+use Prim.Native.Nat.{◌*◌, ◌+◌, ◌/◌, suc, zero, zero-le, ℕ, ◌≤◌}
 use native.Mathlib.Nat.{add_comm, add-zero, mul-le-mul_right, suc-mul, zero-mul}
 use native.Mathlib.Omega.{arith}
 use lib.ListN.{get_or, length, length-append}
+use Rattle.std.specs.Int.{to_le_bytes, w32}
 use Rattle.model.specs.Row.{Relation, Row, count_from, numbers_below, max_rows, max_width, Wide}
 use Rattle.rows.proofs.Words.{length_fields}
 use Rattle.reports.specs.Written.{allowed_of, records_of, report_size}
@@ -17,6 +18,15 @@ use Rattle.model.specs.Delta.{Change}
 use Rattle.model.specs.Areas.{fields, held_in, layout, place_size, stride}
 use Rattle.rows.proofs.Place.{fields_split, held_wide, length_held}
 use Rattle.laws.proofs.Parts.{flat_append, flat_one}
+
+-- ---- numbers
+
+-- a word's bytes
+pub le_bytes : (x : ℕ) → to_le_bytes w32 x ≡ bytes32 x
+le_bytes x =
+    let low : x / 1 ≡ x = omega arith in
+    let high : x / 16777216 ≡ x / 65536 / 256 = omega arith in
+    cc
 
 -- ---- fields
 
@@ -100,13 +110,6 @@ size_bound n w h g =
 pub allowed_bound : (t : Bool) (n w : ℕ) → n ≤ max_rows → w ≤ max_width → cond t (n * (6 + 4 * w)) 0 ≤ max_rows * (6 + 4 * max_width)
 allowed_bound true n w h g = size_bound n w h g
 allowed_bound false n w h g = zero-le
-
--- record j + 1 of n ends inside them
-pub step-inside : (n j s at len : ℕ) → j < n → at + n * s ≤ len → at + j * s + s ≤ len
-step-inside n j s at len h f =
-    let more : suc j * s ≤ n * s = mul-le-mul_right s h in
-    let e : suc j * s ≡ j * s + s = suc-mul j s in
-    omega (arith, more, e)
 
 -- ---- a node's report
 

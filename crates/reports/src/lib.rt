@@ -7,18 +7,13 @@ ghost use mathlib.Core.List.{flat_map};
 ghost use Rattle.std.proofs.lemmas.List.Edits.{sets};
 ghost use Rattle.model.specs.Record.{bytes16, bytes32};
 ghost use Rattle.model.specs.Areas.{layout, fields, held_in, area_size};
-ghost use Rattle.model.specs.Watched.{allows};
-ghost use Rattle.model.specs.Calls.{change_record, report_bytes, written_to};
+ghost use Rattle.model.specs.Watched.{allows, sign_for};
+ghost use Rattle.model.specs.Calls.{change_record, record_kind, report_bytes, written_to};
 ghost use Rattle.model.specs.Row.{max_nodes, max_rows, max_width};
 ghost use Rattle.reports.specs.Written.{records_of, allowed_of, direction_of, report_size};
 
 use areas::PLACE;
 use rows::STRIDE;
-
-// The kinds of the records of gained and of lost rows.
-const GAINED_RECORD: usize = 64;
-
-const LOST_RECORD: usize = 65;
 
 // Whether a row was gained or lost.
 #[derive(Clone, Copy)]
@@ -27,22 +22,55 @@ pub enum Direction {
     Lost,
 }
 
+// The sign of a watch for a direction alone.
+fn sign_for(direction: Direction) -> usize
+    ensures { result ≡ sign_for (direction_of direction) }
+{
+    match direction {
+        Direction::Gained => 1,
+        Direction::Lost => 2,
+    }
+}
+
+// The kind of the records of rows in a direction.
+fn record_kind(direction: Direction) -> usize
+    ensures { result ≡ record_kind (direction_of direction) }
+{
+    match direction {
+        Direction::Gained => 64,
+        Direction::Lost => 65,
+    }
+}
+
+// Whether a watch's sign allows a direction: 3 allows both.
+pub fn allows(sign: usize, direction: Direction) -> bool
+    ensures { result ≡ allows sign (direction_of direction) }
+{
+    sign == 3 || sign == sign_for(direction)
+}
+
+// How many bytes the record of a row of so many fields takes.
+fn record_size(w: usize) -> usize
+    requires { w ≤ max_width }
+    ensures { result ≡ 6 + 4 * w }
+{
+    6 + 4 * w
+}
+
+// Bytes written from an offset on.
+fn put(out: &mut [u8], at: usize, bytes: &[u8])
+    requires { at + length bytes.now ≤ length out.old }
+    ensures { out.new ≡ sets out.old at bytes.now }
+{
+    out[at..at + bytes.len()].copy_from_slice(bytes);
+}
+
 // A number in 2 bytes.
 fn put16(out: &mut [u8], at: usize, x: usize)
     requires { at + 2 ≤ length out.old }
     ensures { out.new ≡ sets out.old at (bytes16 x) }
 {
-    out[at] = (x % 256) as u8;
-    out[at + 1] = (x / 256 % 256) as u8;
-}
-
-// A number in 4 bytes.
-fn put32(out: &mut [u8], at: usize, x: usize)
-    requires { at + 4 ≤ length out.old }
-    ensures { out.new ≡ sets out.old at (bytes32 x) }
-{
-    put16(out, at, x);
-    put16(out, at + 2, x / 65536);
+    put(out, at, &((x % 65536) as u16).to_le_bytes());
 }
 
 // The fields of a row, each in 4 bytes.
@@ -51,10 +79,8 @@ fn put_fields(out: &mut [u8], at: usize, words: &[u32], from: usize, w: usize)
     ensures { out.new
         ≡ sets out.old at (flat_map bytes32 (fields w words.now from)) }
 {
-    let mut k = 0;
-    while k < w {
-        put32(out, at + 4 * k, words[from + k] as usize);
-        k += 1;
+    for k in 0..w {
+        put(out, at + 4 * k, &words[from + k].to_le_bytes());
     }
 }
 
@@ -72,7 +98,7 @@ fn put_record(
     ensures { out.new
         ≡ sets out.old at (change_record kind node (fields w words.now from)) }
 {
-    put16(out, at, 6 + 4 * w);
+    put16(out, at, record_size(w));
     put16(out, at + 2, kind);
     put16(out, at + 4, node);
     put_fields(out, at + 6, words, from, w);
@@ -93,9 +119,8 @@ fn put_records(
     ensures { out.new
         ≡ sets out.old at (records_of kind node (held_in layout w n area.now node)) }
 {
-    let size = 6 + 4 * w;
-    let mut j = 0;
-    while j < n {
+    let size = record_size(w);
+    for j in 0..n {
         put_record(
             out,
             at + j * size,
@@ -105,53 +130,43 @@ fn put_records(
             node * PLACE + j * STRIDE,
             w,
         );
-        j += 1;
     }
 }
 
-// Whether a watch's sign allows gained rows, or lost ones.
-pub fn allows(sign: usize, direction: Direction) -> bool
-    ensures { result ≡ allows sign (direction_of direction) }
-{
-    if sign == 3 {
-        return true;
-    }
-    match direction {
-        Direction::Gained => sign == 1,
-        Direction::Lost => sign == 2,
-    }
-}
-
-// How many bytes the records of so many rows take, where they are allowed.
-fn allowed_size(allowed: bool, n: usize, w: usize) -> usize
+// How many bytes the records of so many rows take, where a watch's sign allows their direction.
+fn allowed_size(direction: Direction, sign: usize, n: usize, w: usize) -> usize
     requires { (w ≤ max_width) × (n ≤ max_rows) }
-    ensures { result ≡ cond allowed (n * (6 + 4 * w)) 0 }
+    ensures { result ≡ cond (allows sign (direction_of direction)) (n * (6 + 4 * w)) 0 }
 {
-    if allowed {
-        return n * (6 + 4 * w);
+    if allows(sign, direction) {
+        n * record_size(w)
+    } else {
+        0
     }
-    0
 }
 
-// The records of the rows in a node's place from an offset on, where they are allowed.
+// The records of the rows in a node's place from an offset on, where a watch's sign allows their direction. The offset
+// behind them.
 fn put_allowed(
-    allowed: bool,
+    direction: Direction,
     out: &mut [u8],
     at: usize,
-    kind: usize,
+    sign: usize,
     node: usize,
     area: &[u32],
     n: usize,
     w: usize,
-)
+) -> usize
     requires { (w ≤ max_width) × (n ≤ max_rows) × (node < max_nodes) × (area_size ≤ length area.now)
-        × (at + cond allowed (n * (6 + 4 * w)) 0 ≤ length out.old) }
-    ensures { out.new
-        ≡ sets out.old at (allowed_of allowed kind node (held_in layout w n area.now node)) }
+        × (at + cond (allows sign (direction_of direction)) (n * (6 + 4 * w)) 0 ≤ length out.old) }
+    ensures size { result ≡ at + cond (allows sign (direction_of direction)) (n * (6 + 4 * w)) 0 }
+    ensures writes { out.new ≡ sets out.old at (allowed_of (allows sign (direction_of direction))
+        (record_kind (direction_of direction)) node (held_in layout w n area.now node)) }
 {
-    if allowed {
-        put_records(out, at, kind, node, area, n, w);
+    if allows(sign, direction) {
+        put_records(out, at, record_kind(direction), node, area, n, w);
     }
+    at + allowed_size(direction, sign, n, w)
 }
 
 // How many bytes the report of a node takes, given its watch's sign, its width and how many rows it gained and lost.
@@ -159,8 +174,7 @@ pub fn report_size(sign: usize, w: usize, gained: usize, lost: usize) -> usize
     requires { (w ≤ max_width) × (gained ≤ max_rows) × (lost ≤ max_rows) }
     ensures { result ≡ report_size sign w gained lost }
 {
-    allowed_size(allows(sign, Direction::Gained), gained, w)
-        + allowed_size(allows(sign, Direction::Lost), lost, w)
+    allowed_size(Direction::Gained, sign, gained, w) + allowed_size(Direction::Lost, sign, lost, w)
 }
 
 // The report of a node from the first lent byte on.
@@ -185,9 +199,6 @@ pub fn put_report(
           lost = held_in layout w l lost.now node;
         })) }
 {
-    let more = allows(sign, Direction::Gained);
-    let less = allows(sign, Direction::Lost);
-    let at = allowed_size(more, g, w);
-    put_allowed(more, out, 0, GAINED_RECORD, node, gained, g, w);
-    put_allowed(less, out, at, LOST_RECORD, node, lost, l, w);
+    let at = put_allowed(Direction::Gained, out, 0, sign, node, gained, g, w);
+    put_allowed(Direction::Lost, out, at, sign, node, lost, l, w);
 }

@@ -2,9 +2,10 @@
 use mathlib.Core.Bool.{◌&&◌, Bool, true}
 use mathlib.Core.List.{◌++◌, List, [], map, ◌∷◌}
 use mathlib.Core.Path.{ap, ap₂, refl, sym, ◌∙◌, ◌≡◌}
-use Prim.Native.Nat.{◌*◌, ◌+◌, ◌-◌, suc, ℕ, ◌≤◌}
+use Prim.Native.Nat.{◌*◌, ◌+◌, ◌-◌, ℕ, ◌≤◌}
 use native.Mathlib.Omega.{arith}
 use native.Mathlib.Nat.{zero-mul}
+use Rattle.std.proofs.lemmas.List.{length-map}
 use lib.ListN.{drop, length, length-drop, replicate, take, take-append-drop}
 use lib.Seq.{drop_at, length-take-le, slice, take_all}
 use lib.Dec.{leb}
@@ -21,10 +22,6 @@ use Rattle.row_checks.specs.RowChecks.{good_rows}
 use Rattle.row_checks.proofs.Form.{slice-part, tail_padded, wide-take}
 
 -- ---- rows with zeros past the width
-
-length_taken : (w : ℕ) (l : List Row) → length (map (take w) l) ≡ length l
-length_taken w [] = refl
-length_taken w (r ∷ l) = ap suc (length_taken w l)
 
 tails_zero : (w : ℕ) (l : List Row) → Wide w l → all_of (λ r. all_zero (drop w r)) (map (padded stride) l) ≡ true
 tails_zero w [] a = refl
@@ -62,7 +59,7 @@ module _ (w count : ℕ) (area : List ℕ) (i : ℕ) (narrow : w ≤ max_width) 
       (all_of (λ r. all_zero (drop w r)) (first_rows part count)) good in
       let wide4 : Wide stride (first_rows part count) = wide_rows stride part 0 count in
       let same : map (padded stride) (map (take w) (first_rows part count)) ≡ first_rows part count = tail_padded stride w narrow (first_rows part count) wide4 tails in
-      let size : length (map (take w) (first_rows part count)) ≡ count = length_taken w (first_rows part count) ∙ length-rows stride part 0 count in
+      let size : length (map (take w) (first_rows part count)) ≡ count = length-map (first_rows part count) (take w) ∙ length-rows stride part 0 count in
       let front : words (first_rows part count) ≡ take (count * stride) part = words-rows stride part 0 count (rw (part-size area i long) (omega (arith, zero-mul stride))) in
       let front_size : length (take (count * stride) part) ≡ count * stride = length-take-le (count * stride) part (rw (part-size area i long) (omega arith)) in
       let zeros : drop (count * stride) part ≡ replicate (place_size - count * stride) 0 =

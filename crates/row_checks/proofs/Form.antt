@@ -8,8 +8,9 @@ use native.Mathlib.Nat.{add-zero, le_of_suc-le-suc, not-suc-le-zero}
 use native.Mathlib.Numerals.{add-one}
 use lib.Bits.{bit_or}
 use lib.Dec.{eqb}
-use lib.ListN.{length, get_or, take, drop, replicate, length-drop, take-append-drop}
-use lib.Seq.{slice, take-add, drop_at, drop-cons, drop-length, length-take-le}
+use Rattle.std.proofs.lemmas.List.{drop-take}
+use lib.ListN.{length, get_or, take, drop, replicate, length-drop, take-append-drop, drop_of_length-le}
+use lib.Seq.{slice, drop-cons, length-take-le}
 use Rattle.model.specs.Row.{Row, order, is_less, ascending, all_of, Wide}
 use Rattle.model.specs.Areas.{fields, all_zero, padded}
 use Rattle.laws.proofs.Sets.{and_first, and_second}
@@ -22,7 +23,7 @@ use Rattle.rows.proofs.Place.{zeros_are}
 use Rattle.row_checks.specs.RowChecks.{zero_field, zero_past, good_rows}
 
 pub slice-part : (at n : ℕ) (s : List ℕ) → at + n ≤ length s → slice at (at + n) s ≡ take n (drop at s)
-slice-part at n s h = ap (drop at) (take-add at n s) ∙ drop_at (take at s) (take n (drop at s)) at (length-take-le at s (omega arith))
+slice-part at n s h = drop-take at n s
 
 -- ---- a test of every row
 
@@ -99,18 +100,20 @@ module _ (n : ℕ) where
       ∙ ap (λ (t : Bool). zero_field c l && t) (past_one (c + 1) l wide (omega arith) ∙ rw next)
       ∙ sym (and_assoc (zero_field c l) (zero_field (c + 1) l) (zero_past (c + 2) l))
 
-  none_past : (c : ℕ) (l : List Row) → Wide n l → c ≡ n → zero_past c l ≡ true
+  none_past : (c : ℕ) (l : List Row) → Wide n l → n ≤ c → zero_past c l ≡ true
   none_past c [] wide e = refl
   none_past c (r ∷ l) wide e =
-      let f : c ≡ length r = e ∙ sym wide.0 in
-      let none : drop c r ≡ [] = rw f (drop-length r) in
+      let none : drop c r ≡ [] = drop_of_length-le r (rw wide.0 e) in
       rw (none, none_past c l wide.1 e)
 
-  pub past_last : (w c : ℕ) (l : List Row) → Wide n l → c + 1 ≡ n → zero_past w l ≡ zero_past c l → zero_past w l ≡ zero_field c l
-  past_last w c l wide e z = z ∙ past_one c l wide (omega arith) ∙ rw (none_past (c + 1) l wide e) (and-true (zero_field c l))
+  -- the last field, with none behind it
+  pub past_last : (c : ℕ) (l : List Row) → Wide n l → c + 1 ≡ n → zero_past c l ≡ (zero_field c l && zero_past (c + 2) l)
+  past_last c l wide e =
+      past_one c l wide (omega arith)
+      ∙ ap (λ (t : Bool). zero_field c l && t) (none_past (c + 1) l wide (omega arith) ∙ sym (none_past (c + 2) l wide (omega arith)))
 
-  pub past_all : (w c : ℕ) (l : List Row) → Wide n l → c ≡ n → zero_past w l ≡ zero_past c l → zero_past w l ≡ true
-  past_all w c l wide e z = z ∙ none_past c l wide e
+  pub past_all : (w c : ℕ) (l : List Row) → Wide n l → n ≤ c → zero_past w l ≡ zero_past c l → true ≡ zero_past w l
+  past_all w c l wide e z = sym (z ∙ none_past c l wide e)
 
 -- fields from c on that are 0, and others
 pub past_more : (w c d : ℕ) (t : Bool) (l : List Row) → zero_past c l ≡ (t && zero_past d l) → zero_past w l ≡ zero_past c l → t ≡ true → zero_past w l ≡ zero_past d l

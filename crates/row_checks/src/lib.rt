@@ -8,7 +8,7 @@ ghost use Rattle.model.specs.Areas.{stride};
 ghost use Rattle.rows.specs.Rows.{row_at, first_rows};
 ghost use Rattle.row_checks.specs.RowChecks.{zero_field, zero_past, good_rows};
 
-use rows::{Order, STRIDE};
+use rows::STRIDE;
 
 // Whether row j is below the row after it.
 fn below_next(words: &[u32], j: usize) -> bool
@@ -16,11 +16,7 @@ fn below_next(words: &[u32], j: usize) -> bool
     ensures { result ≡ is_less (order (row_at stride words.now j)
         (row_at stride words.now (j + 1))) }
 {
-    match rows::compare_rows(words, j, words, j + 1) {
-        Order::Less => true,
-        Order::Equal => false,
-        Order::Greater => false,
-    }
+    rows::compare_rows(words, j, words, j + 1).is_lt()
 }
 
 // Whether the first n rows strictly ascend.
@@ -28,12 +24,10 @@ fn ascend(words: &[u32], n: usize) -> bool
     requires { n * stride ≤ length words.now }
     ensures { result ≡ ascending (first_rows words.now n) }
 {
-    let mut j = 0;
-    while j + 1 < n {
-        if !below_next(words, j) {
+    for j in 1..n {
+        if !below_next(words, j - 1) {
             return false;
         }
-        j += 1;
     }
     true
 }
@@ -44,10 +38,8 @@ pub fn zero_field(words: &[u32], n: usize, c: usize) -> bool
     ensures { result ≡ zero_field c (first_rows words.now n) }
 {
     let mut bits = 0u32;
-    let mut j = 0;
-    while j < n {
+    for j in 0..n {
         bits |= words[j * STRIDE + c];
-        j += 1;
     }
     bits == 0
 }
@@ -59,10 +51,8 @@ fn zero_pair(words: &[u32], n: usize, c: usize) -> bool
         && zero_field (c + 1) (first_rows words.now n)) }
 {
     let mut pairs = 0u64;
-    let mut j = 0;
-    while j < n {
+    for j in 0..n {
         pairs |= zeros::pair(words, j * STRIDE + c);
-        j += 1;
     }
     pairs == 0
 }
@@ -72,15 +62,15 @@ fn zero_past(words: &[u32], n: usize, width: usize) -> bool
     requires { (n * stride ≤ length words.now) × (width ≤ stride) }
     ensures { result ≡ zero_past width (first_rows words.now n) }
 {
-    let mut c = width;
-    while c + 2 <= STRIDE {
-        if !zero_pair(words, n, c) {
+    for c in (width..STRIDE).step_by(2) {
+        let is_zero = if c + 1 < STRIDE {
+            zero_pair(words, n, c)
+        } else {
+            zero_field(words, n, c)
+        };
+        if !is_zero {
             return false;
         }
-        c += 2;
-    }
-    if c < STRIDE {
-        return zero_field(words, n, c);
     }
     true
 }

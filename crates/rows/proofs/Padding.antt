@@ -5,6 +5,7 @@ use mathlib.Core.List.{List, [], ◌∷◌, ◌++◌, map, append_assoc}
 use Prim.Native.Nat.{ℕ, suc, ◌+◌, ◌-◌, ◌<◌, compare, Ordering}
 use native.Mathlib.Omega.{arith}
 use lib.Dec.{compare_is_eq}
+use Rattle.std.proofs.lemmas.List as lists
 use lib.ListN.{length, length-append, get_or, set, take, replicate, get_or-append}
 use lib.Seq.{set_at, take_at}
 use Rattle.model.specs.Row.{Row, Relation, and_then, order, is_less, same_row, below_first, ascending, member, place, insert_row, keep_if, keep, set_of, delete_row, Wide}
@@ -43,8 +44,7 @@ module _ (n : ℕ) where
   field_padded r k h = get_or-append r (replicate (n - length r) 0) 0 k h
 
   pub map-append : (a b : List Row) → map (padded n) (a ++ b) ≡ map (padded n) a ++ map (padded n) b
-  map-append [] b = refl
-  map-append (r ∷ a) b = ap (λ (l : List Row). padded n r ∷ l) (map-append a b)
+  map-append a b = lists.map-append (padded n) a b
 
   module _ (w : ℕ) where
     pub same-padded : (r s : Row) → length r ≡ w → length s ≡ w → same_row (padded n r) (padded n s) ≡ same_row r s

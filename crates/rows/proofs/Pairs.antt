@@ -1,16 +1,29 @@
 -- Rows compared two words at a time, each pair as one number. For rows of any number of words. Assumes nothing.
-use mathlib.Core.Path.{◌≡◌, ap}
+use mathlib.Core.Path.{◌≡◌, ap, sym}
 use mathlib.Core.List.{List}
 use mathlib.Core.Logic.{⊎_elim}
-use Prim.Native.Nat.{Ordering}
-use Prim.Native.Nat.{ℕ, ◌+◌, ◌≤◌, ◌<◌}
+use Prim.Native.Nat.{Ordering, ℕ, ◌+◌, ◌≤◌, ◌<◌, compare}
 use native.Mathlib.Nat.{eq-or-lt_of_le}
 use native.Mathlib.Omega.{arith}
 use lib.ListN.{get_or}
 use Rattle.model.specs.Row.{order}
 use Rattle.model.specs.Areas.{fields}
-use Rattle.rows.specs.Rows.{Paired}
+use Rattle.std.specs.Ordering.{nat_cmp, MatchOrdering}
+use Rattle.std.specs.Cmp.{ranks}
+use Rattle.std.specs.declared.cmp.Ordering.{Ordering as Outcome}
+use Rattle.std.specs.declared.cmp.Ordering.TheVariants.{Less, Equal, Greater}
+use Rattle.rows.specs.Rows.{Paired, order_of}
+use Rattle.laws.proofs.Order.{lt_compare, eq_compare, gt_compare}
 use Rattle.rows.proofs.Words.{Agree, agree_more, agree_less, agree_greater}
+
+-- the library's comparison of numbers is the model's
+order_of-ranked : (o : Outcome) (x y : ℕ) → MatchOrdering o (x < y) (x ≡ y) (y < x) → order_of o ≡ compare x y
+order_of-ranked Less x y h = sym (lt_compare x y h)
+order_of-ranked Equal x y h = sym (eq_compare x y h)
+order_of-ranked Greater x y h = sym (gt_compare x y h)
+
+pub order_of-nat_cmp : (x y : ℕ) → order_of (nat_cmp x y) ≡ compare x y
+order_of-nat_cmp x y = order_of-ranked (nat_cmp x y) x y (ranks x y)
 
 -- the second word of a pair
 second : (s : List ℕ) (i k : ℕ) → get_or s (i + k + 1) 0 ≡ get_or s (i + (k + 1)) 0
@@ -44,3 +57,11 @@ module _ (w : ℕ) (s : List ℕ) (i : ℕ) (t : List ℕ) (j k x y : ℕ) (room
       agree_greater w s i t j (k + 1) room (one_more (omega arith) (omega arith)) (omega (arith, second s i k, second t j k)))
       (λ (f : get_or t (j + k) 0 < get_or s (i + k) 0). agree_greater w s i t j k (omega arith) a f)
       (eq-or-lt_of_le (omega arith))
+
+  pair_ranked : (o : Outcome) → MatchOrdering o (x < y) (x ≡ y) (y < x) → (x ≡ y → ⊥) → order_of o ≡ order (fields w s i) (fields w t j)
+  pair_ranked Less h n = sym (pair_less h)
+  pair_ranked Equal h n = absurd (n h)
+  pair_ranked Greater h n = sym (pair_greater h)
+
+  pub pair_differs : (x ≡ y → ⊥) → order_of (nat_cmp x y) ≡ order (fields w s i) (fields w t j)
+  pair_differs n = pair_ranked (nat_cmp x y) (ranks x y) n

@@ -7,6 +7,7 @@ use Prim.Native.Nat.{ℕ, zero, suc, ◌+◌, ◌-◌, ◌*◌, ◌≤◌, ◌<�
 use native.Mathlib.Nat.{not-suc-le-zero, le_of_suc-le-suc, mul-zero, add-zero, zero-add, add-mul, mul_assoc, mul_comm, mul-sub, le_refl}
 use native.Mathlib.Omega.{arith}
 use lib.Dec.{eqb, ltb}
+use Rattle.std.proofs.lemmas.List.{length-map}
 use lib.ListN.{length, get_or, take, drop, replicate, length-append, length-replicate, get_or-replicate}
 use lib.Seq.{take_at, drop_at}
 use borrow.Author.Tests.{eqb-true, lt-ltb, le-ltb, ltb-true, ltb-false}
@@ -110,8 +111,7 @@ wide-padded w n [] h a = tt
 wide-padded w n (r ∷ l) h a = (length-padded n r (rw a.0 h), wide-padded w n l h a.1)
 
 pub length-map-padded : (n : ℕ) (l : List Row) → length (map (padded n) l) ≡ length l
-length-map-padded n [] = refl
-length-map-padded n (r ∷ l) = ap suc (length-map-padded n l)
+length-map-padded n l = length-map l (padded n)
 
 wide_held : (w : ℕ) (s : List ℕ) (f : ℕ → ℕ) (l : List ℕ) → Wide w (map (λ k. fields w s (f k)) l)
 wide_held w s f [] = tt

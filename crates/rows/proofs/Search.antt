@@ -12,8 +12,7 @@ use Rattle.model.specs.Row.{Row, order, member, insert_row, delete_row}
 use Rattle.laws.proofs.Order.{flip, order_flip, order_eq, order_trans}
 use Rattle.laws.proofs.Sets.{Above, Ascending, above_trans, above_not-member}
 use Rattle.rows.specs.Rows.{row_at, rows_from, later, locate_by, locate}
-use Rattle.rows.specs.declared.Found.{Found}
-use Rattle.rows.specs.declared.Found.TheVariants.{At, Missing}
+use Rattle.std.specs.Prelude.{Result, Ok, Err}
 use Rattle.rows.proofs.Words.{length-rows}
 
 -- ---- rows by their index
@@ -39,14 +38,14 @@ ascending_at (r ∷ l) (suc i) (suc j) a h g = ascending_at l i j a.1 (le_of_suc
 -- ---- the answers of a search
 
 pub locate-missing : (r : Row) (l : List Row) (p : ℕ) → p ≤ length l →
-    ((j : ℕ) → j < p → order r (get_or l j []) ≡ Ordering.gt) → ((j : ℕ) → p ≤ j → j < length l → order r (get_or l j []) ≡ Ordering.lt) → locate r l ≡ Missing p
+    ((j : ℕ) → j < p → order r (get_or l j []) ≡ Ordering.gt) → ((j : ℕ) → p ≤ j → j < length l → order r (get_or l j []) ≡ Ordering.lt) → locate r l ≡ Err p
 locate-missing r [] p h b a = let e : p ≡ 0 = omega arith in rw e
 locate-missing r (s ∷ l) zero h b a = rw (a 0 zero-le (suc-le-suc zero-le))
 locate-missing r (s ∷ l) (suc p) h b a =
     rw (b 0 (suc-le-suc zero-le), locate-missing r l p (le_of_suc-le-suc h) (λ j g. b (suc j) (suc-le-suc g)) (λ j g f. a (suc j) (suc-le-suc g) (suc-le-suc f)))
 
 pub locate_at : (r : Row) (l : List Row) (p : ℕ) → p < length l →
-    ((j : ℕ) → j < p → order r (get_or l j []) ≡ Ordering.gt) → order r (get_or l p []) ≡ Ordering.eq → locate r l ≡ At p
+    ((j : ℕ) → j < p → order r (get_or l j []) ≡ Ordering.gt) → order r (get_or l p []) ≡ Ordering.eq → locate r l ≡ Ok p
 locate_at r [] p h b e = absurd (not-suc-le-zero h)
 locate_at r (s ∷ l) zero h b e = rw e
 locate_at r (s ∷ l) (suc p) h b e = rw (b 0 (suc-le-suc zero-le), locate_at r l p (le_of_suc-le-suc h) (λ j g. b (suc j) (suc-le-suc g)) e)
@@ -96,23 +95,23 @@ module _ (w : ℕ) (r : Row) (s : List ℕ) (n : ℕ) (asc : Ascending (rows_fro
   below_row : (p : ℕ) → p ≤ n → ((j : ℕ) → j < p → order r (row_at w s j) ≡ Ordering.gt) → (j : ℕ) → j < p → order r (get_or (rows_from w s 0 n) j []) ≡ Ordering.gt
   below_row p h b j g = rw (row_at_lem w s 0 n j (omega arith), zero-add) (b j g)
 
-  pub narrowed_found : (low high mid : ℕ) → low ≤ mid → mid < high → high ≤ n → Ordering.eq ≡ order r (row_at w s mid) → Narrowed w r s n low high → locate r (rows_from w s 0 n) ≡ At mid
+  pub narrowed_found : (low high mid : ℕ) → low ≤ mid → mid < high → high ≤ n → Ordering.eq ≡ order r (row_at w s mid) → Narrowed w r s n low high → locate r (rows_from w s 0 n) ≡ Ok mid
   narrowed_found low high mid a b h o k =
       let here : row_at w s mid ≡ r = sym (order_eq r (row_at w s mid) (sym o)) in
       let before : (j : ℕ) → j < mid → order r (row_at w s j) ≡ Ordering.gt =
       λ j g. order_flip (row_at w s j) r ∙ ap flip (subst (λ (x : Row). order (row_at w s j) x ≡ Ordering.lt) here (earlier j mid g (omega arith))) in
       locate_at r (rows_from w s 0 n) mid (rw length-rows (omega arith)) (below_row mid (omega arith) before) (rw (row_at_lem w s 0 n mid (omega arith), zero-add) (sym o))
 
-  pub narrowed_none : (low high : ℕ) → high ≤ low → low ≤ n → Narrowed w r s n low high → locate r (rows_from w s 0 n) ≡ Missing low
+  pub narrowed_none : (low high : ℕ) → high ≤ low → low ≤ n → Narrowed w r s n low high → locate r (rows_from w s 0 n) ≡ Err low
   narrowed_none low high e h k =
       locate-missing r (rows_from w s 0 n) low (rw length-rows h) (below_row low h k.below)
       (λ j a g. let f : j < n = rw length-rows at g in rw (row_at_lem w s 0 n j f, zero-add) (k.above j (omega arith) f))
 
 -- ---- what the answer of a search says of the row and the list
 
-abbrev pub Spot : Found → Row → List Row → Type 0
-Spot (At p) r l = (p < length l) × (member r l ≡ true) × (delete_row r l ≡ take p l ++ drop (suc p) l)
-Spot (Missing p) r l = (p ≤ length l) × (member r l ≡ false) × (insert_row r l ≡ take p l ++ (r ∷ drop p l))
+abbrev pub Spot : Result ℕ ℕ → Row → List Row → Type 0
+Spot (Ok p) r l = (p < length l) × (member r l ≡ true) × (delete_row r l ≡ take p l ++ drop (suc p) l)
+Spot (Err p) r l = (p ≤ length l) × (member r l ≡ false) × (insert_row r l ≡ take p l ++ (r ∷ drop p l))
 
 -- a list all of whose rows are above r does not hold it
 delete_absent : (r : Row) (l : List Row) → Above r l → delete_row r l ≡ l
@@ -122,12 +121,12 @@ delete_absent r (s ∷ l) a =
     let e : order s r ≡ Ordering.gt = order_flip r s ∙ ap flip a.0 in
     rw (e, delete_absent r l a.1)
 
-spot_later : (f : Found) (r s : Row) (l : List Row) → order r s ≡ Ordering.gt → Spot f r l → Spot (later f) r (s ∷ l)
+spot_later : (f : Result ℕ ℕ) (r s : Row) (l : List Row) → order r s ≡ Ordering.gt → Spot f r l → Spot (later f) r (s ∷ l)
 unfolding delete_row
-spot_later (At p) r s l o h =
+spot_later (Ok p) r s l o h =
     let e : order s r ≡ Ordering.lt = order_flip r s ∙ ap flip o in
     (suc-le-suc h.0, rw (o, h.1), rw (e, h.2))
-spot_later (Missing p) r s l o h = (suc-le-suc h.0, rw (o, h.1), rw (o, h.2))
+spot_later (Err p) r s l o h = (suc-le-suc h.0, rw (o, h.1), rw (o, h.2))
 
 pub located : (r : Row) (l : List Row) → Ascending l → Spot (locate r l) r l
 unfolding delete_row
@@ -142,5 +141,5 @@ located r (s ∷ l) a = go (order r s) refl (located r l a.1)
         (suc-le-suc zero-le, rw e, rw f (delete_absent r l (subst (λ (x : Row). Above x l) (sym q) a.0)))
     go Ordering.gt e ih = spot_later (locate r l) r s l e ih
 
-pub located_as : (r : Row) (l : List Row) (f : Found) → Ascending l → locate r l ≡ f → Spot f r l
-located_as r l f a e = subst (λ (g : Found). Spot g r l) e (located r l a)
+pub located_as : (r : Row) (l : List Row) (f : Result ℕ ℕ) → Ascending l → locate r l ≡ f → Spot f r l
+located_as r l f a e = subst (λ (g : Result ℕ ℕ). Spot g r l) e (located r l a)

@@ -5,6 +5,7 @@ use Prim.Native.Nat.{Ordering}
 use Prim.Native.Nat.{ℕ, zero, suc, ◌+◌, ◌-◌, ◌*◌, ◌≤◌, ◌<◌, compare}
 use native.Mathlib.Nat.{suc-mul, zero-mul, add-zero}
 use native.Mathlib.Omega.{arith}
+use Rattle.std.proofs.lemmas.List.{drop-replicate}
 use lib.ListN.{length-drop, replicate, replicate-append-replicate, length, get_or, take, drop, length-append, take-append-drop}
 use lib.Seq.{paste, get_or-drop, take-nil, drop-nil, get_or-take}
 use lib.Seq.{sets, sets-eq, take-add, drop-drop, take-append-add, drop-append-add, length-take-le, drop-cons, take_at, drop_at}
@@ -221,9 +222,7 @@ rows-part w m s j n h =
 -- ---- blocks: what stands past the rows is 0
 
 pub drop_zeros : (k n : ℕ) → drop k (replicate n zero) ≡ replicate (n - k) zero
-drop_zeros zero n = let e : n - 0 ≡ n = omega arith in rw e
-drop_zeros (suc k) zero = let e : 0 - suc k ≡ 0 = omega arith in rw e
-drop_zeros (suc k) (suc n) = let e : suc n - suc k ≡ n - k = omega arith in rw e (drop_zeros k n)
+drop_zeros k n = drop-replicate k n zero
 
 pub words_zeros : (w k : ℕ) → words (replicate k (replicate w zero)) ≡ replicate (k * w) zero
 words_zeros w zero = rw zero-mul

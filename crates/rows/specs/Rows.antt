@@ -1,13 +1,11 @@
 -- Rows in words: what the functions of this crate read and leave. A row of the order stands in words with zeros up to
 -- the stride.
-use Rattle.std.specs.Prelude.{◌≡◌, List, [], ◌∷◌, ◌++◌, length, get_or, drop, replicate}
+use Rattle.std.specs.Prelude.{◌≡◌, List, [], ◌∷◌, ◌++◌, length, get_or, drop, replicate, Result, Ok, Err}
+use Rattle.std.specs.declared.cmp.Ordering.{Ordering as Outcome}
+use Rattle.std.specs.declared.cmp.Ordering.TheVariants.{Less, Equal, Greater}
 use Prim.Native.Nat.{ℕ, zero, suc, ◌+◌, ◌*◌, ◌≤◌, ◌<◌, Ordering}
 use Rattle.model.specs.Row.{Row, order}
 use Rattle.model.specs.Areas.{stride, fields}
-use Rattle.rows.specs.declared.Order.{Order}
-use Rattle.rows.specs.declared.Order.TheVariants.{Less, Equal, Greater}
-use Rattle.rows.specs.declared.Found.{Found}
-use Rattle.rows.specs.declared.Found.TheVariants.{At, Missing}
 
 -- row j of some words, where a row takes w words
 unfoldable pub row_at : ℕ → List ℕ → ℕ → Row
@@ -33,8 +31,8 @@ stored l s = words l ++ drop (length (words l)) s
 
 -- ---- comparing
 
--- what an answer of `compare_rows` means
-abbrev pub order_of : Order → Ordering
+-- an answer of `compare_rows` as an outcome of the order of rows
+abbrev pub order_of : Outcome → Ordering
 order_of Less = Ordering.lt
 order_of Equal = Ordering.eq
 order_of Greater = Ordering.gt
@@ -47,19 +45,19 @@ pub record Paired (s : List ℕ) (i n : ℕ) : Type 0 where
 -- ---- searching
 
 -- the same place, one row further on
-abbrev pub later : Found → Found
-later (At p) = At (suc p)
-later (Missing p) = Missing (suc p)
+abbrev pub later : Result ℕ ℕ → Result ℕ ℕ
+later (Ok p) = Ok (suc p)
+later (Err p) = Err (suc p)
 
 -- where a row stands before, at or behind a first row
-abbrev pub locate_by : Ordering → Found → Found
-locate_by Ordering.lt f = Missing zero
-locate_by Ordering.eq f = At zero
+abbrev pub locate_by : Ordering → Result ℕ ℕ → Result ℕ ℕ
+locate_by Ordering.lt f = Err zero
+locate_by Ordering.eq f = Ok zero
 locate_by Ordering.gt f = later f
 
--- where a row stands in an ascending list, or where it belongs
-abbrev pub locate : Row → List Row → Found
-locate r [] = Missing zero
+-- where a row stands in an ascending list (Ok), or where it belongs (Err)
+abbrev pub locate : Row → List Row → Result ℕ ℕ
+locate r [] = Err zero
 locate r (s ∷ l) = locate_by (order r s) (locate r l)
 
 -- ---- rows in words that were 0

@@ -10,7 +10,7 @@ ghost use Rattle.rows.specs.Rows.{row_at, first_rows};
 ghost use Rattle.places.specs.Places.{Place, Blank, relation_in, Fills, Stands};
 ghost use Rattle.merges.specs.Merges.{kept_by, Appends};
 
-use rows::Order;
+use std::cmp::Ordering;
 
 // Row i of src written behind the rows of a place, if it is wanted: how many they are then.
 fn append_wanted(src: &[u32], i: usize, wanted: bool, out: &mut [u32], count: usize) -> usize
@@ -19,11 +19,12 @@ fn append_wanted(src: &[u32], i: usize, wanted: bool, out: &mut [u32], count: us
     ensures { Appends (keep_if wanted (row_at stride src.now i) []) out.old count
         out.new result }
 {
-    if !wanted {
-        return count;
+    if wanted {
+        merges::append_rows(src, i, 1, out, count);
+        count + 1
+    } else {
+        count
     }
-    merges::append_rows(src, i, 1, out, count);
-    count + 1
 }
 
 // The rows of the left place that are in the right one, or those that are not, in an empty place: how many.
@@ -44,18 +45,19 @@ fn keep_rows(
     let mut count = 0;
     let mut i = 0;
     let mut j = 0;
+    // Not a `for`: the outcome says which of the two indices moves on.
     while i < n {
         match merges::compare_first(left, i, right, m, j) {
-            Order::Less => {
+            Ordering::Less => {
                 count = append_wanted(left, i, !wanted, out, count);
                 i += 1;
             }
-            Order::Equal => {
+            Ordering::Equal => {
                 count = append_wanted(left, i, wanted, out, count);
                 i += 1;
                 j += 1;
             }
-            Order::Greater => {
+            Ordering::Greater => {
                 j += 1;
             }
         }

@@ -7,7 +7,7 @@ use native.Mathlib.Omega.{arith}
 use lib.Dec.{ltb}
 use lib.ListN.{drop, get_or, length, length-drop}
 use lib.Seq.{length-take-le, sets}
-use borrow.Author.Tests.{eq-eqb, le-leb, ne_eqb}
+use borrow.Author.Tests.{le-leb}
 use Rattle.model.specs.Record.{Bytes, is_accepted}
 use Rattle.model.specs.Network.{read_network, nodes_in}
 use Rattle.model.specs.Station.{State}
@@ -17,7 +17,9 @@ use Rattle.model.specs.Calls.{Applied, Result, open_call, result_of}
 use Rattle.model.specs.Text.{Piece, batch, batch_word, broken, bytes_between, line, no_input_words, node_lines, refused_line, unfinished, unfinished_word}
 use Rattle.laws.proofs.Sets.{and_first}
 use Rattle.network.specs.Reading.{ReadsNetwork, network_of, nodes_of}
-use Rattle.network.specs.declared.Reading.{Reading}
+use Rattle.network.specs.declared.Network.{Network}
+use Rattle.std.specs.Prelude.{Ok, Err}
+use Rattle.verdicts.specs.declared.Refusal.{Refusal}
 use Rattle.areas.specs.Lent.{lent}
 use Rattle.areas.proofs.Good.{long_parts}
 use Rattle.network.proofs.Nodes.{nodes-count}
@@ -63,10 +65,10 @@ module _ (net : Bytes) (a : Areas) (k : Opened net a) (b : Bytes) (next : ℕ) (
   unfolding result_of
   verdict_is = ap (λ (x : Result). x.verdict) (result_is net a k b r m)
 
-  pub refused-batch : (r.verdict.number ≡ 0 → ⊥) → PutIfRoom (refused_line r.verdict.number r.verdict.place) 50 before out size →
+  pub refused-batch : is_accepted r.verdict ≡ false → PutIfRoom (refused_line r.verdict.number r.verdict.place) 50 before out size →
       Applies net b next a r.areas before out (record { size = size; stage = Cut next })
   refused-batch n p =
-      let no : is_accepted (step_of net a b).verdict ≡ false = ap is_accepted (sym verdict_is) ∙ ne_eqb r.verdict.number 0 n in
+      let no : is_accepted (step_of net a b).verdict ≡ false = ap is_accepted (sym verdict_is) ∙ n in
       let text : refused_line r.verdict.number r.verdict.place ≡ batch_line (step_of net a b) =
       ap refusal verdict_is ∙ sym (ap (λ (t : Bool). cond t (line batch_word ((step_of net a b).state.number ∷ [])) (refusal (step_of net a b).verdict)) no) in
       record {
@@ -75,11 +77,11 @@ module _ (net : Bytes) (a : Areas) (k : Opened net a) (b : Bytes) (next : ℕ) (
         stage = sym (ap (λ (t : Bool). cond t (Tell 0 next) (Cut next)) no);
       }
 
-  pub accepted-batch : r.verdict.number ≡ 0 → Put (line batch_word (get_or r.areas.head 0 0 ∷ [])) 27 0 before out size →
+  pub accepted-batch : is_accepted r.verdict ≡ true → Put (line batch_word (get_or r.areas.head 0 0 ∷ [])) 27 0 before out size →
       Applies net b next a r.areas before out (record { size = size; stage = Tell 0 next })
   unfolding state_in
   accepted-batch z p =
-      let yes : is_accepted (step_of net a b).verdict ≡ true = ap is_accepted (sym verdict_is) ∙ eq-eqb r.verdict.number 0 z in
+      let yes : is_accepted (step_of net a b).verdict ≡ true = ap is_accepted (sym verdict_is) ∙ z in
       let number : get_or r.areas.head 0 0 ≡ (step_of net a b).state.number =
       ap (λ (x : Result). (state_of net x.areas).number) (result_is net a k b r m) ∙ ap (λ (s : State). s.number) (state_is net a k b) in
       let text : line batch_word (get_or r.areas.head 0 0 ∷ []) ≡ batch_line (step_of net a b) =
@@ -105,19 +107,19 @@ module _ (f : Files) (a : Areas) (before out : Bytes) (size : ℕ) (room : node_
     verdict_read : r.verdict ≡ (read_network f.net).verdict
     verdict_read = ap (λ (x : Result). x.verdict) e ∙ open_verdict_lem f.net a long
 
-    pub says-refused : (r.verdict.number ≡ 0 → ⊥) → PutIfRoom (refused_line r.verdict.number r.verdict.place) 50 before out size →
+    pub says-refused : is_accepted r.verdict ≡ false → PutIfRoom (refused_line r.verdict.number r.verdict.place) 50 before out size →
         Says f Begin a r.areas before out (record { size = size; stage = End })
     says-refused n p =
-        let no : is_accepted (read_network f.net).verdict ≡ false = ap is_accepted (sym verdict_read) ∙ ne_eqb r.verdict.number 0 n in
+        let no : is_accepted (read_network f.net).verdict ≡ false = ap is_accepted (sym verdict_read) ∙ n in
         record {
           wrote = wrote-put (refusal r.verdict) _ 50 before out size (p.whole (omega (arith, room))) (ap refusal verdict_read ∙ rw (y, no)) (omega (arith, room));
           areas = ap (λ (x : Result). x.areas) e ∙ rw y;
           stage = rw (y, no);
         }
 
-    pub says-opened : r.verdict.number ≡ 0 → Says f Begin a r.areas before before (record { size = 0; stage = Cut 0 })
+    pub says-opened : is_accepted r.verdict ≡ true → Says f Begin a r.areas before before (record { size = 0; stage = Cut 0 })
     says-opened z =
-        let yes : is_accepted (read_network f.net).verdict ≡ true = ap is_accepted (sym verdict_read) ∙ eq-eqb r.verdict.number 0 z in
+        let yes : is_accepted (read_network f.net).verdict ≡ true = ap is_accepted (sym verdict_read) ∙ z in
         record {
           wrote = record { bytes = rw (y, yes); is = rw (y, yes); fits = omega arith };
           areas = ap (λ (x : Result). x.areas) e ∙ rw y;
@@ -167,11 +169,11 @@ says-end f start a before room e = says_last f start a before before 0 room [] e
 
 -- ---- a node's lines
 
-module _ (net : Bytes) (rd : Reading) (q : ReadsNetwork net rd) (rows gained lost head : List ℕ) (k : Opened net (lent rows gained lost head)) where
-  network_is : network_of rd.network ≡ (read_network net).network
+module _ (net : Bytes) (nw : Network) (q : ReadsNetwork net (Ok nw)) (rows gained lost head : List ℕ) (k : Opened net (lent rows gained lost head)) where
+  network_is : network_of nw ≡ (read_network net).network
   network_is = ap (λ (x : model.Reading). x.network) q.is
 
-  good : good_form layout (nodes_of rd.network) (lent rows gained lost head) ≡ true
+  good : good_form layout (nodes_of nw) (lent rows gained lost head) ≡ true
   unfolding coherent
   good =
       let ns : List model.Node = nodes_in net in
@@ -180,18 +182,22 @@ module _ (net : Bytes) (rd : Reading) (q : ReadsNetwork net rd) (rows gained los
       (same_relations (rows_in layout ns (lent rows gained lost head)) (evaluate ns (tables_of ns (rows_in layout ns (lent rows gained lost head))))) k.whole in
       ap (λ (n : model.Network). good_form layout n.nodes (lent rows gained lost head)) network_is ∙ here
 
-  pub changes-are : Changes rd.network gained lost head
+  pub changes-are : Changes nw gained lost head
   changes-are =
       let long : (area_size ≤ length rows) × (area_size ≤ length gained) × (area_size ≤ length lost) × (head_words ≤ length head) = long_parts rows gained lost head k.long in
-      changes-good rd.network q.built rows gained lost head good long.1 long.2 long.3
+      changes-good nw q.built rows gained lost head good long.1 long.2 long.3
 
   -- the rows' area is not looked at
-  pub lines_are : (i : ℕ) → lines_in rd.network gained lost head i ≡ node_lines (read_network net).network (state_of net (lent rows gained lost head)).changes i
+  pub lines_are : (i : ℕ) → lines_in nw gained lost head i ≡ node_lines (read_network net).network (state_of net (lent rows gained lost head)).changes i
   unfolding state_in areas.changes_in
   lines_are i = ap (λ (n : model.Network). node_lines n (areas.changes_in layout n.nodes (lent [] gained lost head)) i) network_is
 
-  pub count_is : rd.network.count ≡ length (nodes_in net)
-  count_is = sym (nodes-count rd.network q.built) ∙ ap (λ (n : model.Network). length n.nodes) network_is
+  pub count_is : nw.count ≡ length (nodes_in net)
+  count_is = sym (nodes-count nw q.built) ∙ ap (λ (n : model.Network). length n.nodes) network_is
+
+-- a refused network has no node
+pub none_read : (net : Bytes) (r : Refusal) → ReadsNetwork net (Err r) → 0 ≡ length (nodes_in net)
+none_read net r q = ap (λ (x : model.Reading). length x.network.nodes) q.is
 
 pub says-node : (f : Files) (node next : ℕ) (a : Areas) (before out : Bytes) (size : ℕ) →
     Put (node_lines (read_network f.net).network (state_of f.net a).changes node) node_room 0 before out size → node_room ≤ length before →

@@ -30,26 +30,12 @@ pub struct Said {
 pub fn is_over(stage: Stage) -> bool
     ensures { result ≡ is_over stage }
 {
-    match stage {
-        Stage::Begin => false,
-        Stage::Cut(_) => false,
-        Stage::Tell(_, _) => false,
-        Stage::End => true,
-    }
+    matches!(stage, Stage::End)
 }
 
 // Whether both files, the network's (n) and that of the batches (b), are there and of at most 65,536 bytes.
 pub fn has_input(n: bool, b: bool, net: &[u8], file: &[u8]) -> bool
     ensures { result ≡ has_input (files n b net.now file.now) }
 {
-    if !n {
-        return false;
-    }
-    if !b {
-        return false;
-    }
-    if MAX_FILE < net.len() {
-        return false;
-    }
-    file.len() <= MAX_FILE
+    n && b && net.len() <= MAX_FILE && file.len() <= MAX_FILE
 }

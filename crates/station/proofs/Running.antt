@@ -2,7 +2,7 @@
 use mathlib.Core.Bool.{true, false}
 use mathlib.Core.List.{List}
 use mathlib.Core.Path.{ap, sym, ◌∙◌, ◌≡◌}
-use Prim.Native.Nat.{ℕ, ◌+◌, ◌-◌, ◌*◌, ◌≤◌}
+use Prim.Native.Nat.{ℕ, ◌+◌, ◌-◌, ◌*◌, ◌≤◌, ◌<◌}
 use native.Mathlib.Omega.{arith}
 use lib.ListN.{drop, length, length-append, length-drop, take}
 use lib.Seq.{length-take-le}
@@ -12,15 +12,7 @@ use Rattle.stages.specs.declared.Stage.TheVariants.{Begin}
 use Rattle.stages.specs.Stages.{Files, Ready, Says, is_over, text_at}
 use Rattle.program.specs.Runs.{Turn, left, output_of}
 use Rattle.program.proofs.Theorem.{falls_again, output_again, output_from, over_output, ready_again, written}
-use Rattle.station.specs.declared.Outcome.{Outcome}
-use Rattle.station.specs.declared.Outcome.TheVariants.{Again, Failed, Moved}
-use Rattle.station.specs.Moves.{Within}
 use Rattle.station_lines.specs.Lines.{node_room}
-
-pub within_more : (n : ℕ) (o : Outcome) → Within 0 o → Within n o
-within_more n (Moved k) h = omega (arith, h)
-within_more n Again h = h
-within_more n Failed h = h
 
 -- the rest of some bytes
 pub rest_length : (bytes : List ℕ) (from : ℕ) → from ≤ length bytes → length (take (length bytes - from) (drop from bytes)) ≡ length bytes - from
@@ -54,8 +46,8 @@ module _ (f : Files) where
             small = omega (arith, k.small, h, falls_again f s a k.ready t d n, e);
           }
 
-      -- a part of them is a part of the output
-      pub run_part : (taken : ℕ) → taken ≤ t.said.size → told + taken ≤ length (output_of f)
+      -- fewer of them are fewer than the output's
+      pub run_part : (taken : ℕ) → taken < t.said.size → told + taken < length (output_of f)
       run_part taken h = omega (arith, k.output, next-bytes, h)
 
     pub run_end : is_over s ≡ true → told ≡ length (output_of f)

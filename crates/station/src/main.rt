@@ -4,12 +4,13 @@
 
 #![tactic(auto)]
 
-ghost use Rattle.std.specs.Prelude.{◌≡◌, true, false, ◌≤◌, length};
+ghost use Rattle.std.specs.Prelude.{◌≡◌, true, ◌≤◌, length, IfSome};
+ghost use Rattle.std.specs.IoError.{error_kind};
 ghost use Rattle.model.specs.Areas.{layout, long_enough};
 ghost use Rattle.areas.specs.Lent.{lent};
 ghost use Rattle.station_lines.specs.Lines.{node_room};
 ghost use Rattle.stages.specs.Stages.{files};
-ghost use Rattle.station.specs.Moves.{Told, Within};
+ghost use Rattle.station.specs.Moves.{Told, Wrote, may_pass};
 
 use areas::{AREA, HEAD};
 use stages::Stage;
@@ -24,178 +25,119 @@ const ABOVE: usize = 65537;
 // How often a call that moved nothing is tried again: it was interrupted, or a pipe that does not wait was full.
 const TRIES: usize = 10000000;
 
-// What a call that moves bytes came to: so many were moved; a failure that may pass; another failure.
+// A run that stopped: how many bytes the system took before it did, and the failure of the write that it stopped at;
+// none where that write took no byte and told no failure.
 #[derive(Clone, Copy)]
-pub enum Outcome {
-    Moved(usize),
-    Again,
-    Failed,
+pub struct Stopped {
+    told: usize,
+    reason: Option<Error>,
 }
 
-// A file that was read: whether it could be read to its end or over the limit, and how many bytes.
-#[derive(Clone, Copy)]
-pub struct Contents {
-    found: bool,
-    size: usize,
-}
-
-// A failure, by its kind: an interrupted call and a full pipe that does not wait may pass; others get their turn
-// first.
-fn failure(error: &Error) -> Outcome
-    ensures { Within 0 result }
+// Whether a call that failed may succeed if it is tried again: it was interrupted, or a pipe that does not wait was
+// full, and then others get their turn first.
+fn may_pass(error: &Error) -> bool
+    ensures { result ≡ may_pass (error_kind error.now) }
 {
     match error.kind() {
-        ErrorKind::Interrupted => Outcome::Again,
+        ErrorKind::Interrupted => true,
         ErrorKind::WouldBlock => {
             thread::yield_now();
-            Outcome::Again
+            true
         }
-        _ => Outcome::Failed,
+        _ => false,
     }
 }
 
-// One read.
-fn read_once(file: &mut File, bytes: &mut [u8]) -> Outcome
-    ensures { Within (length bytes.old) result }
-{
-    match file.read(bytes) {
-        Ok(n) => Outcome::Moved(n),
-        Err(error) => failure(&error),
-    }
-}
-
-// One write, and the failure that it came to, if any.
-fn write_once(out: &mut Stdout, bytes: &[u8], last: &mut Option<Error>) -> Outcome
-    ensures { Within (length bytes.now) result }
-{
-    match out.write(bytes) {
-        Ok(n) => Outcome::Moved(n),
-        Err(error) => {
-            let outcome = failure(&error);
-            *last = Some(error);
-            outcome
-        }
-    }
-}
-
-// Reads until the file ends or there is no room left. A read that fails is not the end of the file: then nothing is
-// found.
-fn read_all(file: &mut File, bytes: &mut [u8]) -> Contents
-    ensures { result.size ≤ length bytes.old }
+// Reads until the file ends or there is no room left: how many bytes. A read that fails is not the end of the file:
+// then the file counts as missing. (std's read_to_end wants a Vec, and there is no heap.)
+fn read_all(file: &mut File, bytes: &mut [u8]) -> Option<usize>
+    ensures { IfSome result (λ n. n ≤ length bytes.old) }
 {
     let mut at = 0;
     let mut tries = TRIES;
     while at < bytes.len() {
         let from = at;
-        match read_once(file, &mut bytes[from..]) {
-            Outcome::Moved(n) => {
-                if n == 0 {
-                    return Contents {
-                        found: true,
-                        size: from,
-                    };
-                }
+        match file.read(&mut bytes[from..]) {
+            Ok(0) => {
+                return Some(from);
+            }
+            Ok(n) => {
                 at = from + n;
             }
-            Outcome::Again => {
-                if tries == 0 {
-                    return Contents {
-                        found: false,
-                        size: 0,
-                    };
+            Err(error) => {
+                if !may_pass(&error) || tries == 0 {
+                    return None;
                 }
                 tries -= 1;
             }
-            Outcome::Failed => {
-                return Contents {
-                    found: false,
-                    size: 0,
-                };
-            }
         }
     }
-    Contents {
-        found: true,
-        size: at,
-    }
+    Some(at)
 }
 
-// A file's bytes, as far as there is room; not found where it is missing or cannot be read. An open that was
-// interrupted is tried again.
-fn read_file<R: Files<File = File>>(rt: &R, path: &str, bytes: &mut [u8]) -> Contents
-    ensures { result.size ≤ length bytes.old }
+// How many bytes a file has, as far as there is room for them; none where it is missing or cannot be read. An open that
+// was interrupted is tried again.
+fn read_file<R: Files<File = File>>(rt: &R, path: &str, bytes: &mut [u8]) -> Option<usize>
+    ensures { IfSome result (λ n. n ≤ length bytes.old) }
 {
-    let none = Contents {
-        found: false,
-        size: 0,
-    };
-    let mut tries = TRIES;
-    while 0 < tries {
+    for _ in 0..TRIES {
         match File::open(rt, path) {
             Ok(mut file) => {
                 return read_all(&mut file, bytes);
             }
             Err(error) => {
                 if error.kind() != ErrorKind::Interrupted {
-                    return none;
+                    return None;
                 }
             }
         }
-        tries -= 1;
     }
-    none
+    None
 }
 
-// Writes the bytes to standard output: how many of them the system took, all unless a write failed.
-fn write_out(out: &mut Stdout, bytes: &[u8], last: &mut Option<Error>) -> usize
-    ensures { result ≤ length bytes.now }
+// Writes all of the bytes to standard output: how many, or how many fewer the system took, and why. (std's write_all
+// gives up at a pipe that is full, and does not say how much was taken.)
+fn write_out(out: &mut Stdout, bytes: &[u8]) -> Result<usize, Stopped>
+    ensures { Wrote (length bytes.now) result }
 {
     let mut at = 0;
     let mut tries = TRIES;
     while at < bytes.len() {
         let from = at;
-        match write_once(out, &bytes[from..], last) {
-            Outcome::Moved(n) => {
-                if n == 0 {
-                    return from;
-                }
+        match out.write(&bytes[from..]) {
+            Ok(0) => {
+                return Err(Stopped {
+                    told: from,
+                    reason: None,
+                });
+            }
+            Ok(n) => {
                 at = from + n;
             }
-            Outcome::Again => {
-                if tries == 0 {
-                    return from;
+            Err(error) => {
+                if !may_pass(&error) || tries == 0 {
+                    return Err(Stopped {
+                        told: from,
+                        reason: Some(error),
+                    });
                 }
                 tries -= 1;
             }
-            Outcome::Failed => {
-                return from;
-            }
         }
     }
-    at
+    Ok(at)
 }
 
-// How many bytes of the output the system took, and whether the program came to its end.
-#[derive(Clone, Copy)]
-pub struct Ran {
-    told: usize,
-    whole: bool,
-}
-
-// A run that stopped: one line on the error output says that a write failed, and why.
-fn stopped<R: Eprint>(rt: &R, last: &Option<Error>, told: usize) -> Ran
-    ensures { result ≡ record { told = told; whole = false } }
-{
-    let _ = match last {
+// One line on the error output: a write failed, and why.
+fn complain<R: Eprint>(rt: &R, stopped: &Stopped) {
+    let _ = match stopped.reason {
         Some(error) => eprintln!(rt; "station: the output was not written: {error}"),
         None => eprintln!(rt; "station: the output was not written"),
     };
-    Ran { told, whole: false }
 }
 
-// The steps from the beginning to the end; where a write fails it stops, and one line on the error output says so.
-fn run<R: Eprint>(
-    rt: &R,
+// The steps from the beginning to the end: how many bytes the system took. Where a write fails it stops.
+fn run(
     output: &mut Stdout,
     n: bool,
     b: bool,
@@ -206,26 +148,30 @@ fn run<R: Eprint>(
     lost: &mut [u32],
     head: &mut [u32],
     out: &mut [u8],
-) -> Ran
+) -> Result<usize, Stopped>
     requires { (long_enough layout (lent rows.old gained.old lost.old head.old) ≡ true)
         × (length file.now ≤ 65537)
         × (length out.old ≡ node_room) }
     ensures { Told (files n b net.now file.now) result }
 {
     let mut told = 0;
-    let mut last = None;
     let mut stage = Stage::Begin;
     while !stages::is_over(stage) {
         let said = program::step(n, b, net, file, stage, rows, gained, lost, head, out);
-        let size = said.size;
-        let taken = write_out(output, &out[..size], &mut last);
-        told += taken;
-        if taken < size {
-            return stopped(rt, &last, told);
+        match write_out(output, &out[..said.size]) {
+            Ok(taken) => {
+                told += taken;
+            }
+            Err(stopped) => {
+                return Err(Stopped {
+                    told: told + stopped.told,
+                    reason: stopped.reason,
+                });
+            }
         }
         stage = said.stage;
     }
-    Ran { told, whole: true }
+    Ok(told)
 }
 
 // Reads both files, then steps through the program.
@@ -237,22 +183,22 @@ fn main(rt: HostRuntime) {
     let mut gained = [0u32; AREA];
     let mut lost = [0u32; AREA];
     let mut head = [0u32; HEAD];
-    let first = read_file(&rt, "network.bin", &mut net);
-    let second = read_file(&rt, "batch.bin", &mut file);
-    let n = first.size;
-    let m = second.size;
+    let n = read_file(&rt, "network.bin", &mut net);
+    let m = read_file(&rt, "batch.bin", &mut file);
     let mut output = rt.stdout();
-    run(
-        &rt,
+    let ran = run(
         &mut output,
-        first.found,
-        second.found,
-        &net[..n],
-        &file[..m],
+        n.is_some(),
+        m.is_some(),
+        &net[..n.unwrap_or(0)],
+        &file[..m.unwrap_or(0)],
         &mut rows,
         &mut gained,
         &mut lost,
         &mut head,
         &mut out,
     );
+    if let Err(stopped) = ran {
+        complain(&rt, &stopped);
+    }
 }

@@ -19,9 +19,9 @@ use reports::Direction;
 use rows::{MAX_ROWS, MAX_WIDTH, STRIDE};
 
 // The signs of gained and of lost rows.
-const PLUS: u8 = 43;
+const PLUS: u8 = b'+';
 
-const MINUS: u8 = 45;
+const MINUS: u8 = b'-';
 
 // How many numbers a changed row's line has at most: the node and the row's fields.
 const NUMBERS: usize = 1 + MAX_WIDTH;
@@ -39,10 +39,8 @@ fn change_numbers(node: usize, words: &[u32], from: usize, w: usize) -> [usize; 
 {
     let mut numbers = [0usize; NUMBERS];
     numbers[0] = node;
-    let mut k = 0;
-    while k < w {
+    for k in 0..w {
         numbers[k + 1] = words[from + k] as usize;
-        k += 1;
     }
     numbers
 }
@@ -81,10 +79,8 @@ fn put_changes(
         out.old out.new result }
 {
     let mut to = at;
-    let mut j = 0;
-    while j < n {
+    for j in 0..n {
         to = put_change(out, to, sign, node, area, node * PLACE + j * STRIDE, w);
-        j += 1;
     }
     to
 }
@@ -106,9 +102,10 @@ fn put_allowed(
         (change_room * n) at out.old out.new result }
 {
     if allowed {
-        return put_changes(out, at, sign, node, area, n, w);
+        put_changes(out, at, sign, node, area, n, w)
+    } else {
+        at
     }
-    at
 }
 
 // The lines of a node from an offset on, as its watch's sign allows: where the bytes after them begin.

@@ -2,12 +2,11 @@
 use mathlib.Core.List.{◌++◌, List, [], ◌∷◌}
 use mathlib.Core.Path.{ap, ap₂, refl, sym, ◌∙◌, ◌≡◌}
 use mathlib.Core.Bool.{true, true≢false, Bool, cond, false, not}
-use Prim.Native.Nat.{◌*◌, ◌+◌, ◌<◌, suc, zero, ℕ, ◌≤◌}
+use Prim.Native.Nat.{◌*◌, ◌+◌, ◌-◌, ◌<◌, suc, zero, ℕ, ◌≤◌}
 use native.Mathlib.Omega.{arith}
 use lib.ListN.{length, set, drop, length-append, length-drop, length-replicate, replicate}
 use lib.Seq.{take_all}
 use lib.Dec.{eqb}
-use borrow.Author.Tests.{eq-eqb, ne_eqb}
 use Rattle.model.specs.Record.{Bytes, u32, kind_at, field_at, is_broken, length_at, offsets}
 use Rattle.rows.proofs.Words.{fields-part, length-words, rows-stored, wide_rows}
 use Rattle.laws.proofs.Widths.{wide_insert, wide-keep}
@@ -18,7 +17,10 @@ use Rattle.model.specs.Areas.{padded, folded_size, stride}
 use Rattle.rows.proofs.Padding.{padded_more}
 use Rattle.model.specs.Batch.{row_in, folded_rows}
 use Rattle.tables.specs.Fold.{StandsFolded, act_on, Events, Foldable, Table, fold_at}
-use Rattle.laws.proofs.Sets.{Ascending, asc_delete, asc_insert, ascending-holds, ascending_true}
+use Rattle.laws.proofs.Sets.{Ascending, asc_delete, asc_insert, ascending-holds, ascending_true, insert_once}
+use Rattle.std.specs.Prelude.{None, Some}
+use Rattle.insertions.specs.Insertions.{Inserts, Removes}
+use Rattle.insertions.proofs.Stand.{leave_in, put_full, put-new, put_present, take_out}
 use Rattle.records.proofs.Header.{Whole, whole}
 use Rattle.records.proofs.Offsets.{remaining, remaining_all, remaining_broken, remaining_none, remaining_whole}
 use Rattle.laws.proofs.Events.{length-row_in}
@@ -43,12 +45,48 @@ event_row_at bs at w row h e =
     let size : length row ≡ stride = ap length e ∙ length-padded stride (row_in bs at w) (rw (length-row_in bs at w) h) in
     fields-part stride row 0 (omega (arith, size)) ∙ take_all stride row (omega (arith, size)) ∙ e
 
-module _ (bs : Bytes) (at w k : ℕ) (rows : List Row) (out : List ℕ) (n : ℕ) (is : k ≡ kind_at bs at) where
-  pub act-put : k ≡ 32 → StandsFolded (insert_row (padded stride (row_in bs (at + 6) w)) rows) out n → StandsFolded (act_on bs at w rows) out n
-  act-put e s = rw (eq-eqb (kind_at bs at) 32 (sym is ∙ e)) s
+module _ (bs : Bytes) (at w : ℕ) (rows : List Row) (out : List ℕ) (n : ℕ) where
+  act-put : eqb (kind_at bs at) 32 ≡ true → StandsFolded (insert_row (padded stride (row_in bs (at + 6) w)) rows) out n → StandsFolded (act_on bs at w rows) out n
+  act-put e s = rw e s
 
-  pub act-remove : (k ≡ 32 → ⊥) → StandsFolded (delete_row (padded stride (row_in bs (at + 6) w)) rows) out n → StandsFolded (act_on bs at w rows) out n
-  act-remove e s = rw (ne_eqb (kind_at bs at) 32 (λ z. e (is ∙ z))) s
+  act-remove : eqb (kind_at bs at) 32 ≡ false → StandsFolded (delete_row (padded stride (row_in bs (at + 6) w)) rows) out n → StandsFolded (act_on bs at w rows) out n
+  act-remove e s = rw e s
+
+-- an event's own row put among the rows of some words, or taken out of them
+module _ (bs : Bytes) (at w : ℕ) (narrow : w ≤ max_width) (row : List ℕ) (own : row ≡ padded stride (row_in bs (at + 6) w)) (before after : List ℕ)
+    (n : ℕ) (t : Table before n) where
+  abbrev rows : List Row
+  rows = first_rows before n
+
+  abbrev own_row : Row
+  own_row = padded stride (row_in bs (at + 6) w)
+
+  pub put_adds : eqb (kind_at bs at) 32 ≡ true → Inserts folded_rows (row_at stride row 0) rows before after (Some true) → StandsFolded (act_on bs at w rows) after (n + 1)
+  put_adds e i =
+      act-put bs at w rows after (n + 1) e
+      (put-new folded_rows folded_size own_row rows before after n t.stands (length-padded stride (row_in bs (at + 6) w) (rw (length-row_in bs (at + 6) w) narrow)) (wide_rows stride before 0 n)
+      (rw (event_row_at bs (at + 6) w row narrow own) at i))
+
+  pub put_keeps : eqb (kind_at bs at) 32 ≡ true → Inserts folded_rows (row_at stride row 0) rows before after (Some false) → StandsFolded (act_on bs at w rows) after n
+  put_keeps e i =
+      act-put bs at w rows after n e
+      (put_present folded_rows folded_size own_row rows before after n t.stands (ascending-holds rows t.asc) (rw (event_row_at bs (at + 6) w row narrow own) at i))
+
+  pub put_fits : n < folded_rows → Inserts folded_rows (row_at stride row 0) rows before after None → ⊥
+  put_fits h i =
+      let full = put_full folded_rows folded_size own_row rows before after n t.stands (rw (event_row_at bs (at + 6) w row narrow own) at i) in
+      omega (arith, full.0, insert_once own_row rows, t.stands.count)
+
+  pub take_drops : eqb (kind_at bs at) 32 ≡ false → Removes (row_at stride row 0) rows before after true → StandsFolded (act_on bs at w rows) after (n - 1)
+  take_drops e x =
+      act-remove bs at w rows after (n - 1) e
+      (take_out folded_rows folded_size (omega arith) own_row rows before after n t.stands (wide_rows stride before 0 n) (ascending-holds rows t.asc)
+      (rw (event_row_at bs (at + 6) w row narrow own) at x))
+
+  pub take_keeps : eqb (kind_at bs at) 32 ≡ false → Removes (row_at stride row 0) rows before after false → StandsFolded (act_on bs at w rows) after n
+  take_keeps e x =
+      act-remove bs at w rows after n e
+      (leave_in folded_rows folded_size (omega arith) own_row rows before after n t.stands (rw (event_row_at bs (at + 6) w row narrow own) at x))
 
 -- a relation with a row has one
 pub some-row : (r : Row) (l : List Row) (n : ℕ) → member r l ≡ true → n ≡ length l → 1 ≤ n

@@ -3,15 +3,14 @@
 #![tactic(auto)]
 
 ghost use Rattle.std.specs.Prelude.{◌≡◌, cond, ◌+◌, ◌*◌, ◌≤◌, ◌<◌, eqb, length};
-ghost use Rattle.model.specs.Record.{field_at, offsets};
+ghost use Rattle.model.specs.Record.{field_at, kind_at, offsets};
 ghost use Rattle.model.specs.Batch.{row_in, folded_rows};
 ghost use Rattle.model.specs.Areas.{padded, folded_size, stride};
 ghost use Rattle.model.specs.Row.{max_rows, max_width};
 ghost use Rattle.rows.specs.Rows.{first_rows};
 ghost use Rattle.tables.specs.Fold.{StandsFolded, Table, act_on, fold_at, Foldable};
 
-use insertions::Inserted;
-use records::{MAX_EVENTS, PUT};
+use records::{Action, MAX_EVENTS};
 use rows::{MAX_ROWS, STRIDE};
 
 // How many rows a table may have in the middle of a batch, and their words.
@@ -25,12 +24,21 @@ fn event_row(bytes: &[u8], at: usize, width: usize) -> [u32; STRIDE]
     ensures { result ≡ padded stride (row_in bytes.now (at + 6) width) }
 {
     let mut row = [0u32; STRIDE];
-    let mut k = 0;
-    while k < width {
+    for k in 0..width {
         row[k] = records::u32_at(bytes, at + 6 + 4 * k);
-        k += 1;
     }
     row
+}
+
+// Whether the event at an offset puts its row in.
+fn is_put(bytes: &[u8], at: usize) -> bool
+    requires { at + 4 ≤ length bytes.now }
+    ensures { result ≡ eqb (kind_at bytes.now at) 32 }
+{
+    matches!(
+        Action::try_from(records::u16_at(bytes, at + 2)),
+        Ok(Action::Put)
+    )
 }
 
 // The event at an offset on the first n rows: how many rows there are afterwards.
@@ -42,11 +50,10 @@ fn act(words: &mut [u32], n: usize, bytes: &[u8], at: usize, width: usize) -> us
     ensures grows { result ≤ n + 1 }
 {
     let row = event_row(bytes, at, width);
-    if records::u16_at(bytes, at + 2) == PUT {
+    if is_put(bytes, at) {
         match insertions::insert(words, n, &row, 0, FOLDED_ROWS) {
-            Inserted::New => n + 1,
-            Inserted::Present => n,
-            Inserted::Full => n,
+            Some(true) => n + 1,
+            Some(false) | None => n,
         }
     } else if insertions::remove(words, n, &row, 0) {
         n - 1

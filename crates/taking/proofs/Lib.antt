@@ -1,3 +1,3 @@
 pub mod Row
 pub mod Ranks
-pub mod Taken
+pub mod Answered

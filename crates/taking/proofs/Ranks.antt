@@ -2,12 +2,16 @@
 use mathlib.Core.Bool.{Bool, true, false, cond}
 use mathlib.Core.List.{List, [], ◌∷◌, ◌++◌, map}
 use mathlib.Core.Path.{◌≡◌, ap, ap₂, refl, sym, ◌∙◌}
-use Prim.Native.Nat.{ℕ, zero, suc, ◌+◌, ◌-◌, ◌<◌, max}
+use Prim.Native.Nat.{ℕ, zero, suc, ◌+◌, ◌-◌, ◌≤◌, ◌<◌, max, zero-le}
 use native.Mathlib.Nat.{zero-add}
 use native.Mathlib.Omega.{arith}
 use lib.Dec.{eqb}
 use lib.ListN.{get_or, length}
-use borrow.Author.Tests.{ne_eqb}
+use borrow.Author.Tests.{ltb-false, ltb-true, ne_eqb}
+use Rattle.std.proofs.Common.{nat_eq, nat_lt}
+use Rattle.std.specs.Ordering.{nat_cmp, ord_max}
+use Rattle.std.specs.Prelude.{Option, Some, None, MatchOption}
+use Rattle.std.specs.Option.{unwrap_or}
 use Rattle.model.specs.Row.{Relation, count_from, is_empty, keep, keep_if, numbers_below}
 use Rattle.model.specs.Network.{Network, highest_of, priority_of, widths}
 use Rattle.model.specs.Areas.{layout, relations_in}
@@ -28,6 +32,15 @@ map_same {A} f g from (suc n) h =
     ap₂ {A = A} {B = List A} {C = List A} (λ x l. x ∷ l) (h from (omega arith)) (map_same f g (suc from) n (λ i k. h i (omega arith)))
 
 -- ---- the loops
+
+-- the library's maximum of two numbers
+pub max_is : (a b : ℕ) → ord_max nat_cmp a b ≡ max a b
+max_is a b = go (nat_lt b a) refl (nat_eq b a) refl
+  where
+    go : (t : Bool) → nat_lt b a ≡ t → (u : Bool) → nat_eq b a ≡ u → ord_max nat_cmp a b ≡ max a b
+    go true e u f = rw e (omega (arith, ltb-true b a e))
+    go false e true f = rw (e, f) (omega (arith, ltb-false b a e))
+    go false e false f = rw (e, f) (omega (arith, ltb-false b a e))
 
 -- the highest rank of one node more
 module _ (priorities p : List ℕ) (i : ℕ) where
@@ -60,6 +73,18 @@ module _ (p : ℕ → Bool) where
 
   pub none_passes : (i n : ℕ) → i ≡ n → NoneTo i → 0 ≡ get_or (keep p (numbers_below n)) 0 0
   none_passes i n e f = sym (ap (λ (m : ℕ). get_or (keep p (numbers_below m)) 0 0) (sym e) ∙ ap (λ (l : List ℕ). get_or l 0 0) f)
+
+  -- the answer of a search through the numbers below n
+  none_below : (i : ℕ) → ((k : ℕ) → 0 ≤ k → k < i → p k ≡ false) → NoneTo i
+  none_below zero h = refl
+  none_below (suc i) h = let next : i + 1 ≡ suc i = omega arith in
+      rw next at (none_more i (none_below i (λ k z m. h k z (omega arith))) (h i zero-le (omega arith)))
+
+  pub found_is : (n : ℕ) (r : Option ℕ) →
+      MatchOption r ((k : ℕ) → 0 ≤ k → k < n → p k ≡ false) (λ i. (0 ≤ i) × (i < n) × (p i ≡ true) × ((k : ℕ) → 0 ≤ k → k < i → p k ≡ false)) →
+      unwrap_or r 0 ≡ get_or (keep p (numbers_below n)) 0 0
+  found_is n None h = none_passes n n refl (none_below n h)
+  found_is n (Some i) h = first_passes i n h.1 (none_below i h.3) h.2
 
 -- ---- the model's ranks
 

@@ -1,5 +1,5 @@
 -- Taking: ranks in the words, a row taken out, and what the call answers.
-use Rattle.std.specs.Prelude.{◌≡◌, cond, List, map, ℕ, suc, ◌≤◌, ◌<◌, eqb, get_or, length, replicate, drop}
+use Rattle.std.specs.Prelude.{◌≡◌, cond, List, map, ℕ, suc, ◌≤◌, ◌<◌, eqb, get_or, length, replicate, drop, Result, Ok, Err}
 use Rattle.model.specs.Row.{max_nodes, numbers_below}
 use Rattle.model.specs.Network.{highest_of}
 use Rattle.model.specs.Areas.{layout, padded, stride}
@@ -8,7 +8,9 @@ use Rattle.model.specs.Calls as calls
 use Rattle.areas.specs.Lent.{place_at}
 use Rattle.places.specs.Places.{Place, relation_in}
 use Rattle.pending.specs.Placed.{pending_with}
-use Rattle.taking.specs.declared.TakeAnswer.{TakeAnswer}
+use Rattle.verdicts.specs.declared.Refusal.{Refusal}
+use Rattle.verdicts.specs.Verdicts.{verdict_of}
+use Rattle.taking.specs.declared.Taken.{Taken}
 
 -- ---- ranks
 
@@ -37,15 +39,19 @@ pub record TakesRow (w : ℕ) (before : List ℕ) (i : ℕ) (after row : List �
 
 -- ---- the call
 
--- a refusal, with no node and no row
-abbrev pub refused_answer : ℕ → ℕ → TakeAnswer
-refused_answer number place = record { number = number; place = place; node = 0; row = replicate stride 0 }
+-- the node, and the row's words, 0 beside a refusal
+abbrev pub node_in : Result Taken Refusal → ℕ
+node_in (Ok t) = t.node
+node_in (Err r) = 0
+
+abbrev pub words_in : Result Taken Refusal → List ℕ
+words_in (Ok t) = t.row
+words_in (Err r) = replicate stride 0
 
 -- the call's answer, its row with zeros past its width, and the pending area that it leaves
-pub record Takes (x : calls.TakeAnswer) (r : TakeAnswer) (after : List ℕ) : Type 0 where
-  pub number : r.number ≡ x.verdict.number
-  pub place : r.place ≡ x.verdict.place
-  pub node : r.node ≡ x.node
-  pub row : r.row ≡ padded stride x.row
-  pub row-long : length r.row ≡ stride
+pub record Takes (x : calls.TakeAnswer) (r : Result Taken Refusal) (after : List ℕ) : Type 0 where
+  pub verdict : verdict_of r ≡ x.verdict
+  pub node : node_in r ≡ x.node
+  pub row : words_in r ≡ padded stride x.row
+  pub row-long : length (words_in r) ≡ stride
   pub pending : after ≡ x.pending

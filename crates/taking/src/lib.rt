@@ -9,32 +9,19 @@ ghost use Rattle.model.specs.Pending.{pending_size};
 ghost use Rattle.model.specs.Calls.{take_in, take_call};
 ghost use Rattle.network.specs.Reading.{Built, network_of};
 ghost use Rattle.areas.specs.Lent.{lent};
-ghost use Rattle.taking.specs.Taking.{rank_in, highest_in, Held, TakesRow, refused_answer, Takes};
+ghost use Rattle.taking.specs.Taking.{rank_in, highest_in, Held, TakesRow, Takes};
 
 use areas::PLACE;
 use network::Network;
 use pending::COUNTS;
 use rows::STRIDE;
+use verdicts::{Refusal, Rule};
 
-// A verdict, the node and the words of the row taken (0 beside a refusal).
+// The node and the words of the row taken.
 #[derive(Clone, Copy)]
-pub struct TakeAnswer {
-    pub number: usize,
-    pub place: usize,
+pub struct Taken {
     pub node: usize,
     pub row: [u32; STRIDE],
-}
-
-// The answer of a refused taking.
-fn refused(number: usize, place: usize) -> TakeAnswer
-    ensures { result ≡ refused_answer number place }
-{
-    TakeAnswer {
-        number,
-        place,
-        node: 0,
-        row: [0u32; STRIDE],
-    }
 }
 
 // Node i's rank: 0 with nothing pending, else 1 more than its priority.
@@ -43,9 +30,10 @@ fn rank_of(priorities: &[u8], pending: &[u32], i: usize) -> usize
     ensures { result ≡ rank_in priorities.now pending.now i }
 {
     if pending[COUNTS + i] == 0 {
-        return 0;
+        0
+    } else {
+        priorities[i] as usize + 1
     }
-    priorities[i] as usize + 1
 }
 
 // The highest rank of n nodes.
@@ -54,10 +42,8 @@ fn highest_rank(n: usize, priorities: &[u8], pending: &[u32]) -> usize
     ensures { result ≡ highest_in priorities.now pending.now n }
 {
     let mut highest = 0;
-    let mut i = 0;
-    while i < n {
-        highest = network::greater(highest, rank_of(priorities, pending, i));
-        i += 1;
+    for i in 0..n {
+        highest = highest.max(rank_of(priorities, pending, i));
     }
     highest
 }
@@ -68,14 +54,9 @@ fn lowest_with(rank: usize, n: usize, priorities: &[u8], pending: &[u32]) -> usi
     ensures { result ≡ get_or (keep (λ i. eqb (rank_in priorities.now pending.now i) rank)
         (numbers_below n)) 0 0 }
 {
-    let mut i = 0;
-    while i < n {
-        if rank_of(priorities, pending, i) == rank {
-            return i;
-        }
-        i += 1;
-    }
-    0
+    (0..n)
+        .find(|i| rank_of(priorities, pending, *i) == rank)
+        .unwrap_or(0)
 }
 
 // Node i's lowest row taken out of the pending area: its words.
@@ -98,7 +79,7 @@ fn take_row(pending: &mut [u32], i: usize) -> [u32; STRIDE]
 
 // The next pending row of a network for whose areas 1 to 8 hold: refusals 17 and 18, which write nothing, or the node
 // and the row.
-fn take_in(network: Network, pending: &mut [u32]) -> TakeAnswer
+fn take_in(network: Network, pending: &mut [u32]) -> Result<Taken, Refusal>
     requires { Built network }
     ensures { Takes (take_in layout (network_of network) pending.old) result pending.new }
 {
@@ -106,21 +87,16 @@ fn take_in(network: Network, pending: &mut [u32]) -> TakeAnswer
     let widths = network.widths;
     let signs = network.signs;
     if !pending::good_pending(&widths, n, &signs, pending) {
-        return refused(17, 0);
+        return Err(Rule::BadPending.at(0));
     }
     let priorities = network.priorities;
     let rank = highest_rank(n, &priorities, pending);
     if rank == 0 {
-        return refused(18, 0);
+        return Err(Rule::NothingPending.at(0));
     }
     let node = lowest_with(rank, n, &priorities, pending);
     let row = take_row(pending, node);
-    TakeAnswer {
-        number: 0,
-        place: 0,
-        node,
-        row,
-    }
+    Ok(Taken { node, row })
 }
 
 // Takes the lowest row of the lowest node with the highest priority number that has something pending: refusals 1 to 8,
@@ -132,17 +108,13 @@ pub fn take(
     lost: &[u32],
     head: &[u32],
     pending: &mut [u32],
-) -> TakeAnswer
+) -> Result<Taken, Refusal>
     ensures takes { Takes
         (take_call net.now
         (lent rows.now gained.now lost.now head.now)
         pending.old)
         result pending.new }
 {
-    let reading = admission::read_areas(net, rows, gained, lost, head);
-    let verdict = reading.verdict;
-    if verdict.number != 0 {
-        return refused(verdict.number, verdict.place);
-    }
-    take_in(reading.network, pending)
+    let network = admission::read_areas(net, rows, gained, lost, head)?;
+    take_in(network, pending)
 }

@@ -23,10 +23,7 @@ fn is_unchanged(head: &[u32], node: usize) -> bool
     ensures { result ≡ (eqb (gained_count head.now node) 0
         && eqb (lost_count head.now node) 0) }
 {
-    if head[GAINED_COUNTS + node] != 0 {
-        return false;
-    }
-    head[LOST_COUNTS + node] == 0
+    head[GAINED_COUNTS + node] == 0 && head[LOST_COUNTS + node] == 0
 }
 
 // A node's lines, from the first byte on: their length.
@@ -49,12 +46,16 @@ fn node_lines(
     if is_unchanged(head, node) {
         return 0;
     }
-    let reading = network::read_network(net);
-    let network = reading.network;
-    if network.count <= node {
-        return 0;
+    match network::read_network(net) {
+        Ok(network) => {
+            if node < network.count {
+                station_lines::put_watched(out, 0, network, node, gained, lost, head)
+            } else {
+                0
+            }
+        }
+        Err(_) => 0,
     }
-    station_lines::put_watched(out, 0, network, node, gained, lost, head)
 }
 
 // A node's lines of the batch just applied; then those of the next node, or the piece that starts at an offset.

@@ -1,14 +1,22 @@
 -- Numbers that fill a list, and a line of them. Assumes nothing.
-use mathlib.Core.Path.{ap, sym, ◌∙◌, ◌≡◌}
-use mathlib.Core.List.{List, ◌++◌, append-nil}
-use Prim.Native.Nat.{ℕ, ◌≤◌}
+use mathlib.Core.Path.{ap, refl, sym, ◌∙◌, ◌≡◌}
+use mathlib.Core.List.{List, [], ◌∷◌, ◌++◌, append-nil}
+use Prim.Native.Nat.{ℕ, ◌+◌, ◌≤◌, ◌<◌}
+use native.Mathlib.Numerals.{add-one}
 use native.Mathlib.Omega.{arith}
-use lib.ListN.{length, length-replicate, drop, replicate, take}
-use lib.Seq.{drop-length, sets, take_all, take-append_seam}
+use lib.ListN.{get_or, length, length-replicate, drop, replicate, set, take}
+use lib.Seq.{drop-length, length-take-le, sets, take_all, take-append_seam, take-suc}
 use Rattle.model.specs.Record.{Bytes}
 use Rattle.model.specs.Text.{line}
-use Rattle.laws.proofs.Parts.{sets_first}
+use Rattle.laws.proofs.Parts.{sets_first, sets_more}
 use Rattle.lines.specs.Written.{PutLine}
+
+-- one number more
+pub put_one : (before now numbers : List ℕ) (k : ℕ) → k < length numbers → now ≡ sets before 0 (take k numbers) → set now k (get_or numbers k 0) ≡ sets before 0 (take (k + 1) numbers)
+put_one before now numbers k h e =
+    let size : length (take k numbers) ≡ k = length-take-le k numbers (omega arith) in
+    let more : take (k + 1) numbers ≡ take k numbers ++ (get_or numbers k 0 ∷ []) = rw add-one (take-suc numbers k 0 h) in
+    sets_more before now (set now k (get_or numbers k 0)) 0 k (take k numbers) (get_or numbers k 0 ∷ []) e (omega (arith, size)) refl ∙ ap (sets before 0) (sym more)
 
 -- the numbers that were written from the first one on
 pub first_written : (l a : List ℕ) (n : ℕ) → n ≡ length a → n ≤ length l → take n (sets l 0 a) ≡ a

@@ -9,13 +9,11 @@ ghost use Rattle.reporting.specs.Answer.{report_answer_of};
 ghost use Rattle.test_calls.specs.Lines.{Applies, checked};
 ghost use Rattle.test_calls.specs.Operations.{asked_by, opened_by};
 
-use super::script::Operation;
+use super::script::{Kind, Operation};
 use super::values;
 use super::values::TEXT;
 use areas::{AREA, HEAD};
-use checking::CheckAnswer;
-use reporting::ReportAnswer;
-use verdicts::Verdict;
+use verdicts::{Refusal, Verdict};
 
 // The words of an area that is too short.
 const SHORT: usize = HEAD - 1;
@@ -23,7 +21,7 @@ const SHORT: usize = HEAD - 1;
 // Opens, with an area that is too short for two of the kinds.
 pub(crate) fn opened(
     net: &[u8],
-    kind: usize,
+    kind: Kind,
     rows: &mut [u32; AREA],
     gained: &mut [u32; AREA],
     lost: &mut [u32; AREA],
@@ -36,21 +34,17 @@ pub(crate) fn opened(
 {
     let mut short = [0u32; SHORT];
     match kind {
-        8 => opening::open(net, &mut short, gained, lost, head),
-        11 => opening::open(net, rows, gained, lost, &mut short),
+        Kind::ShortRows => opening::open(net, &mut short, gained, lost, head),
+        Kind::ShortHead => opening::open(net, rows, gained, lost, &mut short),
         _ => opening::open(net, rows, gained, lost, head),
     }
 }
 
 // The check's answer as a report's: yes is size 1.
-fn told(v: CheckAnswer) -> ReportAnswer
+fn told(v: Result<bool, Refusal>) -> Result<usize, Refusal>
     ensures { (out : Bytes) → report_answer_of result out ≡ checked (check_answer_of v) out }
 {
-    ReportAnswer {
-        number: v.number,
-        place: v.place,
-        size: v.yes as usize,
-    }
+    Ok(v? as usize)
 }
 
 // Checks or makes a report, each also with an area that is too short.
@@ -62,7 +56,7 @@ pub(crate) fn asked(
     lost: &[u32],
     head: &[u32],
     out: &mut [u8],
-) -> ReportAnswer
+) -> Result<usize, Refusal>
     requires { length out.old ≡ longest_report }
     ensures { report_answer_of result out.new
         ≡ asked_by op.kind op net.now
@@ -74,9 +68,9 @@ pub(crate) fn asked(
     let size = values::room(op.value);
     let short = [0u32; SHORT];
     match kind {
-        5 => told(checking::check(net, rows, gained, lost, head)),
-        6 => reporting::report(net, node, rows, gained, lost, head, &mut out[..size]),
-        9 => told(checking::check(net, rows, &short, lost, head)),
+        Kind::Check => told(checking::check(net, rows, gained, lost, head)),
+        Kind::Report => reporting::report(net, node, rows, gained, lost, head, &mut out[..size]),
+        Kind::ShortGained => told(checking::check(net, rows, &short, lost, head)),
         _ => reporting::report(net, node, rows, gained, &short, head, out),
     }
 }
@@ -98,7 +92,12 @@ pub(crate) fn apply_lines(
 {
     let v = applying::apply(net, batch, rows, gained, lost, head);
     let c = checking::check(net, rows, gained, lost, head);
-    let numbers = [v.number, v.place, c.number, c.yes as usize];
+    let numbers = [
+        verdicts::number_of(&v),
+        verdicts::place_of(&v),
+        verdicts::number_of(&c),
+        c.unwrap_or(false) as usize,
+    ];
     let k = lines::put_line_at(text, 0, b" apply", &numbers);
     values::values_line(text, k, b" head", &[], head)
 }

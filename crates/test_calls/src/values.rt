@@ -1,16 +1,17 @@
 // Lines of bytes and words, and the bytes that are lent for a report.
 ghost use Rattle.std.specs.Prelude.{◌≡◌, [], ◌∷◌, ◌++◌, ◌+◌, ◌*◌, ◌≤◌, ◌<◌, length, get_or, replicate, take, drop};
 ghost use Rattle.std.proofs.lemmas.List.Edits.{sets};
+ghost use Rattle.model.specs.Record.{Bytes};
 ghost use Rattle.model.specs.Text.{line};
+ghost use Rattle.reporting.specs.Answer.{report_answer_of};
 ghost use Rattle.verdicts.specs.Verdicts.{verdict_of};
 ghost use Rattle.lines.specs.Written.{PutLine};
 ghost use Rattle.model.specs.Calls.{longest_report};
-ghost use Rattle.test_calls.specs.Lines.{Writes, verdict_line};
+ghost use Rattle.test_calls.specs.Lines.{Writes, report_line, verdict_line};
 ghost use Rattle.test_calls.specs.Operations.{room_of};
 
-use reporting::ReportAnswer;
 use rows::{MAX_ROWS, MAX_WIDTH};
-use verdicts::Verdict;
+use verdicts::{Refusal, Verdict};
 
 // The most numbers of a line: a report's bytes.
 pub(crate) const VALUES: usize = 2 * MAX_ROWS * (6 + 4 * MAX_WIDTH);
@@ -23,11 +24,7 @@ pub(crate) fn room(asked: u32) -> usize
     ensures size { result ≡ room_of asked }
     ensures inside { result ≤ longest_report }
 {
-    let n = asked as usize;
-    if n < VALUES {
-        return n;
-    }
-    VALUES
+    (asked as usize).min(VALUES)
 }
 
 // One of some bytes and then some words.
@@ -37,9 +34,10 @@ fn value_at(bytes: &[u8], words: &[u32], k: usize) -> usize
 {
     let n = bytes.len();
     if k < n {
-        return bytes[k] as usize;
+        bytes[k] as usize
+    } else {
+        words[k - n] as usize
     }
-    words[k - n] as usize
 }
 
 // Bytes, then words, as numbers.
@@ -47,11 +45,8 @@ fn values(bytes: &[u8], words: &[u32], numbers: &mut [usize])
     requires { length bytes.now + length words.now ≤ length numbers.old }
     ensures { numbers.new ≡ sets numbers.old 0 (bytes.now ++ words.now) }
 {
-    let n = bytes.len() + words.len();
-    let mut k = 0;
-    while k < n {
+    for k in 0..bytes.len() + words.len() {
         numbers[k] = value_at(bytes, words, k);
-        k += 1;
     }
 }
 
@@ -78,14 +73,19 @@ pub(crate) fn values_line(
 pub(crate) fn verdict_line(text: &mut [u8; TEXT], v: Verdict) -> usize
     ensures { Writes (verdict_line (verdict_of v)) text.old text.new result }
 {
-    lines::put_line(text, b"", &[v.number, v.place])
+    let number = verdicts::number_of(&v);
+    let place = verdicts::place_of(&v);
+    lines::put_line(text, b"", &[number, place])
 }
 
 // The line of a report's verdict and size.
-pub(crate) fn answer_line(text: &mut [u8; TEXT], v: ReportAnswer) -> usize
-    ensures { Writes (line [] (v.number ∷ v.place ∷ v.size ∷ [])) text.old text.new result }
+pub(crate) fn answer_line(text: &mut [u8; TEXT], v: Result<usize, Refusal>) -> usize
+    ensures { (out : Bytes) → Writes (report_line (report_answer_of v out))
+        text.old text.new result }
 {
-    lines::put_line(text, b"", &[v.number, v.place, v.size])
+    let number = verdicts::number_of(&v);
+    let place = verdicts::place_of(&v);
+    lines::put_line(text, b"", &[number, place, v.unwrap_or(0)])
 }
 
 // Bytes copied to the start of others: how many.

@@ -7,7 +7,8 @@ use Rattle.test_networks.specs.declared.Case.{Case}
 
 -- the case whose bytes stand at an offset
 abbrev pub case_in : Bytes → ℕ → Case
-case_in bs at = record { name = at + 3; net = at + 3 + get_or bs at 0; next = at + 3 + get_or bs at 0 + u16 bs (at + 1) }
+case_in bs at =
+    record { name = at + 3; net = at + 3 + get_or bs at 0; next = at + 3 + get_or bs at 0 + u16 bs (at + 1) }
 
 -- none: no name and no network, at the file's end
 abbrev pub no_case : ℕ → Case

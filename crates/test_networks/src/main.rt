@@ -11,10 +11,19 @@ ghost use Rattle.model.specs.Text.{line};
 ghost use Rattle.lines.specs.Written.{Put, PutLine};
 ghost use Rattle.test_networks.specs.Cases.{ReadsCase, answer_lines};
 
+use reader::Answer;
 use rows::MAX_NODES;
 
 // Standard output's number.
 const STDOUT: i32 = 1;
+
+// What is told beside a refusal.
+const NOTHING: Answer = Answer {
+    count: 0,
+    kinds: [0; MAX_NODES],
+    widths: [0; MAX_NODES],
+    levels: [0; MAX_NODES],
+};
 
 // Where a case's name and its network begin, and where the next case does.
 #[derive(Clone, Copy)]
@@ -62,14 +71,13 @@ fn answer_lines(net: &[u8], text: &mut [u8]) -> usize
     ensures { Put (answer_lines (read_call net.now)) 4096 0 text.old text.new result }
 {
     let answer = reader::read(net);
-    let first = [answer.number, answer.place, answer.count];
-    let kinds = answer.kinds;
-    let widths = answer.widths;
-    let levels = answer.levels;
-    let a = lines::put_line_at(text, 0, b"", &first);
-    let b = put_list(text, a, b" kinds", kinds);
-    let c = put_list(text, b, b" widths", widths);
-    put_list(text, c, b" levels", levels)
+    let number = verdicts::number_of(&answer);
+    let place = verdicts::place_of(&answer);
+    let told = answer.unwrap_or(NOTHING);
+    let a = lines::put_line_at(text, 0, b"", &[number, place, told.count]);
+    let b = put_list(text, a, b" kinds", told.kinds);
+    let c = put_list(text, b, b" widths", told.widths);
+    put_list(text, c, b" levels", told.levels)
 }
 
 // The cases in turn: a case's name, then what the reader answers of its network.

@@ -11,7 +11,9 @@ ghost use Rattle.areas.specs.Lent.{lent};
 ghost use Rattle.transition.specs.Head.{stamps_from, head_from, Advancing};
 
 use areas::{GAINED_COUNTS, ROW_COUNTS, STAMPS, WORKED};
+use new_rows::Work;
 use rows::MAX_NODES;
+use working::Told;
 
 // The stamp of a node: the new number if it changed.
 fn stamp_of(stamped: bool, number: u32, stamp: u32) -> u32
@@ -29,10 +31,8 @@ fn new_stamps(head: &[u32], changed: &[bool], number: u32, n: usize) -> [u32; MA
     ensures { result ≡ padded max_nodes (stamps_from head.now changed.now number n) }
 {
     let mut stamps = [0u32; MAX_NODES];
-    let mut i = 0;
-    while i < n {
+    for i in 0..n {
         stamps[i] = stamp_of(changed[i], number, head[STAMPS + i]);
-        i += 1;
     }
     stamps
 }
@@ -66,23 +66,19 @@ fn write_head(
 pub fn write_state<'a>(
     n: usize,
     levels: &'a [usize],
-    work: &'a [u32],
-    counts: &'a [u32],
-    changed: &'a [bool],
+    work: &'a Work,
     due: &'a [bool],
-    picks: &'a [u8],
-    sizes: &'a [u32],
+    told: &'a Told,
     rows: &mut [u32],
     gained: &mut [u32],
     lost: &mut [u32],
     head: &mut [u32],
 )
-    requires { Advancing n levels.now rows.old gained.old lost.old head.old work.now counts.now
-        changed.now due.now picks.now sizes.now
+    requires { Advancing n levels.now rows.old gained.old lost.old head.old work.now.rows work.now.counts
+        work.now.changed due.now told.now.picks told.now.sizes
         × (batch_number head.old ≡ 4294967295 → ⊥) }
-    ensures writes { (o : Advancing n levels.now rows.old gained.old
-        lost.old head.old work.now counts.now changed.now
-        due.now picks.now sizes.now) (copy : List Relation) →
+    ensures writes { (o : Advancing n levels.now rows.old gained.old lost.old head.old work.now.rows work.now.counts
+        work.now.changed due.now told.now.picks told.now.sizes) (copy : List Relation) →
         lent rows.new gained.new lost.new head.new
         ≡ holding_rows layout o.out.new
         (advance_rows (nodes_of o.net)
@@ -93,11 +89,17 @@ pub fn write_state<'a>(
         (lent rows.old gained.old lost.old head.old) }
 {
     let number = head[0] + 1;
-    changes::write_nodes(
-        n, work, counts, changed, picks, sizes, rows, gained, lost, head,
-    );
-    let stamps = new_stamps(head, changed, number, n);
+    changes::write_nodes(n, work, told, rows, gained, lost, head);
+    let stamps = new_stamps(head, &work.changed, number, n);
     let mut entries = [0u32; MAX_NODES];
     let k = worklist::list_worked(levels, due, n, &mut entries);
-    write_head(head, number, counts, &stamps, sizes, k, &entries);
+    write_head(
+        head,
+        number,
+        &work.counts,
+        &stamps,
+        &told.sizes,
+        k,
+        &entries,
+    );
 }

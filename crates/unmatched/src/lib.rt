@@ -33,19 +33,15 @@ pub fn unmatched_rows(
 {
     let keys = keys::keys_of(right, m, pairs, p, 1);
     let mut count = 0;
-    let mut i = 0;
-    'rows: while i < n {
-        let at = i;
-        i += 1;
-        let key = keys::key_of(left, at, pairs, p, 0);
-        let mut j = 0;
-        while j < m {
+    // The order asks for nested loops here, with a labelled exit.
+    'rows: for i in 0..n {
+        let key = keys::key_of(left, i, pairs, p, 0);
+        for j in 0..m {
             if keys[j] == key {
                 continue 'rows;
             }
-            j += 1;
         }
-        words::copy_run(left, at * STRIDE, out, count * STRIDE, STRIDE);
+        words::copy_run(left, i * STRIDE, out, count * STRIDE, STRIDE);
         count += 1;
     }
     count

@@ -24,7 +24,8 @@ pub fn put_refused(out: &mut [u8], number: usize, place: usize) -> usize
     ensures { PutIfRoom (refused_line number place) refused_room out.old out.new result }
 {
     if out.len() < LINE {
-        return 0;
+        0
+    } else {
+        lines::put_line_at(out, 0, b"refused", &[number, place])
     }
-    lines::put_line_at(out, 0, b"refused", &[number, place])
 }

@@ -11,7 +11,7 @@ use native.Mathlib.Omega.{arith}
 use lib.Dec.{ltb}
 use borrow.Author.Tests.{ltb-true, ltb-false}
 use Rattle.places.specs.Places.{Place, Blank, relation_in}
-use Rattle.model.specs.Row.{Relation, same_rows, place, max_nodes, max_rows}
+use Rattle.model.specs.Row.{Relation, same_rows, max_nodes, max_rows}
 use Rattle.model.specs.Algebra.{difference_rows}
 use Rattle.states.proofs.Changes.{difference_self}
 use Rattle.places.proofs.Places.{place-few, place_is, place_rest}

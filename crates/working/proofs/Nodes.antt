@@ -15,11 +15,11 @@ use Rattle.working.specs.Worked.{Changes, Untold, must_work, WorksNode, next_row
 use Rattle.places.specs.Places.{Place, Fills, relation_in}
 use Rattle.areas.specs.Lent.{place_at}
 use Rattle.model.specs.Areas.{row_count, layout, place_of}
-use Rattle.model.specs.Row.{Wide, place, same_rows, Relation}
+use Rattle.model.specs.Row.{Wide, same_rows, Relation}
 use Rattle.places.proofs.Places.{place-wide, place-ascending, place-few, place_is}
 use Rattle.laws.proofs.Sets.{Ascending, ascending-holds, same_rows_refl}
 use Rattle.tables.specs.Fold.{fold_rows}
-use Rattle.model.specs.Network.{evaluate_on, left_of, right_of, widths}
+use Rattle.model.specs.Network.{evaluate_on, left_of, right_of}
 use Rattle.network.specs.Reading.{slot_node}
 use Rattle.tables.proofs.Acts.{fold_wide, fold_asc}
 use Rattle.coherence.specs.Held.{Derived}

@@ -1,5 +1,6 @@
 -- A node worked: its new rows, its change, and what is written for it.
-use Rattle.std.specs.Prelude.{◌≡◌, Bool, true, false, not, cond, List, map, ℕ, ◌+◌, ◌-◌, ◌*◌, ◌≤◌, ◌<◌, eqb, get_or, length, set, take, drop}
+use Rattle.std.specs.Prelude.{◌≡◌, Bool, false, not, cond, List, map, ℕ, ◌+◌, ◌-◌, ◌*◌, ◌≤◌, ◌<◌, eqb, get_or, length}
+use Rattle.std.specs.Prelude.{set, take, drop, Option, None, Some}
 use Rattle.model.specs.Row.{Relation, same_rows, max_nodes, max_rows}
 use Rattle.model.specs.Record.{Bytes}
 use Rattle.model.specs.Algebra.{difference_rows}
@@ -10,6 +11,7 @@ use Rattle.areas.specs.Lent.{place_at}
 use Rattle.places.specs.Places.{Blank}
 use Rattle.differences.specs.Differences.{chosen, Within, picks_size}
 use Rattle.worklist.specs.Listed.{input_changed}
+use Rattle.working.specs.declared.Told.{Told}
 use Rattle.new_rows.specs.Working.{Working, Sized, present_place, old_rows, worked_rows}
 
 -- ---- changes
@@ -23,6 +25,10 @@ pub record Changes : Type 0 where
 -- changes by their parts
 abbrev pub told : List ℕ → List ℕ → Changes
 told picks sizes = record { picks = picks; sizes = sizes }
+
+-- what is told, as it is passed
+abbrev pub told_in : Told → Changes
+told_in t = told t.picks t.sizes
 
 -- each of these has its size
 pub record SizedChanges (d : Changes) : Type 0 where
@@ -111,9 +117,9 @@ pub record WorksNode (head : List ℕ) (new : Relation) (m after : Working) (d d
   pub marks : marked ≡ set due i must
 
 -- a node is worked, or its new rows are more than 64
-abbrev pub WorksOr : Type 0 → Relation → Bool → Type 0
-WorksOr works new true = works
-WorksOr works new false = max_rows < length new
+abbrev pub WorksOr : Type 0 → Relation → Option (Unit {0}) → Type 0
+WorksOr works new (Some _) = works
+WorksOr works new None = max_rows < length new
 
 -- ---- the nodes so far
 

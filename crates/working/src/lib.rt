@@ -10,15 +10,23 @@ ghost use Rattle.network.specs.Reading.{slot_node};
 ghost use Rattle.areas.specs.Lent.{place_at};
 ghost use Rattle.model.specs.Network.{left_of, right_of};
 ghost use Rattle.model.specs.Areas.{area_size, place_size};
-ghost use Rattle.new_rows.specs.Working.{working, Workable};
-ghost use Rattle.working.specs.Worked.{told, SizedChanges, Tells, KeepsTold, Untold, must_work, next_rows};
+ghost use Rattle.new_rows.specs.Working.{working_in, Workable};
+ghost use Rattle.working.specs.Worked.{told_in, Tells, KeepsTold, Untold, must_work, next_rows};
 ghost use Rattle.working.specs.Worked.{WorksNode, WorksOr, Puts};
 
 use areas::{PLACE, ROW_COUNTS};
 use differences::PICKS;
 use network::Slot;
-use places::Made;
+use new_rows::Work;
 use rows::{MAX_NODES, STRIDE};
+
+// What is told of the nodes' changes: for each node the numbers of its rows that came and of those that went, and for
+// all nodes how many came, then how many went.
+#[derive(Drop)]
+pub struct Told {
+    pub picks: [u8; MAX_NODES * PICKS],
+    pub sizes: [u32; 2 * MAX_NODES],
+}
 
 // Whether node i, of a level, must be worked: an event names the table, which is marked, or an input changed, which
 // is marked now.
@@ -38,23 +46,14 @@ fn must_work(slot: Slot, level: usize, i: usize, changed: &[bool], due: &mut [bo
 
 // The change from node i's rows in the rows area to those of a place told: the numbers of the rows that came and went,
 // and how many they are.
-fn tell_change(
-    new: &[u32],
-    n: usize,
-    rows: &[u32],
-    i: usize,
-    m: usize,
-    picks: &mut [u8],
-    sizes: &mut [u32],
-)
+fn tell_change(new: &[u32], n: usize, rows: &[u32], i: usize, m: usize, told: &mut Told)
     requires { (i < max_nodes) × (n ≤ max_rows) × (m ≤ max_rows) × (area_size ≤ length rows.now)
         × (length new.now ≡ place_size) × (ascending (first_rows new.now n) ≡ true)
-        × (ascending (first_rows (place_at rows.now i) m) ≡ true) × SizedChanges (told picks.old sizes.old) }
+        × (ascending (first_rows (place_at rows.now i) m) ≡ true) }
     ensures tells { (w : ℕ) → Place w new.now n → Place w (place_at rows.now i) m →
         Tells (relation_in w (place_at rows.now i) m) (place_at rows.now i)
-        (relation_in w new.now n) new.now (told picks.new sizes.new) i }
-    ensures keeps { KeepsTold (told picks.old sizes.old)
-        (told picks.new sizes.new) i }
+        (relation_in w new.now n) new.now (told_in told.new) i }
+    ensures keeps { KeepsTold (told_in told.old) (told_in told.new) i }
 {
     let at = i * PICKS;
     let change = differences::compare_places(
@@ -62,10 +61,10 @@ fn tell_change(
         m,
         new,
         n,
-        &mut picks[at..at + PICKS],
+        &mut told.picks[at..at + PICKS],
     );
-    sizes[i] = change.gained as u32;
-    sizes[MAX_NODES + i] = change.lost as u32;
+    told.sizes[i] = change.gained as u32;
+    told.sizes[MAX_NODES + i] = change.lost as u32;
 }
 
 // The rows of a place put as node i's new rows: their count, whether they are others than the old ones, and if so
@@ -76,35 +75,29 @@ fn put_node(
     rows: &[u32],
     i: usize,
     m: usize,
-    work: &mut [u32],
-    counts: &mut [u32],
-    changed: &mut [bool],
-    picks: &mut [u8],
-    sizes: &mut [u32],
+    work: &mut Work,
+    told: &mut Told,
 )
     requires { (i < max_nodes) × (n ≤ max_rows) × (m ≤ max_rows) × (area_size ≤ length rows.now)
         × (length out.now ≡ place_size) × (ascending (first_rows out.now n) ≡ true)
         × (ascending (first_rows (place_at rows.now i) m) ≡ true)
-        × (length work.old ≡ area_size) × Blank (place_at work.old i) × (length counts.old ≡ max_nodes)
-        × (length changed.old ≡ max_nodes) × (get_or changed.old i false ≡ false)
-        × Untold (told picks.old sizes.old) i }
+        × Blank (place_at work.old.rows i) × (get_or work.old.changed i false ≡ false) × Untold (told_in told.old) i }
     ensures { (w : ℕ) (ws : List ℕ) → Place w out.now n → Place w (place_at rows.now i) m →
         Puts (relation_in w (place_at rows.now i) m) (relation_in w out.now n) out.now n
-        (working ws rows.now work.old counts.old changed.old)
-        (working ws rows.now work.new counts.new changed.new)
-        (told picks.old sizes.old) (told picks.new sizes.new) i }
+        (working_in ws rows.now work.old) (working_in ws rows.now work.new)
+        (told_in told.old) (told_in told.new) i }
 {
-    counts[i] = n as u32;
+    work.counts[i] = n as u32;
     if places::same_rows(out, n, &rows[i * PLACE..i * PLACE + PLACE], m) {
         return;
     }
-    changed[i] = true;
-    tell_change(out, n, rows, i, m, picks, sizes);
-    words::copy_run(out, 0, work, i * PLACE, n * STRIDE);
+    work.changed[i] = true;
+    tell_change(out, n, rows, i, m, told);
+    words::copy_run(out, 0, &mut work.rows, i * PLACE, n * STRIDE);
 }
 
-// Node i, of a level, worked: its new rows and its change are ready, or false if the rows are more than 64. A node that
-// need not be worked keeps its rows.
+// Node i, of a level, worked: its new rows and its change are ready, or None where the rows are more than 64. A node
+// that need not be worked keeps its rows.
 pub fn work_node(
     slot: Slot,
     level: usize,
@@ -113,45 +106,27 @@ pub fn work_node(
     widths: &[usize],
     rows: &[u32],
     head: &[u32],
-    work: &mut [u32],
-    counts: &mut [u32],
-    changed: &mut [bool],
+    work: &mut Work,
     due: &mut [bool],
-    picks: &mut [u8],
-    sizes: &mut [u32],
-) -> bool
-    requires { Workable slot level bytes.now head.now
-        (working widths.now rows.now work.old counts.old changed.old) i
-        × Untold (told picks.old sizes.old) i × (i < length due.old) }
+    told: &mut Told,
+) -> Option<()>
+    requires { Workable slot level bytes.now head.now (working_in widths.now rows.now work.old) i
+        × Untold (told_in told.old) i × (i < length due.old) }
     ensures { WorksOr
         (WorksNode head.now
-        (next_rows slot level bytes.now head.now
-        (working widths.now rows.now work.old counts.old
-        changed.old) due.old i)
-        (working widths.now rows.now work.old counts.old
-        changed.old)
-        (working widths.now rows.now work.new counts.new
-        changed.new)
-        (told picks.old sizes.old) (told picks.new sizes.new)
-        due.old due.new
-        (must_work slot level i changed.old due.old) i)
-        (next_rows slot level bytes.now head.now
-        (working widths.now rows.now work.old counts.old
-        changed.old) due.old i) result }
+        (next_rows slot level bytes.now head.now (working_in widths.now rows.now work.old) due.old i)
+        (working_in widths.now rows.now work.old) (working_in widths.now rows.now work.new)
+        (told_in told.old) (told_in told.new)
+        due.old due.new (must_work slot level i work.old.changed due.old) i)
+        (next_rows slot level bytes.now head.now (working_in widths.now rows.now work.old) due.old i) result }
 {
     let n = head[ROW_COUNTS + i];
-    if !must_work(slot, level, i, changed, due) {
-        counts[i] = n;
-        return true;
+    if !must_work(slot, level, i, &work.changed, due) {
+        work.counts[i] = n;
+        return Some(());
     }
     let mut out = [0u32; PLACE];
-    let Made::Rows(count) = new_rows::work_rows(
-        slot, level, i, bytes, widths, rows, head, work, counts, changed, &mut out,
-    ) else {
-        return false;
-    };
-    put_node(
-        &out, count, rows, i, n as usize, work, counts, changed, picks, sizes,
-    );
-    true
+    let count = new_rows::work_rows(slot, level, i, bytes, widths, rows, head, work, &mut out)?;
+    put_node(&out, count, rows, i, n as usize, work, told);
+    Some(())
 }

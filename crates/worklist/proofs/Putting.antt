@@ -18,10 +18,6 @@ use Rattle.worklist.specs.Listed.{is_above, place_for, put_at}
 -- ---- the entry before an index
 
 module _ (levels : List ℕ) (level : ℕ) where
-  pub above_is : (s : List ℕ) (at : ℕ) → (at ≡ 0 → ⊥) → ltb level (get_or levels (get_or s (at - 1) 0) 0) ≡ is_above levels level s at
-  above_is s zero h = absurd (h refl)
-  above_is s (suc at) h = let e : suc at - 1 ≡ at = omega arith in rw e
-
   pub above_some : (s : List ℕ) (at : ℕ) → is_above levels level s at ≡ true → 0 < at
   above_some s zero e = absurd (true≢false (sym e))
   above_some s (suc at) e = suc-le-suc zero-le

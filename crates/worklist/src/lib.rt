@@ -17,12 +17,7 @@ pub fn input_changed(slot: Slot, changed: &[bool]) -> bool
     ensures { result ≡ input_changed slot changed.now }
 {
     let inputs = evaluation::inputs_of(slot);
-    let l = inputs.left;
-    if changed[l] {
-        return true;
-    }
-    let r = inputs.right;
-    changed[r]
+    changed[inputs.left] || changed[inputs.right]
 }
 
 // Whether there is an entry before index at, and its level is above another.
@@ -31,11 +26,7 @@ fn is_above(levels: &[usize], level: usize, entries: &[u32], at: usize) -> bool
         × ((j : ℕ) → j < at → get_or entries.now j 0 < length levels.now) }
     ensures { result ≡ is_above levels.now level entries.now at }
 {
-    if at == 0 {
-        return false;
-    }
-    let node = entries[at - 1] as usize;
-    level < levels[node]
+    at > 0 && level < levels[entries[at - 1] as usize]
 }
 
 // Node i of a level put among k entries, behind the last of them that is not above the level.
@@ -46,6 +37,7 @@ fn put_node(levels: &[usize], level: usize, i: usize, entries: &mut [u32], k: us
         ≡ put_at (place_for levels.now level entries.old k) k i entries.old }
 {
     let mut at = k;
+    // Not a `for`: it ends where the entry before is not above.
     while is_above(levels, level, entries, at) {
         entries[at] = entries[at - 1];
         at -= 1;
@@ -84,10 +76,8 @@ pub fn list_worked(levels: &[usize], due: &[bool], n: usize, entries: &mut [u32]
     ensures few { result ≤ max_nodes }
 {
     let mut k = 0;
-    let mut i = 0;
-    while i < n {
+    for i in 0..n {
         k = list_node(levels, due, i, entries, k);
-        i += 1;
     }
     k
 }

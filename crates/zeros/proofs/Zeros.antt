@@ -85,6 +85,10 @@ module _ (s : List ℕ) where
       )
       (and_four (eqb even 0) (all_zero (slice k (k + 2) s)) (eqb odd 0) (all_zero (slice (k + 2) (k + 2 + 2) s)))
 
+  -- nothing gathered yet
+  pub gather_none : (a : Bits) (k m : ℕ) → m ≡ k → Gathers a (slice k m s) a
+  gather_none a k m e = rw (e, slice_empty k s) (sym (and-true (no_bits a)))
+
   -- a run gathered, then the run behind it
   pub gather_on : (a b c : Bits) (k m n e : ℕ) → k ≤ m → n ≤ length s → m + e ≡ n → Gathers a (slice k m s) b → Gathers b (slice m (m + e) s) c → Gathers a (slice k n s) c
   gather_on a b c k m n e h l same f g =

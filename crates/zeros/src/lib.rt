@@ -26,7 +26,7 @@ pub fn pair(words: &[u32], k: usize) -> u64
     requires { k + 2 ≤ length words.now }
     ensures { result ≡ pair_at words.now k }
 {
-    words[k] as u64 + (words[k + 1] as u64) * WORD
+    u64::from(words[k]) + u64::from(words[k + 1]) * WORD
 }
 
 // The bits of 2 pairs gathered beside others.
@@ -41,29 +41,25 @@ fn two_pairs(words: &[u32], k: usize, bits: Bits) -> Bits
 }
 
 // The bits of 8 pairs gathered beside others.
-fn eight_pairs(words: &[u32], k: usize, bits: Bits) -> Bits
+fn eight_pairs(words: &[u32], k: usize, mut bits: Bits) -> Bits
     requires { k + 16 ≤ length words.now }
     ensures { Gathers bits (slice k (k + 16) words.now) result }
 {
-    let a = two_pairs(words, k, bits);
-    let b = two_pairs(words, k + 4, a);
-    let c = two_pairs(words, k + 8, b);
-    two_pairs(words, k + 12, c)
+    for i in 0..4 {
+        bits = two_pairs(words, k + 4 * i, bits);
+    }
+    bits
 }
 
 // The bits of 64 pairs, a turn's words, gathered beside others.
-fn gather_turn(words: &[u32], k: usize, bits: Bits) -> Bits
+fn gather_turn(words: &[u32], k: usize, mut bits: Bits) -> Bits
     requires { k + turn ≤ length words.now }
     ensures { Gathers bits (slice k (k + turn) words.now) result }
 {
-    let a = eight_pairs(words, k, bits);
-    let b = eight_pairs(words, k + 16, a);
-    let c = eight_pairs(words, k + 32, b);
-    let d = eight_pairs(words, k + 48, c);
-    let e = eight_pairs(words, k + 64, d);
-    let f = eight_pairs(words, k + 80, e);
-    let g = eight_pairs(words, k + 96, f);
-    eight_pairs(words, k + 112, g)
+    for i in 0..8 {
+        bits = eight_pairs(words, k + 16 * i, bits);
+    }
+    bits
 }
 
 // The bits of a run, pair by pair, and of a field left over.
@@ -72,13 +68,11 @@ fn gather_pairs(words: &[u32], from: usize, to: usize) -> u64
     ensures { Tells result (slice from to words.now) }
 {
     let mut bits = 0u64;
-    let mut k = from;
-    while 2 <= to - k {
-        bits |= pair(words, k);
-        k += 2;
+    for i in 0..(to - from) / 2 {
+        bits |= pair(words, from + 2 * i);
     }
-    if k < to {
-        bits |= words[k] as u64;
+    if (to - from) % 2 == 1 {
+        bits |= u64::from(words[to - 1]);
     }
     bits
 }
@@ -90,6 +84,7 @@ pub fn all_zero(words: &[u32], from: usize, to: usize) -> bool
 {
     let mut bits = Bits { even: 0, odd: 0 };
     let mut k = from;
+    // A `for` over the turns takes up to 10 instructions more for a short run, of which a check has many.
     while TURN <= to - k {
         bits = gather_turn(words, k, bits);
         k += TURN;

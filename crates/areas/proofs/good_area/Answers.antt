@@ -1,22 +1,11 @@
 use mathlib.Core.Bool.{true}
 use mathlib.Core.Path.{◌≡◌, sym, ◌∙◌}
-use Prim.Native.Nat.{◌+◌}
 use native.Mathlib.Omega.{arith}
 use Rattle.areas.specs.Lent.{counts_from}
 use Rattle.areas.proofs.Good.{area_is}
-use Rattle.areas.proofs.Gaps.{gap_none, gap_empty, gap_rows, gap_not, gap_end, asked_few, node_asked}
+use Rattle.areas.proofs.Gaps.{gap_empty, gap_rows, gap_not, area_end, asked_few, node_asked}
 use Rattle.areas.proofs.good_area.Goals as goal
 use Rattle.areas.proofs.good_area.Goals.{then-count-ne0+else-not-good_node, else-count-ne0}
-
-pub loop-i-init : goal.loop-i-init
-loop-i-init c = let a = c.args in (omega arith, omega arith, gap_none a.widths.now a.n (counts_from a.words.now a.first) a.area.now)
-
-pub overflow_cast-count : goal.overflow_cast-count
-overflow_cast-count c = let a = c.args in omega (arith, c.type_inv.words (a.first + c.loop-i.i))
-
-pub good_node-requires : goal.good_node-requires
-good_node-requires c =
-    (omega arith, omega arith, omega arith, c.requires.3 c.loop-i.i)
 
 pub returns-then-not-good_node : goal.returns-then-not-good_node
 returns-then-not-good_node c =
@@ -24,21 +13,7 @@ returns-then-not-good_node c =
     let a = c.args in
     sym (area_is a.widths.now a.n (counts_from a.words.now a.first) a.area.now (omega arith)
     ∙ gap_not a.widths.now a.n (counts_from a.words.now a.first) a.area.now (omega arith) l.from l.i (omega arith) (omega arith) (c.requires.3 l.i)
-    (sym c.good_node.ensures ∙ c.if-not-good_node.true) l.invariant.2)
-
-pub overflow_mul-from-then-count-ne0 : goal.overflow_mul-from-then-count-ne0
-overflow_mul-from-then-count-ne0 c =
-    let l = c.loop-i in
-    let a = c.args in
-    omega
-    (arith, asked_few a.widths.now a.n (counts_from a.words.now a.first) a.area.now l.from l.i (sym c.good_node.ensures ∙ c.if-not-good_node.false))
-
-pub overflow_add-from : goal.overflow_add-from
-overflow_add-from c =
-    let l = c.loop-i in
-    let a = c.args in
-    omega
-    (arith, asked_few a.widths.now a.n (counts_from a.words.now a.first) a.area.now l.from l.i (sym c.good_node.ensures ∙ c.if-not-good_node.false))
+    (sym c.good_node.ensures ∙ c.if-not-good_node.true) l.invariant.1)
 
 pub loop-i-preserved : goal.loop-i-preserved
 loop-i-preserved c =
@@ -49,32 +24,28 @@ loop-i-preserved c =
     elim c.if-count-ne0.branch [
       | then-count-ne0+else-not-good_node came ↦
           let asked : node_asked w a.n count a.area.now l.from l.i ≡ true = sym came.good_node.ensures ∙ came.if-not-good_node.false in (
-            omega arith,
             omega (arith, came.from-is, asked_few w a.n count a.area.now l.from l.i asked),
             rw came.from-is
-                (gap_rows w a.n count a.area.now (omega arith) l.from l.i (omega arith) (omega arith) (c.requires.3 l.i) asked l.invariant.2),
+                (gap_rows w a.n count a.area.now (omega arith) l.from l.i (omega arith) (omega arith) (c.requires.3 l.i) asked l.invariant.1),
           )
       | else-count-ne0 came ↦ (
-        omega arith,
         omega (arith, came.from-is),
         rw came.from-is
             (gap_empty w a.n count a.area.now (omega arith) l.from l.i (omega arith) (omega arith) (omega arith) (c.requires.3 l.i)
-            (omega (arith, came.if-count-ne0.false)) l.invariant.2),
+            (omega (arith, came.if-count-ne0.false)) l.invariant.1),
       )
     ]
 
-pub returns-then-not-all_zero : goal.returns-then-not-all_zero
-returns-then-not-all_zero c =
-    let l = c.loop-i in
+pub returns-then-all_zero : goal.returns-then-all_zero
+returns-then-all_zero c =
     let a = c.args in
-    sym (area_is a.widths.now a.n (counts_from a.words.now a.first) a.area.now (omega arith)
-    ∙ gap_end a.widths.now a.n a.words.now a.first a.area.now (omega arith) (omega arith) l.from l.i (omega arith) (omega arith) (omega arith) l.invariant.2
-    ∙ rw (sym c.all_zero.ensures ∙ c.if-not-all_zero.true))
+    let l = c.loop-i in
+    sym (area_end a.widths.now a.n a.words.now a.first a.area.now (omega arith) (omega arith) (omega arith) l.from l.i (omega arith) (omega arith) (omega arith) l.invariant.1
+    ∙ rw (sym c.all_zero.ensures ∙ c.if-all_zero.true) (sym c.all_zero-then-all_zero.ensures))
 
-pub returns : goal.returns
-returns c =
-    let l = c.loop-i in
+pub returns-else-all_zero : goal.returns-else-all_zero
+returns-else-all_zero c =
     let a = c.args in
-    sym (area_is a.widths.now a.n (counts_from a.words.now a.first) a.area.now (omega arith)
-    ∙ gap_end a.widths.now a.n a.words.now a.first a.area.now (omega arith) (omega arith) l.from l.i (omega arith) (omega arith) (omega arith) l.invariant.2
-    ∙ rw (sym c.all_zero.ensures ∙ c.if-not-all_zero.false) (sym c.all_zero-2.ensures))
+    let l = c.loop-i in
+    let e = area_end a.widths.now a.n a.words.now a.first a.area.now (omega arith) (omega arith) (omega arith) l.from l.i (omega arith) (omega arith) (omega arith) l.invariant.1 in
+    grind (arith, e)

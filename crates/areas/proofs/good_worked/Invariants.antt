@@ -1,5 +1,4 @@
 use mathlib.Core.Path.{◌≡◌}
-use Prim.Native.Nat.{◌≤◌, ◌-◌}
 use Rattle.laws.proofs.All.{AllTo}
 use Rattle.model.specs.Areas.{worked_count}
 use Rattle.model.specs.Row.{max_nodes}
@@ -7,7 +6,4 @@ use Rattle.areas.proofs.Gaps.{entry_good}
 use Rattle.areas.proofs.good_worked.Given as goal
 
 abbrev pub invariant-loop-k : goal.invariant-loop-k
-invariant-loop-k l = (l.k ≤ l.counted) × (l.counted ≡ worked_count l.head) × AllTo (entry_good l.n l.head) max_nodes l.k
-
-abbrev pub decreases-loop-k : goal.decreases-loop-k
-decreases-loop-k l = l.counted - l.k
+invariant-loop-k l = (l.counted ≡ worked_count l.head) × AllTo (entry_good l.n l.head) max_nodes l.k

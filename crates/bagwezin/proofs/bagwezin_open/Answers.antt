@@ -1,19 +1,20 @@
 use mathlib.Core.Path.{ap, subst}
 use native.Mathlib.Omega.{arith}
+use Rattle.std.proofs.Common.{rules}
 use Rattle.model.specs.Calls.{Result}
 use Rattle.areas.specs.Lent.{lent}
 use Rattle.packing.specs.Packing.{Answers}
-use Rattle.bagwezin.proofs.Answered.{open_fits}
+use Rattle.bagwezin.proofs.Answered.{open_fits, small_none, told_none}
 use Rattle.bagwezin.proofs.bagwezin_open.Goals as goal
 
-pub pack-requires : goal.pack-requires
-pack-requires c =
-    let a = c.args in (
-      open_fits a.net.now (λ i. omega (arith, c.type_inv.net i)) (lent a.rows.now a.gained.now a.lost.now a.head.now) _ c.open-v.ensures.opens,
-      omega arith,
-    )
+pub pack_answer-requires : goal.pack_answer-requires
+pack_answer-requires c =
+    let a = c.args in
+    small_none c.open-v.result c.map.result (search rules)
+    (open_fits a.net.now (λ i. omega (arith, c.type_inv.net i)) (lent a.rows.now a.gained.now a.lost.now a.head.now) _ c.open-v.ensures.opens)
 
 pub returns : goal.returns
 returns c =
     let e = c.open-v.ensures.opens in
-    record { answers = subst (λ (x : Result). Answers x.verdict 0 c.pack.result) e c.pack.ensures; areas = ap (λ (x : Result). x.areas) e }
+    let told = told_none c.open-v.result c.map.result (search rules) c.pack_answer.result c.pack_answer.ensures in
+    record { answers = subst (λ (x : Result). Answers x.verdict 0 c.pack_answer.result) e told; areas = ap (λ (x : Result). x.areas) e }

@@ -2,7 +2,6 @@ use mathlib.Core.List.{List}
 use mathlib.Core.Bool.{true}
 use mathlib.Core.Path.{◌≡◌}
 use Prim.Native.Nat.{ℕ}
-use native.Mathlib.Omega.{arith}
 use lib.ListN.{get_or}
 use Rattle.evaluation.specs.declared.Held.{Held}
 use Rattle.areas.specs.Lent.{place_at}
@@ -28,26 +27,6 @@ as-held slot ws head rows n l r lh rh p d el er ewl ewr =
       held_at_lem ws n rows head p (left_of (slot_node slot)) d.left,
       held_at_lem ws n rows head p (right_of (slot_node slot)) d.right,
     )
-
-pub held-left-requires : goal.held-left-requires
-held-left-requires c = let b = c.requires.1.left in omega (
-  arith,
-  c.requires.0.few,
-  c.requires.0.widths-long,
-  c.requires.0.head-long,
-  b,
-  c.inputs_of-inputs.ensures.left,
-)
-
-pub held-right-requires : goal.held-right-requires
-held-right-requires c = let b = c.requires.1.right in omega (
-  arith,
-  c.requires.0.few,
-  c.requires.0.widths-long,
-  c.requires.0.head-long,
-  b,
-  c.inputs_of-inputs.ensures.right,
-)
 
 pub evaluate-requires : goal.evaluate-requires
 evaluate-requires c =

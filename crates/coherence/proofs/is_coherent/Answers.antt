@@ -1,16 +1,13 @@
-use mathlib.Core.Path.{refl, sym, ◌∙◌}
-use Prim.Native.Nat.{◌+◌, ◌-◌}
+use mathlib.Core.Path.{sym, ◌∙◌}
+use Prim.Native.Nat.{◌+◌}
 use native.Mathlib.Omega.{arith}
 use lib.ListN.{get_or}
-use Rattle.laws.proofs.All.{all_none, all_more, all_done, all_not}
+use Rattle.laws.proofs.All.{all_more, all_done, all_not}
 use Rattle.coherence.proofs.Coherent.{coherent_is, level_derived, level_table}
 use Rattle.coherence.proofs.Agree.{fewer}
 use Rattle.network.specs.Reading.{no_slot}
 use Rattle.coherence.specs.Held.{slot_agrees}
 use Rattle.coherence.proofs.is_coherent.Goals as goal
-
-pub loop-i-init : goal.loop-i-init
-loop-i-init c = let a = c.args in (omega arith, refl, all_none (λ j. slot_agrees (get_or a.net.slots j no_slot) a.net.widths a.head.now a.rows.now j) a.net.count)
 
 pub node_agrees-requires : goal.node_agrees-requires
 node_agrees-requires c =
@@ -36,11 +33,10 @@ returns-then-not-node_agrees c =
 
 pub loop-i-preserved : goal.loop-i-preserved
 loop-i-preserved c = let a = c.args in (
-  omega arith,
-  c.loop-i.invariant.1,
+  c.loop-i.invariant.0,
   all_more (λ j. slot_agrees (get_or a.net.slots j no_slot) a.net.widths a.head.now a.rows.now j) a.net.count
       c.loop-i.i c.node_agrees.result
-      c.loop-i.invariant.2 c.node_agrees.ensures (rw c.if-not-node_agrees.false),
+      c.loop-i.invariant.1 c.node_agrees.ensures (rw c.if-not-node_agrees.false),
 )
 
 pub returns : goal.returns
@@ -49,5 +45,5 @@ returns c =
     record {
       tells = sym (sym (coherent_is a.net c.requires.built c.requires.fit a.rows.now a.head.now)
           ∙ all_done (λ j. slot_agrees (get_or a.net.slots j no_slot) a.net.widths a.head.now a.rows.now j) a.net.count c.loop-i.i (omega arith)
-          c.loop-i.invariant.2);
+          c.loop-i.invariant.1);
     }

@@ -1,41 +1,12 @@
-use mathlib.Core.Path.{refl, ap, ◌∙◌, ◌≡◌}
-use Prim.Native.Nat.{◌+◌, ◌*◌, zero-le}
+use mathlib.Core.Path.{refl, ◌∙◌}
+use Prim.Native.Nat.{◌+◌, ◌*◌}
 use native.Mathlib.Omega.{arith}
-use lib.ListN.{length, length-set, get_or, replicate}
+use lib.ListN.{length-set, get_or, replicate}
 use Rattle.columns.proofs.Rows.{both_field, column-below, row-filled}
 use Rattle.columns.specs.Columns.{joined_field}
 use Rattle.rows.specs.Rows.{row_at}
 use Rattle.model.specs.Areas.{stride}
 use Rattle.columns.proofs.columns_row.Goals as goal
-
-pub copy_run-requires : goal.copy_run-requires
-copy_run-requires c = (c.requires.0, omega arith)
-
-pub copy_run-requires-2 : goal.copy_run-requires-2
-copy_run-requires-2 c =
-    let q = c.copy_run in
-    (omega (arith, c.requires.0, c.requires.1), omega (arith, c.requires.2, ap length q.ensures))
-
-pub loop-k-init : goal.loop-k-init
-loop-k-init c = (zero-le, refl, refl)
-
-pub overflow_cast-row : goal.overflow_cast-row
-overflow_cast-row c =
-    let a = c.args in
-    let b = column-below (a.split + stride) a.columns.now a.n c.loop-k.k c.requires.5 (omega arith) (omega arith) in
-    omega (arith, b)
-
-pub offset_bounds-both-columns : goal.offset_bounds-both-columns
-offset_bounds-both-columns c =
-    let a = c.args in
-    let b = column-below (a.split + stride) a.columns.now a.n c.loop-k.k c.requires.5 (omega arith) (omega arith) in
-    omega (arith, b)
-
-pub bounds-both-columns : goal.bounds-both-columns
-bounds-both-columns c =
-    let a = c.args in
-    let b = column-below (a.split + stride) a.columns.now a.n c.loop-k.k c.requires.5 (omega arith) (omega arith) in
-    omega (arith, b)
 
 pub loop-k-preserved : goal.loop-k-preserved
 loop-k-preserved c =
@@ -46,14 +17,7 @@ loop-k-preserved c =
     (replicate (2 * stride) 0) c.copy_run.new.dst
     c.copy_run-2.new.dst c.requires.0 c.requires.1 c.requires.2 b
     refl c.copy_run.ensures c.copy_run-2.ensures in (
-      omega arith,
       row-filled (joined_field a.split (row_at stride a.left.now a.i) (row_at stride a.right.now a.j)) a.columns.now l.k
-          l.row (get_or c.copy_run-2.new.dst (get_or a.columns.now l.k 0) 0) (omega arith) (omega arith) l.invariant.1 field,
-      length-set l.row l.k (get_or c.copy_run-2.new.dst (get_or a.columns.now l.k 0) 0) ∙ l.invariant.2,
+          l.row (get_or c.copy_run-2.new.dst (get_or a.columns.now l.k 0) 0) (omega arith) (omega arith) l.invariant.0 field,
+      length-set l.row l.k (get_or c.copy_run-2.new.dst (get_or a.columns.now l.k 0) 0) ∙ l.invariant.1,
     )
-
-pub returns : goal.returns
-returns c =
-    let a = c.args in
-    let e : c.loop-k.k ≡ a.n = omega arith in
-    rw (← e) c.loop-k.invariant.1

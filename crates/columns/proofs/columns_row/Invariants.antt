@@ -1,5 +1,4 @@
 use mathlib.Core.Path.{◌≡◌}
-use Prim.Native.Nat.{◌-◌, ◌≤◌}
 use lib.ListN.{length}
 use Rattle.columns.proofs.Rows.{filled}
 use Rattle.columns.specs.Columns.{joined_field}
@@ -8,7 +7,4 @@ use Rattle.model.specs.Areas.{stride}
 use Rattle.columns.proofs.columns_row.Given as goal
 
 abbrev pub invariant-loop-k : goal.invariant-loop-k
-invariant-loop-k l = (l.k ≤ l.n) × (l.row ≡ filled (joined_field l.split (row_at stride l.left l.i) (row_at stride l.right l.j)) l.columns l.k) × (length l.row ≡ stride)
-
-abbrev pub decreases-loop-k : goal.decreases-loop-k
-decreases-loop-k l = l.n - l.k
+invariant-loop-k l = (l.row ≡ filled (joined_field l.split (row_at stride l.left l.i) (row_at stride l.right l.j)) l.columns l.k) × (length l.row ≡ stride)

@@ -35,7 +35,7 @@ returns-in-Broken c = let a = c.args in let n =
     rw c.in-Broken.is at c.next_piece.ensures in says-broken
     (files a.n a.b a.net.now a.file.now) a.start (lent a.rows.now a.gained.now a.lost.now a.head.now) a.out.now c.put_refused-size.new.out
     c.put_refused-size.result c.requires.1
-    c.in-Broken.at n c.put_refused-size.ensures
+    c.in-Broken.at n (rw c.number.ensures at c.put_refused-size.ensures)
 
 pub returns-in-Unfinished : goal.returns-in-Unfinished
 returns-in-Unfinished c = let a = c.args in let n =

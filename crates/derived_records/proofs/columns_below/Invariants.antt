@@ -1,9 +1,5 @@
-use Prim.Native.Nat.{◌-◌, ◌≤◌}
 use Rattle.derived_records.proofs.Lists.{BelowTo}
 use Rattle.derived_records.proofs.columns_below.Given as goal
 
 abbrev pub invariant-loop-i : goal.invariant-loop-i
-invariant-loop-i l = (l.i ≤ l.n) × BelowTo l.width l.bytes l.at l.k l.n l.i
-
-abbrev pub decreases-loop-i : goal.decreases-loop-i
-decreases-loop-i l = l.n - l.i
+invariant-loop-i l = BelowTo l.width l.bytes l.at l.k l.n l.i

@@ -1,18 +1,11 @@
 use mathlib.Core.Path.{sym}
 use Rattle.records.proofs.Header.{whole}
 use Rattle.derived_records.proofs.Body.{counted-short, counted_none, counted_many, counted-size}
-use native.Mathlib.Nat.{mul-le-mul_right}
 use native.Mathlib.Omega.{arith}
 use Rattle.derived_records.proofs.counted_shape.Goals as goal
 
 pub u16_at-size-requires : goal.u16_at-size-requires
 u16_at-size-requires c = let a = c.args in omega (arith, (whole a.bytes.now a.at c.requires.0).header)
-
-pub overflow_mul-k : goal.overflow_mul-k
-overflow_mul-k c = omega (arith, c.requires.1)
-
-pub overflow_add-k : goal.overflow_add-k
-overflow_add-k c = omega (arith, c.requires.1)
 
 pub returns-then-size-k : goal.returns-then-size-k
 returns-then-size-k c = let a = c.args in sym (counted-short a.k a.most a.each a.bytes.now a.at c.u16_at-size.result
@@ -32,27 +25,6 @@ returns-then-most-count c = let a = c.args in sym
     (counted_many a.k a.most a.each a.bytes.now a.at c.u16_at-size.result c.u16_at-size.ensures.is
     c.if-size-k.false
     c.field_at-count.result c.field_at-count.ensures.is c.if-count-lt1.false c.if-most-count.true)
-
--- each takes 2 fields at most, and a count is below 2^16
-pub overflow_mul-result : goal.overflow_mul-result
-overflow_mul-result c =
-    let counted = c.field_at-count in
-    omega (arith, c.requires.1, mul-le-mul_right counted.result c.requires.2, counted.ensures.small)
-
-pub overflow_add-result : goal.overflow_add-result
-overflow_add-result c =
-    let counted = c.field_at-count in
-    omega (arith, c.requires.1, mul-le-mul_right counted.result c.requires.2, counted.ensures.small)
-
-pub overflow_mul-result-2 : goal.overflow_mul-result-2
-overflow_mul-result-2 c =
-    let counted = c.field_at-count in
-    omega (arith, c.requires.1, mul-le-mul_right counted.result c.requires.2, counted.ensures.small)
-
-pub overflow_add-result-2 : goal.overflow_add-result-2
-overflow_add-result-2 c =
-    let counted = c.field_at-count in
-    omega (arith, c.requires.1, mul-le-mul_right counted.result c.requires.2, counted.ensures.small)
 
 pub returns : goal.returns
 returns c = let a = c.args in counted-size a.k a.most a.each a.bytes.now a.at c.u16_at-size.result

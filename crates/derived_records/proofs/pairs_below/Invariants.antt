@@ -1,9 +1,5 @@
-use Prim.Native.Nat.{◌-◌, ◌≤◌}
 use Rattle.derived_records.proofs.Lists.{PairsTo}
 use Rattle.derived_records.proofs.pairs_below.Given as goal
 
 abbrev pub invariant-loop-i : goal.invariant-loop-i
-invariant-loop-i l = (l.i ≤ l.n) × PairsTo l.left l.right l.bytes l.at 3 l.n l.i
-
-abbrev pub decreases-loop-i : goal.decreases-loop-i
-decreases-loop-i l = l.n - l.i
+invariant-loop-i l = PairsTo l.left l.right l.bytes l.at 3 l.n l.i

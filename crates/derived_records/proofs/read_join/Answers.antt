@@ -1,8 +1,9 @@
 use mathlib.Core.Path.{◌≡◌, sym, ◌∙◌}
 use Prim.Native.Nat.{◌+◌, ◌*◌}
+use Rattle.std.proofs.lemmas.Result.{err_from_is_err_and}
 use Rattle.model.specs.Record.{field_at}
 use Rattle.records.proofs.Header.{whole}
-use Rattle.derived_records.proofs.Body.{join-shaped, join_unshaped, join_no_left, join_no_right, join_bad_pair, join_high, join_ok, reads_as}
+use Rattle.derived_records.proofs.Body.{join-shaped, join_unshaped, join_no_inputs, join_bad_pair, join_high, join_ok, reads_as}
 use native.Mathlib.Omega.{arith}
 use Rattle.derived_records.proofs.read_join.Goals as goal
 
@@ -13,31 +14,18 @@ returns-then-not-join_shape c =
     (λ signs. join_unshaped a.widths.now a.count c.requires.1 signs a.bytes.now a.at
     (sym c.join_shape.ensures ∙ c.if-not-join_shape.true))
 
-pub field_at-left-requires : goal.field_at-left-requires
-field_at-left-requires c = let a = c.args in let sh = join-shaped a.bytes.now a.at (sym c.join_shape.ensures ∙ c.if-not-join_shape.false)
+pub inputs_at-requires : goal.inputs_at-requires
+inputs_at-requires c = let a = c.args in let sh = join-shaped a.bytes.now a.at (sym c.join_shape.ensures ∙ c.if-not-join_shape.false)
     in omega (arith, (whole a.bytes.now a.at c.requires.0).inside, sh.size)
 
-pub returns-then-count-left : goal.returns-then-count-left
-returns-then-count-left c =
+pub returns-in_err-left : goal.returns-in_err-left
+returns-in_err-left c =
     let a = c.args in
-    reads_as 5 c.requires.3
-    (λ signs. join_no_left a.widths.now a.count c.requires.1 signs a.bytes.now a.at
-    (sym c.join_shape.ensures ∙ c.if-not-join_shape.false) c.field_at-left.result c.field_at-left.ensures.is
-    c.if-count-left.true)
-
-pub field_at-right-requires : goal.field_at-right-requires
-field_at-right-requires c = let a = c.args in let sh = join-shaped a.bytes.now a.at
-    (sym c.join_shape.ensures ∙ c.if-not-join_shape.false) in omega
-    (arith, (whole a.bytes.now a.at c.requires.0).inside, sh.size)
-
-pub returns-then-count-right : goal.returns-then-count-right
-returns-then-count-right c =
-    let a = c.args in
-    reads_as 5 c.requires.3
-    (λ signs. join_no_right a.widths.now a.count c.requires.1 signs a.bytes.now a.at
-    (sym c.join_shape.ensures ∙ c.if-not-join_shape.false)
-    c.field_at-left.result c.field_at-left.ensures.is c.if-count-left.false c.field_at-right.result
-    c.field_at-right.ensures.is c.if-count-right.true)
+    let p = err_from_is_err_and c.from_residual.result c.from_residual.ensures.1 in
+    rw (p.1, p.2, c.in_err-left.ensures.0)
+    (reads_as 5 c.requires.3
+    (λ signs. join_no_inputs a.widths.now a.count c.requires.1 signs a.bytes.now a.at
+    (sym c.join_shape.ensures ∙ c.if-not-join_shape.false) c.in_err-left.ensures.1))
 
 pub field_at-pairs-requires : goal.field_at-pairs-requires
 field_at-pairs-requires c = let a = c.args in let sh = join-shaped a.bytes.now a.at
@@ -57,25 +45,13 @@ pairs_below-requires c = let a = c.args in let sh = join-shaped a.bytes.now a.at
 pub returns-then-not-pairs_below : goal.returns-then-not-pairs_below
 returns-then-not-pairs_below c =
     let a = c.args in
+    let i = c.in_ok-left in
     reads_as 5 c.requires.3
     (λ signs. join_bad_pair a.widths.now a.count c.requires.1 signs
-    a.bytes.now a.at (sym c.join_shape.ensures ∙ c.if-not-join_shape.false) c.field_at-left.result
-    c.field_at-left.ensures.is c.if-count-left.false
-    c.field_at-right.result c.field_at-right.ensures.is
-    c.if-count-right.false c.field_at-pairs.result c.field_at-pairs.ensures.is
+    a.bytes.now a.at (sym c.join_shape.ensures ∙ c.if-not-join_shape.false)
+    i.field-0.left i.ensures.0 i.ensures.1 i.field-0.right i.ensures.2 i.ensures.3
+    c.field_at-pairs.result c.field_at-pairs.ensures.is
     (sym c.pairs_below.ensures ∙ c.if-not-pairs_below.true))
-
-pub overflow_mul-pairs : goal.overflow_mul-pairs
-overflow_mul-pairs c = let a = c.args in let sh = join-shaped a.bytes.now a.at
-    (sym c.join_shape.ensures
-    ∙ c.if-not-join_shape.false) in omega
-    (arith, sh.pairs, c.field_at-pairs.ensures.is)
-
-pub overflow_add-pairs : goal.overflow_add-pairs
-overflow_add-pairs c = let a = c.args in let sh = join-shaped a.bytes.now a.at
-    (sym c.join_shape.ensures
-    ∙ c.if-not-join_shape.false) in omega
-    (arith, sh.pairs, c.field_at-pairs.ensures.is)
 
 pub field_at-columns-requires : goal.field_at-columns-requires
 field_at-columns-requires c = let a = c.args in let sh = join-shaped a.bytes.now
@@ -86,30 +62,6 @@ field_at-columns-requires c = let a = c.args in let sh = join-shaped a.bytes.now
       sh.size,
       sh.pairs,
       c.field_at-pairs.ensures.is,
-    )
-
-pub overflow_mul-pairs-2 : goal.overflow_mul-pairs-2
-overflow_mul-pairs-2 c = let a = c.args in let sh = join-shaped a.bytes.now
-    a.at (sym c.join_shape.ensures
-    ∙ c.if-not-join_shape.false) in omega
-    (arith, sh.pairs, c.field_at-pairs.ensures.is)
-
-pub overflow_add-pairs-2 : goal.overflow_add-pairs-2
-overflow_add-pairs-2 c = let a = c.args in let sh = join-shaped a.bytes.now
-    a.at (sym c.join_shape.ensures
-    ∙ c.if-not-join_shape.false) in omega
-    (arith, sh.pairs, c.field_at-pairs.ensures.is)
-
-pub overflow_add-left_width : goal.overflow_add-left_width
-overflow_add-left_width c = let a = c.args in let sh =
-    join-shaped a.bytes.now a.at
-    (sym c.join_shape.ensures
-    ∙ c.if-not-join_shape.false) in omega (
-      arith,
-      c.requires.2
-          c.field_at-left.result,
-      c.requires.2
-          c.field_at-right.result,
     )
 
 pub columns_below-requires : goal.columns_below-requires
@@ -133,34 +85,24 @@ columns_below-requires c =
 pub returns-then-not-columns_below : goal.returns-then-not-columns_below
 returns-then-not-columns_below c =
     let a = c.args in
+    let i = c.in_ok-left in
     reads_as 5 c.requires.3
-    (λ signs. join_high a.widths.now a.count
-    c.requires.1 signs a.bytes.now a.at (sym
-    c.join_shape.ensures ∙ c.if-not-join_shape.false)
-    c.field_at-left.result
-    c.field_at-left.ensures.is
-    c.if-count-left.false
-    c.field_at-right.result
-    c.field_at-right.ensures.is
-    c.if-count-right.false c.field_at-pairs.result
-    c.field_at-pairs.ensures.is
+    (λ signs. join_high a.widths.now a.count c.requires.1 signs a.bytes.now a.at
+    (sym c.join_shape.ensures ∙ c.if-not-join_shape.false)
+    i.field-0.left i.ensures.0 i.ensures.1 i.field-0.right i.ensures.2 i.ensures.3
+    c.field_at-pairs.result c.field_at-pairs.ensures.is
     (sym c.pairs_below.ensures ∙ c.if-not-pairs_below.false) c.field_at-columns.result
     c.field_at-columns.ensures.is (sym c.columns_below.ensures ∙ c.if-not-columns_below.true))
 
 pub returns : goal.returns
 returns c =
     let a = c.args in
+    let i = c.in_ok-left in
     reads_as 5 c.requires.3
-    (λ signs. join_ok a.widths.now a.count
-    c.requires.1 signs a.bytes.now a.at (sym
-    c.join_shape.ensures ∙ c.if-not-join_shape.false)
-    c.field_at-left.result
-    c.field_at-left.ensures.is
-    c.if-count-left.false
-    c.field_at-right.result
-    c.field_at-right.ensures.is
-    c.if-count-right.false c.field_at-pairs.result
-    c.field_at-pairs.ensures.is
+    (λ signs. join_ok a.widths.now a.count c.requires.1 signs a.bytes.now a.at
+    (sym c.join_shape.ensures ∙ c.if-not-join_shape.false)
+    i.field-0.left i.ensures.0 i.ensures.1 i.field-0.right i.ensures.2 i.ensures.3
+    c.field_at-pairs.result c.field_at-pairs.ensures.is
     (sym c.pairs_below.ensures ∙ c.if-not-pairs_below.false) c.field_at-columns.result
     c.field_at-columns.ensures.is (sym c.columns_below.ensures ∙ c.if-not-columns_below.false)
     (whole a.bytes.now a.at c.requires.0).inside)

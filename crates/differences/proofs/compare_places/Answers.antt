@@ -1,15 +1,9 @@
 use Prim.Native.Nat.{Ordering}
-use Prim.Native.Nat.{◌-◌}
 use native.Mathlib.Omega.{arith}
 use Rattle.laws.proofs.Order.{lt≢gt}
 use Rattle.merges.proofs.Merged.{told}
-use Rattle.differences.proofs.Picked.{comparing_end, comparing_equal, comparing_greater, comparing_less, comparing_start, old-left}
+use Rattle.differences.proofs.Picked.{comparing_end, comparing_equal, comparing_greater, comparing_less, old-left}
 use Rattle.differences.proofs.compare_places.Goals as goal
-
-pub loop-j-init : goal.loop-j-init
-loop-j-init c =
-    let a = c.args in
-    comparing_start a.old.now a.m a.new.now a.n c.requires.1 c.requires.0 a.picks.now c.requires.6
 
 pub loop-j-preserved-in-Less : goal.loop-j-preserved-in-Less
 loop-j-preserved-in-Less c =
@@ -24,17 +18,6 @@ loop-j-preserved-in-Equal c =
     let l = c.loop-j in
     comparing_equal a.old.now a.m a.new.now a.n c.requires.1 c.requires.0 l.i l.j l.picks l.gained l.lost l.invariant (omega arith)
     (told c.in-Equal.is c.compare_first.ensures)
-
-pub overflow_cast-picks-in-Greater : goal.overflow_cast-picks-in-Greater
-overflow_cast-picks-in-Greater c =
-    let a = c.args in
-    let l = c.loop-j in
-    -- past the last old row a new one is less
-    omega (
-      arith,
-      old-left a.old.now a.m a.new.now a.n c.requires.1 c.requires.0 l.i l.j l.picks l.gained l.lost l.invariant (omega arith)
-          Ordering.gt (told c.in-Greater.is c.compare_first.ensures) lt≢gt,
-    )
 
 pub bounds-picks-lost : goal.bounds-picks-lost
 bounds-picks-lost c =

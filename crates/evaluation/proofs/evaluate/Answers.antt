@@ -6,22 +6,21 @@ use Rattle.evaluation.proofs.Inside.{fills_none, join-fits, join-inside, no_matc
 use Rattle.evaluation.proofs.Inside.{set-inside}
 use Rattle.model.specs.Algebra.{join_rows, project_rows, unmatched_rows}
 use Rattle.model.specs.Areas.{stride}
-use Rattle.nodes.specs.Nodes.{operation_of, pairs_of}
+use Rattle.nodes.specs.Nodes.{code_of, operation_of, pairs_of}
 use Rattle.places.proofs.Places.{place-few}
 use Rattle.evaluation.proofs.evaluate.Goals as goal
 
-pub select_rows-requires : goal.select_rows-requires
-select_rows-requires c =
+pub select_rows-count-requires : goal.select_rows-count-requires
+select_rows-count-requires c =
     let a = c.args in
-    let s = select-inside a.l.width a.r.width c.in-Select.input c.in-Select.column c.in-Select.code
+    let s = select-inside a.l.width a.r.width c.in-Select.input c.in-Select.column (code_of c.in-Select.comparison)
     c.in-Select.operand (rw c.in-Select.is at c.requires.3) in
     let few = place-few a.l.width a.left.now a.l.count c.requires.1 in (
       few,
       omega (arith, c.requires.1.long),
       omega (arith, s.0, c.requires.1.narrow),
-      s.1,
       operand_narrow a.l.width c.in-Select.operand
-          c.requires.1.narrow s.2,
+          c.requires.1.narrow s.1,
       c.requires.4,
     )
 
@@ -106,11 +105,11 @@ unfolding evaluate_on
 returns-in-Select c =
     let a = c.args in
     let s = select-inside a.l.width a.r.width c.in-Select.input c.in-Select.column
-    c.in-Select.code c.in-Select.operand
+    (code_of c.in-Select.comparison) c.in-Select.operand
     (rw c.in-Select.is at c.requires.3) in
     rw c.in-Select.is
-    (c.select_rows.ensures a.l.width c.requires.1
-    (record { first = s.0; second = s.2 }))
+    (c.select_rows-count.ensures a.l.width c.requires.1
+    (record { first = s.0; second = s.1 }))
 
 pub returns-in-Project : goal.returns-in-Project
 unfolding evaluate_on project_rows

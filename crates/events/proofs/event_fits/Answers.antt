@@ -4,47 +4,18 @@ use Prim.Native.Nat.{◌*◌, ◌+◌, ℕ}
 use native.Mathlib.Omega.{arith}
 use lib.Dec.{eqb, leb, ltb}
 use lib.ListN.{get_or}
-use borrow.Author.Tests.{eq-eqb, le-leb, le-ltb, lt-leb, lt-ltb, ne_eqb}
+use borrow.Author.Tests.{eq-eqb, le-leb, lt-ltb}
 use Rattle.model.specs.Record.{field_at, length_at}
-use Rattle.events.proofs.Events.{fits-first, fits_last, fits-second, fits_third}
+use Rattle.events.proofs.Events.{fits_last}
 use Rattle.records.proofs.Header.{whole}
 use Rattle.events.proofs.event_fits.Goals as goal
 
 pub u16_at-size-requires : goal.u16_at-size-requires
 u16_at-size-requires c = let a = c.args in let w = whole a.bytes.now a.at c.requires.0 in omega (arith, w.header)
 
-pub returns-then-size-lt6 : goal.returns-then-size-lt6
-returns-then-size-lt6 c = let a = c.args in fits-first (leb 6 (length_at a.bytes.now a.at)) (ltb (field_at a.bytes.now a.at 0) a.count)
-    (eqb (get_or a.levels.now (field_at a.bytes.now a.at 0) 0) 0) (eqb (length_at a.bytes.now a.at) (6 + 4 * get_or a.widths.now (field_at a.bytes.now a.at 0) 0))
-    (lt-leb 6 (length_at a.bytes.now a.at) (omega (arith, c.u16_at-size.ensures.is, c.if-size-lt6.true)))
-
 pub field_at-table-requires : goal.field_at-table-requires
 field_at-table-requires c = let a = c.args in let w = whole a.bytes.now a.at c.requires.0 in omega
     (arith, w.inside, c.u16_at-size.ensures.is, c.if-size-lt6.false)
-
-pub returns-then-count-table : goal.returns-then-count-table
-returns-then-count-table c = let a = c.args in fits-second (leb 6 (length_at a.bytes.now a.at))
-    (ltb (field_at a.bytes.now a.at 0) a.count) (eqb (get_or a.levels.now (field_at a.bytes.now a.at 0) 0) 0)
-    (eqb (length_at a.bytes.now a.at) (6 + 4 * get_or a.widths.now (field_at a.bytes.now a.at 0) 0))
-    (le-leb 6 (length_at a.bytes.now a.at) (omega (arith, c.u16_at-size.ensures.is, c.if-size-lt6.false)))
-    (le-ltb (field_at a.bytes.now a.at 0) a.count (omega (arith, c.field_at-table.ensures.is, c.if-count-table.true)))
-
-pub returns-then-levels-table-ne0 : goal.returns-then-levels-table-ne0
-returns-then-levels-table-ne0 c = let a = c.args in fits_third (leb 6 (length_at a.bytes.now a.at))
-    (ltb (field_at a.bytes.now a.at 0) a.count) (eqb (get_or a.levels.now (field_at a.bytes.now a.at 0) 0) 0)
-    (eqb (length_at a.bytes.now a.at) (6 + 4 * get_or a.widths.now (field_at a.bytes.now a.at 0) 0))
-    (le-leb 6 (length_at a.bytes.now a.at) (omega (arith, c.u16_at-size.ensures.is, c.if-size-lt6.false)))
-    (lt-ltb (field_at a.bytes.now a.at 0) a.count (omega (arith, c.field_at-table.ensures.is, c.if-count-table.false)))
-    (ap (λ (t : ℕ). eqb (get_or a.levels.now t 0) 0) (sym c.field_at-table.ensures.is)
-    ∙ ne_eqb (get_or a.levels.now c.field_at-table.result 0) 0 c.if-levels-table-ne0.true)
-
-pub overflow_mul-result : goal.overflow_mul-result
-overflow_mul-result c = let a = c.args in omega
-    (arith, c.requires.4 c.field_at-table.result)
-
-pub overflow_add-result : goal.overflow_add-result
-overflow_add-result c = let a = c.args in omega
-    (arith, c.requires.4 c.field_at-table.result)
 
 pub returns : goal.returns
 returns c =

@@ -6,7 +6,7 @@ use borrow.Author.Tests.{le-leb}
 use Rattle.model.specs.Row.{Relation, max_rows}
 use Rattle.model.specs.Network.{widths}
 use Rattle.folding.specs.Folding.{folded_at, folded_words}
-use Rattle.folding.proofs.Ready.{made_fits, over-fits-not, node_counts, node_foldable, folded_is, most_fits, crowded_alerts}
+use Rattle.folding.proofs.Ready.{made_fits, node_counts, node_foldable, folded_is, most_fits, crowded_alerts}
 use Rattle.folding.proofs.node_fits.Goals as goal
 
 pub bounds-pending-i : goal.bounds-pending-i
@@ -56,26 +56,14 @@ fold_node-requires c =
       refl,
     )
 
-pub returns-in-Rows : goal.returns-in-Rows
-returns-in-Rows c =
+pub returns : goal.returns
+returns c =
     let a = c.args in
     let f = c.fold_node in
     λ net o h.
     let w = get_or (widths net.nodes) a.i 0 in
     let ready = node_foldable net a.gained.now a.lost.now a.head.now a.pending.now o a.i h in
     let crowded = crowded_alerts net a.gained.now a.lost.now a.head.now a.pending.now o a.i h c.if-had-came-le-MAX_ROWS.false in
-    made_fits (folded_words w a.i a.gained.now a.lost.now a.head.now a.pending.now) f.new.out f.result c.in-Rows.field-0 c.in-Rows.is (f.ensures w ready)
-    ∙ ap (λ (rel : Relation). leb (length rel) max_rows)
-    (sym (folded_is net a.gained.now a.lost.now a.head.now a.pending.now o a.i h crowded))
-
-pub returns-in-Over : goal.returns-in-Over
-returns-in-Over c =
-    let a = c.args in
-    let f = c.fold_node in
-    λ net o h.
-    let w = get_or (widths net.nodes) a.i 0 in
-    let ready = node_foldable net a.gained.now a.lost.now a.head.now a.pending.now o a.i h in
-    let crowded = crowded_alerts net a.gained.now a.lost.now a.head.now a.pending.now o a.i h c.if-had-came-le-MAX_ROWS.false in
-    over-fits-not (folded_words w a.i a.gained.now a.lost.now a.head.now a.pending.now) f.new.out f.result c.in-Over.is (f.ensures w ready)
+    c.is_some.ensures ∙ made_fits (folded_words w a.i a.gained.now a.lost.now a.head.now a.pending.now) f.new.out f.result (f.ensures w ready)
     ∙ ap (λ (rel : Relation). leb (length rel) max_rows)
     (sym (folded_is net a.gained.now a.lost.now a.head.now a.pending.now o a.i h crowded))

@@ -35,11 +35,11 @@ put_rows-requires c =
     let ready = node_foldable net a.gained.now a.lost.now a.head.now a.pending.now o a.i h in
     let touched = sym t.ensures ∙ c.if-not-is_touched.false in
     let place = made_place net a.gained.now a.lost.now a.head.now a.pending.now o a.i h a.signs.now c.requires.2 touched f.new.out f.result
-    (f.ensures w ready) c.in-Rows.count c.in-Rows.is in
+    (f.ensures w ready) c.in-Some.count c.in-Some.is in
     (ready.inside, ready.pending-long, (w, place.0, ready.pending_at))
 
-pub returns-in-Rows : goal.returns-in-Rows
-returns-in-Rows c =
+pub returns-in-Some : goal.returns-in-Some
+returns-in-Some c =
     let a = c.args in
     let t = c.is_touched in
     let f = c.fold_node in
@@ -49,10 +49,10 @@ returns-in-Rows c =
     let w = get_or (widths net.nodes) a.i 0 in
     let ready = node_foldable net a.gained.now a.lost.now a.head.now a.pending.now o a.i h in
     write_some net a.gained.now a.lost.now a.head.now a.pending.now o a.i h a.signs.now s touched f.new.out f.result
-    (f.ensures w ready) c.in-Rows.count c.in-Rows.is p.new.pending p.ensures
+    (f.ensures w ready) c.in-Some.count c.in-Some.is p.new.pending p.ensures
 
-pub returns-in-Over : goal.returns-in-Over
-returns-in-Over c =
+pub returns-in_default : goal.returns-in_default
+returns-in_default c =
     let a = c.args in
     let t = c.is_touched in
     let f = c.fold_node in
@@ -61,4 +61,4 @@ returns-in-Over c =
     let w = get_or (widths net.nodes) a.i 0 in
     let ready = node_foldable net a.gained.now a.lost.now a.head.now a.pending.now o a.i h in
     absurd (write_fits net a.gained.now a.lost.now a.head.now a.pending.now o a.i h a.signs.now s touched f.new.out f.result
-    (f.ensures w ready) c.in-Over.is fit)
+    (f.ensures w ready) c.in_default.is fit)

@@ -1,6 +1,5 @@
 use mathlib.Core.List.{[]}
 use mathlib.Core.Path.{◌≡◌}
-use Prim.Native.Nat.{◌-◌, ◌≤◌}
 use lib.ListN.{length}
 use Rattle.places.specs.Places.{Stands}
 use Rattle.joins.specs.Joins.{joined_with}
@@ -10,7 +9,4 @@ use Rattle.model.specs.Areas.{place_size}
 use Rattle.joins.proofs.join_all.Given as goal
 
 abbrev pub invariant-loop-i : goal.invariant-loop-i
-invariant-loop-i l = (l.i ≤ l.n) × (length l.out ≡ place_size) × Stands (put_up_to (joined_with l.how (first_rows l.right l.m)) [] l.left l.i) l.out l.count
-
-abbrev pub decreases-loop-i : goal.decreases-loop-i
-decreases-loop-i l = l.n - l.i
+invariant-loop-i l = (length l.out ≡ place_size) × Stands (put_up_to (joined_with l.how (first_rows l.right l.m)) [] l.left l.i) l.out l.count

@@ -5,7 +5,7 @@ use Rattle.keys.proofs.Chains.{slot_below, chained_none, chained_more}
 use Rattle.keys.proofs.chain_keys.Goals as goal
 
 pub loop-j-init : goal.loop-j-init
-loop-j-init c = (omega arith, rw (c.requires.1, c.requires.2) (chained_none c.args.keys.now c.args.n))
+loop-j-init c = rw (c.requires.1, c.requires.2) (chained_none c.args.keys.now c.args.n)
 
 pub bounds-heads-slot : goal.bounds-heads-slot
 bounds-heads-slot c = rw c.slot_of-slot.ensures (slot_below _)
@@ -18,9 +18,4 @@ loop-j-preserved c =
     let a = c.args in
     let l = c.loop-j in
     let e : l.j ≡ l.j - 1 + 1 = omega arith in
-    (omega arith, rw c.slot_of-slot.ensures (chained_more a.keys.now a.n (l.j - 1) l.heads l.next c.requires.0 (omega arith) (rw e at l.invariant.1)))
-
-pub returns : goal.returns
-returns c =
-    let e : c.loop-j.j ≡ 0 = omega arith in
-    rw e at c.loop-j.invariant.1
+    rw c.slot_of-slot.ensures (chained_more a.keys.now a.n (l.j - 1) l.heads l.next c.requires.0 (omega arith) (rw e at l.invariant))

@@ -1,30 +1,17 @@
-use mathlib.Core.Path.{ap, refl, ◌∙◌, ◌≡◌}
-use Prim.Native.Nat.{◌+◌, ◌-◌}
+use Prim.Native.Nat.{◌≤◌, ◌-◌, ◌+◌}
+use mathlib.Core.Path.{refl, ◌≡◌}
 use native.Mathlib.Omega.{arith}
-use lib.ListN.{get_or, length, length-set, take}
-use lib.Seq.{sets, take_all}
-use Rattle.lines.proofs.Digits.{put_one}
+use lib.ListN.{length, take}
+use lib.Seq.{sets-eq, take_all}
+use Rattle.std.proofs.lemmas.Slice.{put_mid-paste}
+use native.Mathlib.Nat.{le_refl}
 use Rattle.lines.proofs.put_bytes.Goals as goal
 
-pub loop-k-init : goal.loop-k-init
-loop-k-init c = (omega arith, refl, refl, refl)
-
-pub bounds-out-at : goal.bounds-out-at
-bounds-out-at c = omega (arith, c.loop-k.invariant.2)
-
-pub loop-k-preserved : goal.loop-k-preserved
-loop-k-preserved c =
+pub returns-clause-bytes : goal.returns-clause-bytes
+returns-clause-bytes c =
     let a = c.args in
-    let k = c.loop-k.k in (
-      omega arith,
-      c.loop-k.invariant.1,
-      length-set c.loop-k.out (a.at + k) (get_or a.text.now k 0) ∙ c.loop-k.invariant.2,
-      put_one a.out.now c.loop-k.out a.text.now a.at k (omega arith) c.loop-k.invariant.3,
-    )
-
-pub shape_of-out : goal.shape_of-out
-shape_of-out c = omega (arith, c.loop-k.invariant.2)
-
-pub returns : goal.returns
-returns c = let a = c.args in let e : c.loop-k.k ≡ length a.text.now = omega arith in let all : take c.loop-k.k a.text.now
-    ≡ a.text.now = take_all c.loop-k.k a.text.now (omega arith) in record { bytes = c.loop-k.invariant.3 ∙ ap (sets a.out.now a.at) all; next = omega arith }
+    let n = length a.text.now in
+    let room : a.at + n ≤ length a.out.now = omega arith in
+    let all : take n a.text.now ≡ a.text.now = take_all n a.text.now (le_refl n) in
+    let one = put_mid-paste a.at (a.at + n - a.at) a.out.now c.copy_from_slice.new.self a.text.now n c.copy_from_slice.ensures.after (omega arith) refl in
+    rw (sets-eq a.text.now a.out.now a.at room) (rw all at one)

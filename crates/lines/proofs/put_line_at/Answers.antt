@@ -2,44 +2,13 @@ use mathlib.Core.List.{◌++◌, [], ◌∷◌}
 use mathlib.Core.Path.{ap, refl, ◌∙◌, ◌≡◌}
 use Prim.Native.Nat.{◌+◌}
 use native.Mathlib.Omega.{arith}
-use lib.ListN.{length, length-append, length-set, set}
-use lib.Seq.{length-sets, sets}
+use lib.ListN.{length, length-append, set}
+use lib.Seq.{sets}
 use Rattle.lines.proofs.Digits.{line_is}
 use Rattle.model.specs.Text.{newline}
 use Rattle.lines.specs.Numbers.{numbers_text}
 use Rattle.laws.proofs.Parts.{sets_more}
 use Rattle.lines.proofs.put_line_at.Goals as goal
-
-pub put_numbers-end-requires : goal.put_numbers-end-requires
-put_numbers-end-requires c = let a = c.args in omega
-    (arith, c.put_bytes-from.ensures.next, ap length c.put_bytes-from.ensures.bytes, length-sets a.out.now a.at a.word.now)
-
-pub bounds-out-end : goal.bounds-out-end
-bounds-out-end c = let a = c.args in omega (
-  arith,
-  c.put_numbers-end.ensures.short,
-  c.put_bytes-from.ensures.next,
-  ap length c.put_numbers-end.ensures.bytes,
-  length-sets c.put_bytes-from.new.out c.put_bytes-from.result
-      (numbers_text a.numbers.now),
-  ap length c.put_bytes-from.ensures.bytes,
-  length-sets a.out.now a.at a.word.now,
-)
-
-pub overflow_add-result : goal.overflow_add-result
-overflow_add-result c = let a = c.args in omega
-    (arith, c.put_numbers-end.ensures.short, c.put_bytes-from.ensures.next)
-
-pub shape_of-out : goal.shape_of-out
-shape_of-out c = let a = c.args in omega (
-  arith,
-  ap length c.put_numbers-end.ensures.bytes,
-  length-sets c.put_bytes-from.new.out
-      c.put_bytes-from.result (numbers_text a.numbers.now),
-  ap length c.put_bytes-from.ensures.bytes,
-  length-sets a.out.now a.at a.word.now,
-  length-set c.put_numbers-end.new.out c.put_numbers-end.result 10,
-)
 
 pub returns : goal.returns
 returns c =

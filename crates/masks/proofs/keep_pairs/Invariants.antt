@@ -1,10 +1,6 @@
 use mathlib.Core.Path.{◌≡◌}
-use Prim.Native.Nat.{◌-◌, ◌≤◌}
 use Rattle.masks.specs.Masks.{keeping, pair_columns}
 use Rattle.masks.proofs.keep_pairs.Given as goal
 
 abbrev pub invariant-loop-j : goal.invariant-loop-j
-invariant-loop-j l = (l.j ≤ l.p) × (l.used ≡ keeping (pair_columns l.pairs l.j l.side) l.initial.used)
-
-abbrev pub decreases-loop-j : goal.decreases-loop-j
-decreases-loop-j l = l.p - l.j
+invariant-loop-j l = (l.used ≡ keeping (pair_columns l.pairs l.j l.side) l.initial.used)

@@ -1,4 +1,3 @@
-use Prim.Native.Nat.{◌-◌, ◌≤◌}
 use Rattle.model.specs.Areas.{stride}
 use Rattle.rows.specs.Rows.{first_rows}
 use Rattle.laws.proofs.All.{AllTo}
@@ -6,7 +5,4 @@ use Rattle.masks.specs.Masks.{leaves_column}
 use Rattle.masks.proofs.leaves_rows.Given as goal
 
 abbrev pub invariant-loop-k : goal.invariant-loop-k
-invariant-loop-k l = (l.k ≤ stride) × AllTo (leaves_column l.used (first_rows l.rows l.n)) stride l.k
-
-abbrev pub decreases-loop-k : goal.decreases-loop-k
-decreases-loop-k l = stride - l.k
+invariant-loop-k l = AllTo (leaves_column l.used (first_rows l.rows l.n)) stride l.k

@@ -1,13 +1,8 @@
 use mathlib.Core.Path.{ap, ◌∙◌}
-use lib.ListN.{length, take}
-use Rattle.masks.proofs.Masks.{keeping-long, used_made}
+use lib.ListN.{take}
+use Rattle.masks.proofs.Masks.{used_made}
 use Rattle.masks.specs.Masks.{columns_from, keeping}
-use borrow.Author.Rules.{rules}
 use Rattle.masks.proofs.used_columns.Goals as goal
-
-pub keep_columns-requires : goal.keep_columns-requires
-keep_columns-requires c =
-    (ap length c.keep_pairs.ensures ∙ keeping-long _ _, search rules, search rules)
 
 pub returns : goal.returns
 returns c =

@@ -27,12 +27,6 @@ u16_at-requires c =
     let l = c.loop-at in
     omega (arith, marking_inside c.args.bytes.now l.named l.at l.invariant c.loop-at-test.true)
 
-pub overflow_add-at : goal.overflow_add-at
-overflow_add-at c =
-    let l = c.loop-at in
-    let w = marking_whole c.args.bytes.now l.named l.at l.invariant c.loop-at-test.true in
-    omega (arith, w.inside, c.u16_at.ensures.is)
-
 pub loop-at-smaller : goal.loop-at-smaller
 loop-at-smaller c =
     let l = c.loop-at in

@@ -35,12 +35,6 @@ returns-then-count-gt-MAX_ROWS c = let a = c.args in (
   ap length c.requires.4,
 )
 
-pub overflow_mul-count : goal.overflow_mul-count
-overflow_mul-count c = omega (arith, c.if-count-gt-MAX_ROWS.false)
-
-pub copy_run-requires-2 : goal.copy_run-requires-2
-copy_run-requires-2 c = let a = c.args in (omega arith, rw c.requires.4 (omega arith))
-
 pub returns : goal.returns
 returns c = let a = c.args in after_fills a.bytes.now
     a.table a.width a.rows.now a.n c.requires.1

@@ -1,5 +1,5 @@
 use native.Mathlib.Omega.{arith}
-use borrow.Author.Tests.{eq-eqb, ne_eqb}
+use borrow.Author.Tests.{ne_eqb}
 use Rattle.records.proofs.Header.{whole}
 use Rattle.node_records.proofs.priority_at.Goals as goal
 
@@ -8,9 +8,6 @@ u16_at-requires c = omega (arith, (whole c.args.bytes.now c.args.at c.requires).
 
 pub field_at-requires : goal.field_at-requires
 field_at-requires c = omega (arith, (whole c.args.bytes.now c.args.at c.requires).inside, c.if-u16_at-eq10.true, c.u16_at.ensures.is)
-
-pub returns-then-u16_at-eq10 : goal.returns-then-u16_at-eq10
-returns-then-u16_at-eq10 c = rw (← c.u16_at.ensures.is, eq-eqb c.u16_at.result 10 c.if-u16_at-eq10.true) c.field_at.ensures.is
 
 pub returns : goal.returns
 returns c = rw (← c.u16_at.ensures.is, ne_eqb c.u16_at.result 10 c.if-u16_at-eq10.false)

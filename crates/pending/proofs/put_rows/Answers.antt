@@ -7,12 +7,6 @@ use Rattle.places.proofs.Places.{place-few}
 use Rattle.pending.proofs.Node.{put_other, put_same}
 use Rattle.pending.proofs.put_rows.Goals as goal
 
-pub overflow_cast-had : goal.overflow_cast-had
-overflow_cast-had c =
-    let a = c.args in
-    let w = c.requires.2.0 in
-    omega (arith, place-few w (place_at a.pending.now a.i) (pending_count layout a.pending.now a.i) c.requires.2.2)
-
 pub same_rows-requires : goal.same_rows-requires
 same_rows-requires c =
     let a = c.args in

@@ -1,17 +1,8 @@
-use Prim.Native.Nat.{◌-◌, ◌+◌, ℕ}
+use Prim.Native.Nat.{◌+◌, ℕ}
 use native.Mathlib.Omega.{arith}
 use mathlib.Core.Path.{sym, ◌∙◌, ap}
-use Rattle.pieces.proofs.Cut.{seek_start, cut_broken, whole_here, cut_mark, cut_on, cut_unfinished, cut_end}
+use Rattle.pieces.proofs.Cut.{cut_broken, whole_here, cut_mark, cut_on, cut_unfinished, cut_end}
 use Rattle.pieces.proofs.next_piece.Goals as goal
-
-pub loop-at-init : goal.loop-at-init
-loop-at-init c = let a = c.args in seek_start a.file.now a.start
-
-pub is_broken-requires : goal.is_broken-requires
-is_broken-requires c = omega (arith, c.loop-at-test.true)
-
-pub overflow_sub-result : goal.overflow_sub-result
-overflow_sub-result c = omega (arith, c.loop-at.invariant.from)
 
 pub returns-then-is_broken : goal.returns-then-is_broken
 returns-then-is_broken c = let a = c.args in cut_broken a.file.now a.start c.loop-at.at c.loop-at.invariant
@@ -31,11 +22,6 @@ u16_at-requires c = let a = c.args in let h = whole_here a.file.now a.start
     c.loop-at.at c.loop-at.invariant c.loop-at-test.true
     (sym c.is_broken.ensures ∙ c.if-is_broken.false) in omega (arith, h.header)
 
-pub overflow_add-at : goal.overflow_add-at
-overflow_add-at c = let a = c.args in let h = whole_here a.file.now a.start
-    c.loop-at.at c.loop-at.invariant c.loop-at-test.true
-    (sym c.is_broken.ensures ∙ c.if-is_broken.false) in omega (arith, h.inside, c.u16_at.ensures.is)
-
 pub loop-at-smaller : goal.loop-at-smaller
 loop-at-smaller c = let a = c.args in let h = whole_here a.file.now a.start
     c.loop-at.at c.loop-at.invariant c.loop-at-test.true
@@ -53,6 +39,6 @@ pub returns-then-start-file : goal.returns-then-start-file
 returns-then-start-file c = let a = c.args in cut_unfinished a.file.now a.start c.loop-at.at c.loop-at.invariant
     (omega (arith, c.loop-at-test.false)) c.if-start-file.true
 
-pub returns : goal.returns
-returns c = let a = c.args in cut_end a.file.now a.start c.loop-at.at c.loop-at.invariant
+pub returns-else-start-file : goal.returns-else-start-file
+returns-else-start-file c = let a = c.args in cut_end a.file.now a.start c.loop-at.at c.loop-at.invariant
     (omega (arith, c.loop-at-test.false)) (omega (arith, c.if-start-file.false))

@@ -1,6 +1,5 @@
 use mathlib.Core.List.{[]}
 use mathlib.Core.Path.{◌≡◌}
-use Prim.Native.Nat.{◌-◌, ◌≤◌}
 use lib.ListN.{length, take}
 use Rattle.places.specs.Places.{Stands}
 use Rattle.places.proofs.Puts.{put_up_to}
@@ -10,7 +9,4 @@ use Rattle.projections.proofs.project_rows.Given as goal
 
 abbrev pub invariant-loop-i : goal.invariant-loop-i
 invariant-loop-i l =
-    (l.i ≤ l.n) × (length l.out ≡ place_size) × Stands (put_up_to (projected (take l.c l.columns)) [] l.input l.i) l.out l.count
-
-abbrev pub decreases-loop-i : goal.decreases-loop-i
-decreases-loop-i l = l.n - l.i
+    (length l.out ≡ place_size) × Stands (put_up_to (projected (take l.c l.columns)) [] l.input l.i) l.out l.count

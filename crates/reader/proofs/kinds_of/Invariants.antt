@@ -1,5 +1,4 @@
 use mathlib.Core.Path.{◌≡◌}
-use Prim.Native.Nat.{◌≤◌, ◌-◌}
 use lib.ListN.{length}
 use Rattle.model.specs.Areas.{padded}
 use Rattle.model.specs.Row.{max_nodes}
@@ -7,7 +6,4 @@ use Rattle.reader.proofs.Answered.{kinds_to}
 use Rattle.reader.proofs.kinds_of.Given as goal
 
 abbrev pub invariant-loop-i : goal.invariant-loop-i
-invariant-loop-i l = (l.i ≤ l.count) × (length l.kinds ≡ max_nodes) × (l.kinds ≡ padded max_nodes (kinds_to l.net.slots l.i))
-
-abbrev pub decreases-loop-i : goal.decreases-loop-i
-decreases-loop-i l = l.count - l.i
+invariant-loop-i l = (length l.kinds ≡ max_nodes) × (l.kinds ≡ padded max_nodes (kinds_to l.net.slots l.i))

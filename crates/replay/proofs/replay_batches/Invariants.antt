@@ -1,5 +1,4 @@
 use lib.ListN.{length}
-use mathlib.Core.Path.{◌≡◌}
 use Prim.Native.Nat.{◌-◌}
 use Rattle.replay.proofs.Replaying.{Replaying}
 use Rattle.areas.specs.Lent.{lent}
@@ -7,7 +6,6 @@ use Rattle.replay.proofs.replay_batches.Given as goal
 
 abbrev pub invariant-loop-start : goal.invariant-loop-start
 invariant-loop-start l = Replaying l.net l.file (lent l.initial.rows l.initial.gained l.initial.lost l.initial.head) (lent l.rows l.gained l.lost l.head) l.start
-    × (length l.rows ≡ length l.initial.rows) × (length l.gained ≡ length l.initial.gained) × (length l.lost ≡ length l.initial.lost) × (length l.head ≡ length l.initial.head)
 
 abbrev pub decreases-loop-start : goal.decreases-loop-start
 decreases-loop-start l = length l.file - l.start

@@ -9,7 +9,7 @@ sign_of-sign-requires c = omega (arith, c.requires.0.sound.few, c.requires.0.sig
 pub returns-then-sign-eq0 : goal.returns-then-sign-eq0
 returns-then-sign-eq0 c =
     let a = c.args in
-    unwatched a.network c.requires.0 a.node a.gained.now a.lost.now a.head.now a.out.now c.sign_of-sign.result c.sign_of-sign.ensures c.if-sign-eq0.true
+    rw c.at.ensures (unwatched a.network c.requires.0 a.node a.gained.now a.lost.now a.head.now a.out.now c.sign_of-sign.result c.sign_of-sign.ensures c.if-sign-eq0.true)
 
 pub offset_bounds-network-node : goal.offset_bounds-network-node
 offset_bounds-network-node c =
@@ -60,8 +60,8 @@ report_size-size-requires c =
 pub returns-then-out-size : goal.returns-then-out-size
 returns-then-out-size c =
     let a = c.args in
-    too_short a.network c.requires.0 a.node a.gained.now a.lost.now a.head.now a.out.now
-    c.sign_of-sign.result c.report_size-size.result c.sign_of-sign.ensures c.if-sign-eq0.false c.report_size-size.ensures c.if-out-size.true
+    rw c.at-then-out-size.ensures (too_short a.network c.requires.0 a.node a.gained.now a.lost.now a.head.now a.out.now
+    c.sign_of-sign.result c.report_size-size.result c.sign_of-sign.ensures c.if-sign-eq0.false c.report_size-size.ensures c.if-out-size.true)
 
 pub put_report-requires : goal.put_report-requires
 put_report-requires c =

@@ -1,13 +1,15 @@
-use mathlib.Core.Path.{sym, ap, ◌∙◌}
+use mathlib.Core.Path.{◌≡◌, refl, ap, ◌∙◌}
+use Rattle.std.specs.declared.cmp.Ordering.{Ordering}
+use Rattle.std.specs.declared.cmp.Ordering.TheVariants.{Less, Equal, Greater}
+use Rattle.std.specs.Ordering.{is_lt}
 use Rattle.model.specs.Row.{is_less}
 use Rattle.rows.specs.Rows.{order_of}
 use Rattle.row_checks.proofs.below_next.Goals as goal
 
-pub returns-in-Less : goal.returns-in-Less
-returns-in-Less c = ap is_less (ap order_of (sym c.in-Less.is) ∙ c.compare_rows.ensures)
+is_less-order_of : (o : Ordering) → is_lt o ≡ is_less (order_of o)
+is_less-order_of Less = refl
+is_less-order_of Equal = refl
+is_less-order_of Greater = refl
 
-pub returns-in-Equal : goal.returns-in-Equal
-returns-in-Equal c = ap is_less (ap order_of (sym c.in-Equal.is) ∙ c.compare_rows.ensures)
-
-pub returns-in-Greater : goal.returns-in-Greater
-returns-in-Greater c = ap is_less (ap order_of (sym c.in-Greater.is) ∙ c.compare_rows.ensures)
+pub returns : goal.returns
+returns c = c.is_lt.ensures ∙ is_less-order_of c.compare_rows.result ∙ ap is_less c.compare_rows.ensures

@@ -1,10 +1,6 @@
-use Prim.Native.Nat.{◌≤◌, ◌-◌}
 use Rattle.model.specs.Areas.{stride}
 use Rattle.row_checks.proofs.Form.{EachTo, no_field}
 use Rattle.row_checks.proofs.zero_field.Given as goal
 
 abbrev pub invariant-loop-j : goal.invariant-loop-j
-invariant-loop-j l = (l.j ≤ l.n) × EachTo stride l.words l.n (no_field l.c) l.bits l.j
-
-abbrev pub decreases-loop-j : goal.decreases-loop-j
-decreases-loop-j l = l.n - l.j
+invariant-loop-j l = EachTo stride l.words l.n (no_field l.c) l.bits l.j

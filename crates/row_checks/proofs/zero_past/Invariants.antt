@@ -1,4 +1,4 @@
-use Prim.Native.Nat.{◌≤◌, ◌-◌}
+use Prim.Native.Nat.{◌-◌}
 use mathlib.Core.Path.{◌≡◌}
 use Rattle.model.specs.Areas.{stride}
 use Rattle.rows.specs.Rows.{first_rows}
@@ -6,7 +6,7 @@ use Rattle.row_checks.specs.RowChecks.{zero_past}
 use Rattle.row_checks.proofs.zero_past.Given as goal
 
 abbrev pub invariant-loop-c : goal.invariant-loop-c
-invariant-loop-c l = (l.c ≤ stride) × (zero_past l.width (first_rows l.words l.n) ≡ zero_past l.c (first_rows l.words l.n))
+invariant-loop-c l = zero_past l.fn.width (first_rows l.words l.n) ≡ zero_past l.c (first_rows l.words l.n)
 
 abbrev pub decreases-loop-c : goal.decreases-loop-c
 decreases-loop-c l = stride - l.c

@@ -1,10 +1,8 @@
 use mathlib.Core.Bool.{not}
 use mathlib.Core.List.{[]}
-use mathlib.Core.Path.{ap}
 use Prim.Native.Nat.{Ordering}
 use Prim.Native.Nat.{◌<◌}
 use native.Mathlib.Omega.{arith}
-use lib.ListN.{length}
 use Rattle.model.specs.Areas.{stride}
 use Rattle.model.specs.Row.{keep_if}
 use Rattle.laws.proofs.Order.{lt≢eq, lt≢gt}
@@ -12,7 +10,7 @@ use Rattle.laws.proofs.Sets.{ascending-holds}
 use Rattle.rows.specs.Rows.{row_at, first_rows}
 use Rattle.merges.specs.Merges.{kept_by}
 use Rattle.merges.proofs.Merge.{kept-passes}
-use Rattle.merges.proofs.Merged.{appended_none, first-left, merged_equal, merged_greater, merged_less, merged_start, stands-long, told}
+use Rattle.merges.proofs.Merged.{appended_none, first-left, merged_equal, merged_greater, merged_less, merged_start, told}
 use Rattle.sets.proofs.Sets.{kept_all, one_more}
 use Rattle.sets.proofs.keep_rows.Goals as goal
 
@@ -20,9 +18,6 @@ pub loop-i-init : goal.loop-i-init
 loop-i-init c =
     let a = c.args in
     (omega arith, omega arith, omega arith, merged_start (kept_by a.wanted) a.left.now a.n a.right.now a.m a.out.now c.requires.4)
-
-pub append_wanted-count-requires : goal.append_wanted-count-requires
-append_wanted-count-requires c = (c.loop-i.invariant.3.stands, omega arith, omega arith)
 
 pub loop-i-preserved-in-Less : goal.loop-i-preserved-in-Less
 loop-i-preserved-in-Less c =
@@ -36,9 +31,6 @@ loop-i-preserved-in-Less c =
       merged_less (kept_by a.wanted) a.left.now a.n a.right.now a.m (λ x. keep_if (not a.wanted) x []) (λ x. keep_if a.wanted x []) (λ y. []) (kept-passes a.wanted)
           l.i l.j l.out l.count l.invariant.3 (omega arith) p.new.out p.result o p.ensures,
     )
-
-pub append_wanted-count-requires-in-Equal : goal.append_wanted-count-requires-in-Equal
-append_wanted-count-requires-in-Equal c = (c.loop-i.invariant.3.stands, omega arith, omega arith)
 
 pub loop-i-preserved-in-Equal : goal.loop-i-preserved-in-Equal
 loop-i-preserved-in-Equal c =
@@ -73,10 +65,6 @@ loop-i-preserved c =
       merged_greater (kept_by a.wanted) a.left.now a.n a.right.now a.m (λ x. keep_if (not a.wanted) x []) (λ x. keep_if a.wanted x []) (λ y. []) (kept-passes a.wanted)
           l.i l.j l.out l.count l.invariant.3 (omega arith) g l.out l.count o (appended_none l.out l.count l.invariant.3.stands),
     )
-
-pub shape_of-out : goal.shape_of-out
-shape_of-out c =
-    omega (arith, stands-long c.loop-i.out c.loop-i.count c.loop-i.invariant.3.stands, ap length c.requires.4)
 
 pub returns : goal.returns
 returns c =

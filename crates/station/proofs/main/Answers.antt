@@ -1,18 +1,12 @@
 use borrow.Author.Rules.{rules}
-use Rattle.stages.proofs.Steps.{long_is}
-use lib.Seq.{length-take-le}
 use native.Mathlib.Omega.{arith}
+use Rattle.std.proofs.lemmas.List.{length-take}
+use Rattle.stages.proofs.Steps.{long_is}
 use Rattle.station.proofs.main.Goals as goal
 
-pub run-requires : goal.run-requires
-run-requires c = (
+pub run-ran-requires : goal.run-ran-requires
+run-ran-requires c = (
   long_is _ _ _ _ (search rules) (search rules) (search rules) (search rules),
-  omega (
-    arith,
-    length-take-le c.read_file-second.result.size
-        c.read_file-second.new.bytes
-        (omega (arith, c.read_file-second.ensures)),
-    c.read_file-second.ensures,
-  ),
+  omega (arith, length-take c.unwrap_or-2.result c.read_file-m.new.bytes, c.read_file-m.auto.bytes),
   search rules,
 )

@@ -1,204 +1,73 @@
 use Rattle.station.proofs.Running.{run_end, run_more, run_part, run_start, small_count}
+use Rattle.program.specs.Runs.{Turn}
 use Rattle.program.proofs.Theorem.{falls_again}
-use Rattle.stages.specs.Stages.{files}
+use Rattle.stages.specs.Stages.{Files, files}
+use Rattle.model.specs.Areas.{Areas}
 use Rattle.areas.specs.Lent.{lent}
 use lib.Seq.{length-take-le}
-use mathlib.Core.Path.{refl, sym, ◌∙◌}
-use mathlib.Core.Bool.{true≢false}
+use lib.ListN.{length, take}
+use Prim.Native.Nat.{◌≤◌}
+use mathlib.Core.Path.{sym, ◌∙◌, ◌≡◌}
 use native.Mathlib.Omega.{arith}
+use Rattle.station.proofs.run.Goals.{After-step-said}
 use Rattle.station.proofs.run.Goals as goal
 
-pub loop-last-init : goal.loop-last-init
-loop-last-init g c = let a = c.args in (
-  run_start (files a.n a.b a.net.now a.file.now) (lent a.rows.now a.gained.now a.lost.now a.head.now)
-      c.requires.0,
-  refl,
-  refl,
-  refl,
-  refl,
-  refl,
-)
+-- the files, and the areas before a step
+abbrev inputs : After-step-said → Files
+inputs c = let a = c.args in files a.n a.b a.net.now a.file.now
+
+abbrev held : After-step-said → Areas
+held c = lent c.loop-stage.rows c.loop-stage.gained c.loop-stage.lost c.loop-stage.head
+
+-- the step
+abbrev turn : After-step-said → Turn
+turn c = record {
+  before = c.loop-stage.out;
+  out = c.step-said.new.out;
+  areas = lent c.step-said.new.rows c.step-said.new.gained c.step-said.new.lost c.step-said.new.head;
+  said = c.step-said.result;
+}
+
+-- what it wrote, and what was told before it
+size : (c : After-step-said) → length (take c.step-said.result.size c.step-said.new.out) ≡ c.step-said.result.size
+size c = length-take-le c.step-said.result.size c.step-said.new.out (omega (arith, c.step-said.ensures.says.wrote.fits))
+
+small : (c : After-step-said) → c.loop-stage.told ≤ 60000000000
+small c = small_count (inputs c) c.loop-stage.stage (held c) c.loop-stage.told c.loop-stage.invariant c.requires.1
+
+room : (c : After-step-said) → c.step-said.result.size ≤ 13696
+room c = omega (arith, c.step-said.ensures.says.wrote.fits, c.loop-stage.auto.out, c.requires.2)
+
+pub loop-stage-init : goal.loop-stage-init
+loop-stage-init c = let a = c.args in
+    run_start (files a.n a.b a.net.now a.file.now) (lent a.rows.now a.gained.now a.lost.now a.head.now) c.requires.0
 
 pub step-said-requires : goal.step-said-requires
-step-said-requires g c = let a = c.args in (
-  c.loop-last.invariant.0.ready,
-  omega (
-    arith,
-    c.loop-last.invariant.5,
-    c.requires.2,
-  ),
-)
-
-pub slice_bounds-write_out-end : goal.slice_bounds-write_out-end
-slice_bounds-write_out-end g c = omega (arith, c.step-said.ensures.says.wrote.fits)
+step-said-requires c = (c.loop-stage.invariant.ready, omega (arith, c.loop-stage.auto.out, c.requires.2))
 
 pub overflow_add-told : goal.overflow_add-told
-overflow_add-told g c = let a = c.args in omega (
-  arith,
-  c.write_out-taken.ensures,
-  length-take-le c.step-said.result.size
-      c.step-said.new.out
-      (omega (arith, c.step-said.ensures.says.wrote.fits)),
-  c.step-said.ensures.says.wrote.fits,
-  c.loop-last.invariant.5,
-  c.requires.2,
-  small_count (files a.n a.b a.net.now a.file.now)
-      c.loop-last.stage
-      (lent c.loop-last.rows
-      c.loop-last.gained
-      c.loop-last.lost
-      c.loop-last.head)
-      c.loop-last.told
-      c.loop-last.invariant.0
-      c.requires.1,
-)
+overflow_add-told c = let s = (goal.at.overflow_add-told c).After-step-said in omega (arith, c.in-Ok.ensures, size s, small s, room s)
 
-pub shape_of-rows-then-taken-size : goal.shape_of-rows-then-taken-size
-shape_of-rows-then-taken-size g c = omega (
-  arith,
-  c.loop-last.invariant.1,
-)
+pub overflow_add-result : goal.overflow_add-result
+overflow_add-result c = let s = (goal.at.overflow_add-result c).After-step-said in omega (arith, c.in-Err.ensures, size s, small s, room s)
 
-pub shape_of-gained-then-taken-size : goal.shape_of-gained-then-taken-size
-shape_of-gained-then-taken-size g c = omega (
-  arith,
-  c.loop-last.invariant.2,
-)
+pub loop-stage-smaller : goal.loop-stage-smaller
+loop-stage-smaller c =
+    let s = (goal.at.loop-stage-smaller c).After-step-said in
+    falls_again (inputs s) c.loop-stage.stage (held s) c.loop-stage.invariant.ready (turn s) c.step-said.ensures.says (sym c.is_over.ensures ∙ c.loop-stage-test.true)
 
-pub shape_of-lost-then-taken-size : goal.shape_of-lost-then-taken-size
-shape_of-lost-then-taken-size g c = omega (
-  arith,
-  c.loop-last.invariant.3,
-)
+pub loop-stage-preserved : goal.loop-stage-preserved
+loop-stage-preserved c =
+    let s = (goal.at.loop-stage-preserved c).After-step-said in
+    run_more (inputs s) c.loop-stage.stage (held s) c.loop-stage.told c.loop-stage.invariant (turn s) c.step-said.ensures.says (sym c.is_over.ensures ∙ c.loop-stage-test.true) (room s)
+    c.in-Ok.taken (c.in-Ok.ensures ∙ size s)
 
-pub shape_of-head-then-taken-size : goal.shape_of-head-then-taken-size
-shape_of-head-then-taken-size g c = omega (
-  arith,
-  c.loop-last.invariant.4,
-)
-
-pub shape_of-out-then-taken-size : goal.shape_of-out-then-taken-size
-shape_of-out-then-taken-size g c = omega (
-  arith,
-  c.loop-last.invariant.5,
-)
-
-pub returns-then-taken-size : goal.returns-then-taken-size
-returns-then-taken-size g c = let a = c.args in rw c.stopped.ensures
-    (record {
-      whole = λ y. absurd (true≢false (sym y));
-      part = run_part (files a.n a.b a.net.now a.file.now)
-          c.loop-last.stage (lent c.loop-last.rows c.loop-last.gained
-          c.loop-last.lost c.loop-last.head) c.loop-last.told c.loop-last.invariant.0
-          (record {
-            before = c.loop-last.out;
-            out = c.step-said.new.out;
-            areas = (lent c.step-said.new.rows
-                c.step-said.new.gained
-                c.step-said.new.lost
-                c.step-said.new.head);
-            said = c.step-said.result;
-          })
-          c.step-said.ensures.says c.write_out-taken.result
-          (omega (arith, c.if-taken-size.true));
-    })
-
-pub loop-last-smaller : goal.loop-last-smaller
-loop-last-smaller g c = let a =
-    c.args in falls_again (files a.n a.b a.net.now a.file.now)
-    c.loop-last.stage
-    (lent c.loop-last.rows c.loop-last.gained c.loop-last.lost c.loop-last.head) c.loop-last.invariant.0.ready (record {
-      before = c.loop-last.out;
-      out = c.step-said.new.out;
-      areas = (lent c.step-said.new.rows
-          c.step-said.new.gained
-          c.step-said.new.lost
-          c.step-said.new.head);
-      said = c.step-said.result;
-    })
-    c.step-said.ensures.says
-    (sym c.is_over.ensures
-    ∙ c.loop-last-test.true)
-
-pub loop-last-preserved : goal.loop-last-preserved
-loop-last-preserved g c = let a =
-    c.args
-    in (
-      run_more (files a.n a.b a.net.now a.file.now)
-          c.loop-last.stage
-          (lent c.loop-last.rows c.loop-last.gained c.loop-last.lost c.loop-last.head) c.loop-last.told c.loop-last.invariant.0 (record {
-            before =
-                c.loop-last.out;
-            out = c.step-said.new.out;
-            areas = (lent c.step-said.new.rows
-                c.step-said.new.gained
-                c.step-said.new.lost
-                c.step-said.new.head);
-            said = c.step-said.result;
-          })
-          c.step-said.ensures.says
-          (sym c.is_over.ensures
-          ∙ c.loop-last-test.true)
-          (omega (
-            arith,
-            c.step-said.ensures.says.wrote.fits,
-            c.loop-last.invariant.5,
-            c.requires.2,
-          )) c.write_out-taken.result
-          (omega (
-            arith,
-            c.write_out-taken.ensures,
-            c.if-taken-size.false,
-            length-take-le c.step-said.result.size
-                c.step-said.new.out
-                (omega (arith, c.step-said.ensures.says.wrote.fits)),
-          )),
-      omega (
-        arith,
-        c.loop-last.invariant.1,
-      ),
-      omega (
-        arith,
-        c.loop-last.invariant.2,
-      ),
-      omega (
-        arith,
-        c.loop-last.invariant.3,
-      ),
-      omega (
-        arith,
-        c.loop-last.invariant.4,
-      ),
-      omega (
-        arith,
-        c.loop-last.invariant.5,
-      ),
-    )
-
-pub shape_of-rows : goal.shape_of-rows
-shape_of-rows g c = c.loop-last.invariant.1
-
-pub shape_of-gained : goal.shape_of-gained
-shape_of-gained g c = c.loop-last.invariant.2
-
-pub shape_of-lost : goal.shape_of-lost
-shape_of-lost g c = c.loop-last.invariant.3
-
-pub shape_of-head : goal.shape_of-head
-shape_of-head g c = c.loop-last.invariant.4
-
-pub shape_of-out : goal.shape_of-out
-shape_of-out g c = c.loop-last.invariant.5
+pub returns-in-Err : goal.returns-in-Err
+returns-in-Err c =
+    let s = (goal.at.returns-in-Err c).After-step-said in
+    run_part (inputs s) c.loop-stage.stage (held s) c.loop-stage.told c.loop-stage.invariant (turn s) c.step-said.ensures.says c.in-Err.stopped.told (omega (arith, c.in-Err.ensures, size s))
 
 pub returns : goal.returns
-returns g c = let a = c.args in record {
-  whole = λ y. run_end (files a.n a.b a.net.now a.file.now) c.loop-last.stage
-      (lent c.loop-last.rows c.loop-last.gained c.loop-last.lost c.loop-last.head) c.loop-last.told
-      c.loop-last.invariant.0 (sym c.is_over.ensures ∙ c.loop-last-test.false);
-  part = omega (
-    arith,
-    run_end (files a.n a.b a.net.now a.file.now) c.loop-last.stage
-        (lent c.loop-last.rows c.loop-last.gained c.loop-last.lost c.loop-last.head) c.loop-last.told
-        c.loop-last.invariant.0 (sym c.is_over.ensures ∙ c.loop-last-test.false),
-  );
-}
+returns c = let a = c.args in run_end (files a.n a.b a.net.now a.file.now) c.loop-stage.stage
+    (lent c.loop-stage.rows c.loop-stage.gained c.loop-stage.lost c.loop-stage.head) c.loop-stage.told
+    c.loop-stage.invariant (sym c.is_over.ensures ∙ c.loop-stage-test.false)

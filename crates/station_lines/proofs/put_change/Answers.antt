@@ -1,15 +1,7 @@
-use lib.ListN.{length}
-use mathlib.Core.Path.{ap}
 use native.Mathlib.Omega.{arith}
 use Rattle.rows.proofs.Words.{length_fields}
 use Rattle.station_lines.proofs.Changes.{numbers_taken}
 use Rattle.station_lines.proofs.put_change.Goals as goal
-
-pub put_line_at-requires : goal.put_line_at-requires
-put_line_at-requires c = let a = c.args in let n = ap length
-    (numbers_taken a.node a.w a.words.now a.from c.change_numbers-numbers.result c.requires.0
-    c.change_numbers-numbers.ensures) in omega
-    (arith, n, length_fields a.w a.words.now a.from, c.requires.0, c.requires.2)
 
 pub returns : goal.returns
 returns c = let a = c.args in let t = numbers_taken a.node a.w a.words.now a.from

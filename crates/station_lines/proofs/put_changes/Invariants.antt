@@ -1,12 +1,9 @@
 use Rattle.lines.specs.Written.{Put}
 use Rattle.station_lines.specs.Lines.{change_room}
-use Prim.Native.Nat.{◌≤◌, ◌*◌, ◌-◌}
+use Prim.Native.Nat.{◌*◌}
 use Rattle.station_lines.specs.Lines.{change_lines}
 use Rattle.model.specs.Areas.{held_in, layout}
 use Rattle.station_lines.proofs.put_changes.Given as goal
 
 abbrev pub invariant-loop-j : goal.invariant-loop-j
-invariant-loop-j l = (l.j ≤ l.n) × Put (change_lines l.sign l.node (held_in layout l.w l.j l.area l.node)) (change_room * l.j) l.at l.initial.out l.out l.to
-
-abbrev pub decreases-loop-j : goal.decreases-loop-j
-decreases-loop-j l = l.n - l.j
+invariant-loop-j l = Put (change_lines l.sign l.node (held_in layout l.w l.j l.area l.node)) (change_room * l.j) l.at l.initial.out l.out l.to

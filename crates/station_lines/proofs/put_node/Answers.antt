@@ -1,31 +1,6 @@
-use native.Mathlib.Omega.{arith}
 use Rattle.station_lines.proofs.Changes.{node_lines_lem}
 use Rattle.model.specs.Areas.{held_in, layout}
 use Rattle.station_lines.proofs.put_node.Goals as goal
-
-pub put_allowed-to-requires : goal.put_allowed-to-requires
-put_allowed-to-requires c = (
-  c.requires.0,
-  c.requires.1,
-  c.requires.3,
-  c.requires.4,
-  omega (arith, c.requires.1, c.requires.6),
-)
-
-pub put_allowed-requires : goal.put_allowed-requires
-put_allowed-requires c = (
-  c.requires.0,
-  c.requires.2,
-  c.requires.3,
-  c.requires.5,
-  omega (
-    arith,
-    c.put_allowed-to.ensures.short,
-    c.requires.1,
-    c.requires.2,
-    c.requires.6,
-  ),
-)
 
 pub returns : goal.returns
 returns c = let a = c.args in node_lines_lem a.sign a.node

@@ -1,122 +1,35 @@
-use mathlib.Core.Path.{ap, sym, ◌∙◌}
-use Prim.Native.Nat.{◌+◌, ◌-◌}
-use native.Mathlib.Omega.{arith}
-use lib.ListN.{length}
-use Rattle.tables.proofs.Folds.{act-put, act-remove, event_row_at, some-row}
-use Rattle.laws.proofs.Sets.{ascending-holds, insert_once}
-use Rattle.rows.specs.Rows.{first_rows}
-use Rattle.insertions.proofs.Stand.{leave_in, put_full, put-new, put_present, take_out}
-use Rattle.rows.proofs.Place.{length-padded}
-use Rattle.model.specs.Areas.{padded, folded_size, stride}
-use Rattle.model.specs.Batch.{row_in, folded_rows}
-use Rattle.rows.proofs.Words.{wide_rows}
-use Rattle.laws.proofs.Events.{length-row_in}
+use mathlib.Core.Bool.{false}
+use mathlib.Core.Path.{◌≡◌, sym, ◌∙◌}
+use Rattle.std.specs.Prelude.{Some}
+use Rattle.tables.proofs.Folds.{put_adds, put_fits, put_keeps, take_drops, take_keeps}
 use Rattle.tables.proofs.act.Goals as goal
 
-pub insert-requires : goal.insert-requires
-insert-requires c = let a = c.args in let size = ap length c.event_row-row.ensures
-    ∙ (length-padded stride (row_in a.bytes.now (a.at + 6) a.width)
-    (rw (length-row_in a.bytes.now (a.at + 6) a.width) c.requires.0))
-    in (
-      omega arith,
-      omega (arith, c.requires.4),
-      omega (arith, size),
-      c.requires.2.asc,
-    )
-
-pub remove-requires : goal.remove-requires
-remove-requires c = let a = c.args in let size = ap length c.event_row-row.ensures
-    ∙ (length-padded stride (row_in a.bytes.now (a.at + 6) a.width)
-    (rw (length-row_in a.bytes.now (a.at + 6) a.width) c.requires.0))
-    in (omega (arith, c.requires.4), omega (arith, size), c.requires.2.asc)
-
-pub overflow_sub-result : goal.overflow_sub-result
-overflow_sub-result c =
+pub returns-in-Some-true-clause-folds : goal.returns-in-Some-true-clause-folds
+returns-in-Some-true-clause-folds c =
     let a = c.args in
-    some-row (padded stride (row_in a.bytes.now (a.at + 6) a.width)) (first_rows a.words.now a.n) a.n
-    (sym (rw (event_row_at a.bytes.now (a.at + 6) a.width c.event_row-row.result
-    c.requires.0
-    c.event_row-row.ensures) at (rw c.if-remove.true at c.remove.ensures)).says)
-    c.requires.2.stands.count
+    put_adds a.bytes.now a.at a.width c.requires.0 c.event_row-row.result c.event_row-row.ensures a.words.now c.insert.new.words a.n c.requires.2
+    (sym c.is_put.ensures ∙ c.if-is_put.true) (rw (c.in-Some-true.is, c.in-Some-true.field-0-test) at c.insert.ensures)
 
-pub returns-in-New : goal.returns-in-New
-returns-in-New c =
-    let a = c.args in record {
-      folds = act-put a.bytes.now a.at a.width c.u16_at.result (first_rows a.words.now a.n)
-          c.insert.new.words (a.n + 1) c.u16_at.ensures.is
-          c.if-u16_at-eq-PUT.true
-          (put-new folded_rows folded_size (padded stride (row_in a.bytes.now (a.at + 6) a.width)) (first_rows a.words.now a.n) a.words.now
-          c.insert.new.words
-          a.n c.requires.2.stands
-          (length-padded stride (row_in a.bytes.now (a.at + 6) a.width)
-          (rw (length-row_in a.bytes.now (a.at + 6) a.width) c.requires.0))
-          (wide_rows stride a.words.now 0 a.n)
-          (rw (event_row_at a.bytes.now (a.at + 6) a.width c.event_row-row.result
-          c.requires.0
-          c.event_row-row.ensures)
-          at (rw c.in-New.is at c.insert.ensures)));
-      grows = omega arith;
-    }
-
-pub returns-in-Present : goal.returns-in-Present
-returns-in-Present c =
-    let a = c.args in record {
-      folds = act-put a.bytes.now a.at a.width c.u16_at.result (first_rows a.words.now a.n)
-          c.insert.new.words a.n c.u16_at.ensures.is
-          c.if-u16_at-eq-PUT.true
-          (put_present folded_rows folded_size (padded stride (row_in a.bytes.now (a.at + 6) a.width)) (first_rows a.words.now a.n) a.words.now
-          c.insert.new.words
-          a.n c.requires.2.stands
-          (ascending-holds (first_rows a.words.now a.n) c.requires.2.asc)
-          (rw (event_row_at a.bytes.now (a.at + 6) a.width c.event_row-row.result
-          c.requires.0
-          c.event_row-row.ensures)
-          at (rw c.in-Present.is at c.insert.ensures)));
-      grows = omega arith;
-    }
-
-pub returns-in-Full : goal.returns-in-Full
-returns-in-Full c =
+pub returns-in-Some-false-clause-folds : goal.returns-in-Some-false-clause-folds
+returns-in-Some-false-clause-folds c =
     let a = c.args in
-    let full = put_full folded_rows folded_size (padded stride (row_in a.bytes.now (a.at + 6) a.width)) (first_rows a.words.now a.n) a.words.now
-    c.insert.new.words a.n c.requires.2.stands
-    (rw (event_row_at a.bytes.now (a.at + 6) a.width c.event_row-row.result
-    c.requires.0
-    c.event_row-row.ensures)
-    at (rw c.in-Full.is at c.insert.ensures)) in
-    absurd (omega (
-      arith,
-      full.0,
-      insert_once (padded stride (row_in a.bytes.now (a.at + 6) a.width)) (first_rows a.words.now a.n),
-      c.requires.2.stands.count,
-    ))
+    put_keeps a.bytes.now a.at a.width c.requires.0 c.event_row-row.result c.event_row-row.ensures a.words.now c.insert.new.words a.n c.requires.2
+    (sym c.is_put.ensures ∙ c.if-is_put.true) (let e : c.insert.result ≡ Some false = cc in rw e at c.insert.ensures)
 
-pub returns-then-remove : goal.returns-then-remove
-returns-then-remove c =
-    let a = c.args in record {
-      folds = act-remove a.bytes.now a.at a.width c.u16_at.result (first_rows a.words.now a.n)
-          c.remove.new.words (a.n - 1) c.u16_at.ensures.is
-          c.if-u16_at-eq-PUT.false
-          (take_out folded_rows folded_size (omega arith) (padded stride (row_in a.bytes.now (a.at + 6) a.width)) (first_rows a.words.now a.n) a.words.now
-          c.remove.new.words a.n c.requires.2.stands
-          (wide_rows stride a.words.now 0 a.n)
-          (ascending-holds (first_rows a.words.now a.n) c.requires.2.asc)
-          (rw (event_row_at a.bytes.now (a.at + 6) a.width c.event_row-row.result
-          c.requires.0
-          c.event_row-row.ensures) at (rw c.if-remove.true at c.remove.ensures)));
-      grows = omega arith;
-    }
+pub returns-in-Some-false-2-clause-folds : goal.returns-in-Some-false-2-clause-folds
+returns-in-Some-false-2-clause-folds c =
+    let a = c.args in
+    absurd (put_fits a.bytes.now a.at a.width c.requires.0 c.event_row-row.result c.event_row-row.ensures a.words.now c.insert.new.words a.n c.requires.2
+    c.requires.3 c.in-Some-false.ensures)
 
-pub returns-else-remove : goal.returns-else-remove
-returns-else-remove c =
-    let a = c.args in record {
-      folds = act-remove a.bytes.now a.at a.width c.u16_at.result (first_rows a.words.now a.n)
-          c.remove.new.words a.n c.u16_at.ensures.is
-          c.if-u16_at-eq-PUT.false
-          (leave_in folded_rows folded_size (omega arith) (padded stride (row_in a.bytes.now (a.at + 6) a.width)) (first_rows a.words.now a.n) a.words.now
-          c.remove.new.words a.n c.requires.2.stands
-          (rw (event_row_at a.bytes.now (a.at + 6) a.width c.event_row-row.result
-          c.requires.0
-          c.event_row-row.ensures) at (rw c.if-remove.false at c.remove.ensures)));
-      grows = omega arith;
-    }
+pub returns-then-remove-clause-folds : goal.returns-then-remove-clause-folds
+returns-then-remove-clause-folds c =
+    let a = c.args in
+    take_drops a.bytes.now a.at a.width c.requires.0 c.event_row-row.result c.event_row-row.ensures a.words.now c.remove.new.words a.n c.requires.2
+    (sym c.is_put.ensures ∙ c.if-is_put.false) (rw c.if-remove.true at c.remove.ensures)
+
+pub returns-else-remove-clause-folds : goal.returns-else-remove-clause-folds
+returns-else-remove-clause-folds c =
+    let a = c.args in
+    take_keeps a.bytes.now a.at a.width c.requires.0 c.event_row-row.result c.event_row-row.ensures a.words.now c.remove.new.words a.n c.requires.2
+    (sym c.is_put.ensures ∙ c.if-is_put.false) (rw c.if-remove.false at c.remove.ensures)

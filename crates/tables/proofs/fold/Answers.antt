@@ -29,12 +29,6 @@ u16_at-requires c = let a = c.args in let w = fold_whole a.bytes.now a.table a.w
     c.loop-at.at c.loop-at.invariant c.loop-at-test.true in omega
     (arith, w.header)
 
-pub overflow_add-at : goal.overflow_add-at
-overflow_add-at c = let a = c.args in let w = fold_whole a.bytes.now a.table a.width
-    (first_rows a.words.now a.n) c.loop-at.words c.loop-at.count
-    c.loop-at.at c.loop-at.invariant c.loop-at-test.true
-    in omega (arith, w.inside, c.u16_at.ensures.is)
-
 pub loop-at-smaller : goal.loop-at-smaller
 loop-at-smaller c = let a = c.args in let w = fold_whole a.bytes.now a.table a.width
     (first_rows a.words.now a.n) c.loop-at.words c.loop-at.count
@@ -48,9 +42,6 @@ loop-at-preserved c = let a = c.args in folded_more a.bytes.now a.table a.width 
     c.fold_one-count.new.words c.fold_one-count.result (c.loop-at.at + c.u16_at.result)
     c.requires.0.narrow c.fold_one-count.ensures.folds
     c.fold_one-count.ensures.grows (ap (λ (n : ℕ). c.loop-at.at + n) c.u16_at.ensures.is)
-
-pub shape_of-words : goal.shape_of-words
-shape_of-words c = let size = c.loop-at.invariant.size in omega (arith, size, c.requires.3)
 
 pub returns : goal.returns
 returns c = let a = c.args in folded_end a.bytes.now a.table a.width (first_rows a.words.now a.n) c.loop-at.words

@@ -1,9 +1,11 @@
 use lib.ListN.{get_or}
-use Rattle.model.specs.Record.{refused}
+use mathlib.Core.Path.{ap}
+use Rattle.std.specs.Prelude.{Err}
+use Rattle.verdicts.specs.declared.Rule.TheVariants.{BadPending, NothingPending}
 use Rattle.model.specs.Network.{widths}
 use Rattle.network.specs.Reading.{network_of, nodes_of}
 use Rattle.network.proofs.Building.{sign_at}
-use Rattle.taking.proofs.Taken.{refused_takes, taken_17, taken_18, held, long, takes}
+use Rattle.taking.proofs.Answered.{refused_takes, taken_17, taken_18, held, long, takes}
 use Rattle.taking.proofs.take_in.Goals as goal
 
 pub returns-then-not-good_pending : goal.returns-then-not-good_pending
@@ -11,8 +13,8 @@ returns-then-not-good_pending c =
     let net = c.args.network in
     let p = c.args.pending.now in
     let g = c.good_pending in
-    refused_takes (refused 17 0) p _ (taken_17 net c.requires p g.result (g.ensures.tells (network_of net) c.requires.sound.widths (sign_at net c.requires)) (rw c.if-not-good_pending.true)) _
-    c.refused.ensures
+    refused_takes (record { rule = BadPending; place = 0 }) p _ (taken_17 net c.requires p g.result (g.ensures.tells (network_of net) c.requires.sound.widths (sign_at net c.requires)) (rw c.if-not-good_pending.true)) _
+    (ap Err c.at.ensures)
 
 pub highest_rank-rank-requires : goal.highest_rank-rank-requires
 highest_rank-rank-requires c =
@@ -30,10 +32,10 @@ returns-then-rank-eq0 c =
     let p = c.args.pending.now in
     let g = c.good_pending in
     let top = c.highest_rank-rank in
-    refused_takes (refused 18 0) p _
+    refused_takes (record { rule = NothingPending; place = 0 }) p _
     (taken_18 net c.requires p g.result (g.ensures.tells (network_of net) c.requires.sound.widths (sign_at net c.requires)) (rw c.if-not-good_pending.false) top.result
     top.ensures c.if-rank-eq0.true) _
-    c.refused-then-rank-eq0.ensures
+    (ap Err c.at-then-rank-eq0.ensures)
 
 pub lowest_with-node-requires : goal.lowest_with-node-requires
 lowest_with-node-requires c =

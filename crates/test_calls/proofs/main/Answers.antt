@@ -6,7 +6,7 @@ use lib.ListN.{drop, length, take}
 use lib.Seq.{length-take-le}
 use Rattle.test_calls.proofs.Ran.{length-take-small, text-kept}
 use Rattle.test_calls.proofs.main.Goals as goal
-use Rattle.test_calls.proofs.main.Goals.{then-op-eq-NETWORK, else-op-eq-NETWORK}
+use Rattle.test_calls.proofs.main.Goals.{then-eq, else-eq}
 
 -- the script's length
 size : (input : List ℕ) (n : ℕ) → length input ≡ 65536 → n ≤ 65536 → length (take n input) ≡ n
@@ -18,9 +18,9 @@ slice_bounds-run-count c =
     let w = c.operation_at-op.ensures in
     let n = size c.read_full-n.new.buf c.read_full-n.result i.0 i.1 in
     -- the network's part of the script, after the operation that may bring one
-    let j : (c.if-op-eq-NETWORK.from ≤ c.if-op-eq-NETWORK.to) × (c.if-op-eq-NETWORK.to ≤ c.read_full-n.result) = elim c.if-op-eq-NETWORK.branch [
-      | then-op-eq-NETWORK s ↦ (omega (arith, s.from-is, s.to-is, w.text), omega (arith, s.to-is, w.whole, n))
-      | else-op-eq-NETWORK s ↦ (omega (arith, s.from-is, s.to-is, i.2), omega (arith, s.to-is, i.3))
+    let j : (c.if-eq.from ≤ c.if-eq.to) × (c.if-eq.to ≤ c.read_full-n.result) = elim c.if-eq.branch [
+      | then-eq s ↦ (omega (arith, s.from-is, s.to-is, w.text), omega (arith, s.to-is, w.whole, n))
+      | else-eq s ↦ (omega (arith, s.from-is, s.to-is, i.2), omega (arith, s.to-is, i.3))
     ] in
     j.0
 
@@ -30,9 +30,9 @@ slice_bounds-run-start c =
     let w = c.operation_at-op.ensures in
     let n = size c.read_full-n.new.buf c.read_full-n.result i.0 i.1 in
     -- the network's part of the script, after the operation that may bring one
-    let j : (c.if-op-eq-NETWORK.from ≤ c.if-op-eq-NETWORK.to) × (c.if-op-eq-NETWORK.to ≤ c.read_full-n.result) = elim c.if-op-eq-NETWORK.branch [
-      | then-op-eq-NETWORK s ↦ (omega (arith, s.from-is, s.to-is, w.text), omega (arith, s.to-is, w.whole, n))
-      | else-op-eq-NETWORK s ↦ (omega (arith, s.from-is, s.to-is, i.2), omega (arith, s.to-is, i.3))
+    let j : (c.if-eq.from ≤ c.if-eq.to) × (c.if-eq.to ≤ c.read_full-n.result) = elim c.if-eq.branch [
+      | then-eq s ↦ (omega (arith, s.from-is, s.to-is, w.text), omega (arith, s.to-is, w.whole, n))
+      | else-eq s ↦ (omega (arith, s.from-is, s.to-is, i.2), omega (arith, s.to-is, i.3))
     ] in
     omega (arith, j.0, j.1, n)
 
@@ -42,9 +42,9 @@ slice_bounds-run-end c =
     let w = c.operation_at-op.ensures in
     let n = size c.read_full-n.new.buf c.read_full-n.result i.0 i.1 in
     -- the network's part of the script, after the operation that may bring one
-    let j : (c.if-op-eq-NETWORK.from ≤ c.if-op-eq-NETWORK.to) × (c.if-op-eq-NETWORK.to ≤ c.read_full-n.result) = elim c.if-op-eq-NETWORK.branch [
-      | then-op-eq-NETWORK s ↦ (omega (arith, s.from-is, s.to-is, w.text), omega (arith, s.to-is, w.whole, n))
-      | else-op-eq-NETWORK s ↦ (omega (arith, s.from-is, s.to-is, i.2), omega (arith, s.to-is, i.3))
+    let j : (c.if-eq.from ≤ c.if-eq.to) × (c.if-eq.to ≤ c.read_full-n.result) = elim c.if-eq.branch [
+      | then-eq s ↦ (omega (arith, s.from-is, s.to-is, w.text), omega (arith, s.to-is, w.whole, n))
+      | else-eq s ↦ (omega (arith, s.from-is, s.to-is, i.2), omega (arith, s.to-is, i.3))
     ] in
     omega (arith, j.1, n)
 
@@ -99,8 +99,8 @@ loop-at-preserved c =
     let w = c.operation_at-op.ensures in
     let n = size c.read_full-n.new.buf c.read_full-n.result i.0 i.1 in
     -- the network's part of the script, after the operation that may bring one
-    let j : (c.if-op-eq-NETWORK.from ≤ c.if-op-eq-NETWORK.to) × (c.if-op-eq-NETWORK.to ≤ c.read_full-n.result) = elim c.if-op-eq-NETWORK.branch [
-      | then-op-eq-NETWORK s ↦ (omega (arith, s.from-is, s.to-is, w.text), omega (arith, s.to-is, w.whole, n))
-      | else-op-eq-NETWORK s ↦ (omega (arith, s.from-is, s.to-is, i.2), omega (arith, s.to-is, i.3))
+    let j : (c.if-eq.from ≤ c.if-eq.to) × (c.if-eq.to ≤ c.read_full-n.result) = elim c.if-eq.branch [
+      | then-eq s ↦ (omega (arith, s.from-is, s.to-is, w.text), omega (arith, s.to-is, w.whole, n))
+      | else-eq s ↦ (omega (arith, s.from-is, s.to-is, i.2), omega (arith, s.to-is, i.3))
     ] in
     (i.0, i.1, j.0, j.1, text-kept c.run-k.ensures ∙ i.4, c.run-k.auto.out ∙ i.5)

@@ -14,10 +14,7 @@ pub bounds-head-0 : goal.bounds-head-0
 bounds-head-0 c =
     let a = c.args in
     let o = c.requires.0 in
-    omega (arith, head-long o.net a.rows.now a.gained.now a.lost.now a.head.now a.work.now a.counts.now a.changed.now a.picks.now a.sizes.now o.out)
-
-pub overflow_add-number : goal.overflow_add-number
-overflow_add-number c = omega (arith, c.requires.1, c.type_inv.head 0)
+    omega (arith, head-long o.net a.rows.now a.gained.now a.lost.now a.head.now a.work.now.rows a.work.now.counts a.work.now.changed a.told.now.picks a.told.now.sizes o.out)
 
 pub new_stamps-stamps-requires : goal.new_stamps-stamps-requires
 new_stamps-stamps-requires c =
@@ -25,17 +22,10 @@ new_stamps-stamps-requires c =
     let o = c.requires.0 in
     let few = rw o.count_is at o.out.built.sound.few in (
       few,
-      head-long o.net a.rows.now a.gained.now a.lost.now a.head.now a.work.now a.counts.now a.changed.now a.picks.now a.sizes.now o.out,
+      head-long o.net a.rows.now a.gained.now a.lost.now a.head.now a.work.now.rows a.work.now.counts a.work.now.changed a.told.now.picks a.told.now.sizes o.out,
       omega
           (arith, few, o.out.worked.sized.changed),
     )
-
-pub list_worked-k-requires : goal.list_worked-k-requires
-list_worked-k-requires c =
-    let o = c.requires.0 in
-    let few = rw o.count_is at o.out.built.sound.few in
-    let long = rw o.levels-are at o.out.built.levels-length in
-    (omega (arith, few, long), omega (arith, few, o.marks-long), few, refl, rw o.levels-are at o.out.built.low)
 
 pub write_head-requires : goal.write_head-requires
 write_head-requires c =
@@ -45,9 +35,9 @@ write_head-requires c =
     let l = c.list_worked-k in
     let stamps = c.new_stamps-stamps in
     let listed : length (due_list a.levels.now a.due.now a.n) ≤ max_nodes = omega (arith, l.ensures.counts, l.ensures.few) in (
-      head-long o.net a.rows.now a.gained.now a.lost.now a.head.now a.work.now a.counts.now a.changed.now a.picks.now a.sizes.now o.out,
+      head-long o.net a.rows.now a.gained.now a.lost.now a.head.now a.work.now.rows a.work.now.counts a.work.now.changed a.told.now.picks a.told.now.sizes o.out,
       o.out.worked.sized.counts,
-      stamps-long a.head.now a.changed.now _ a.n stamps.result stamps.ensures few,
+      stamps-long a.head.now a.work.now.changed _ a.n stamps.result stamps.ensures few,
       o.out.worked.told.sizes,
       l.ensures.few,
       ap length l.ensures.lists ∙ padded-length max_nodes (due_list a.levels.now a.due.now a.n) listed,
@@ -61,7 +51,7 @@ returns c =
     let l = c.list_worked-k in
     let h = c.write_head in
     record {
-      writes = λ o copy. state_written o.net a.rows.now a.gained.now a.lost.now a.head.now a.work.now a.counts.now a.changed.now a.picks.now a.sizes.now o.out
+      writes = λ o copy. state_written o.net a.rows.now a.gained.now a.lost.now a.head.now a.work.now.rows a.work.now.counts a.work.now.changed a.told.now.picks a.told.now.sizes o.out
           o.fit w.new.rows w.new.gained w.new.lost h.new.head stamps.result l.new.entries a.levels.now
           a.due.now a.n _ l.result copy o.count_is refl (w.ensures (record { net = o.net; out = o.out; count_is = o.count_is })) stamps.ensures o.levels-are o.marked
           l.ensures.lists l.ensures.counts h.ensures;

@@ -1,8 +1,6 @@
-use mathlib.Core.Path.{ap}
 use Prim.Native.Nat.{Ordering}
 use Prim.Native.Nat.{◌<◌, ◌-◌, ◌+◌}
 use native.Mathlib.Omega.{arith}
-use lib.ListN.{length}
 use Rattle.model.specs.Areas.{stride}
 use Rattle.laws.proofs.Order.{lt≢eq, lt≢gt}
 use Rattle.laws.proofs.Sets.{ascending-holds}
@@ -16,11 +14,6 @@ loop-i-init c =
     let a = c.args in
     (omega arith, omega arith, merged_start union a.left.now a.n a.right.now a.m a.out.now c.requires.4)
 
-pub shape_of-out-then-count-ge-MAX_ROWS : goal.shape_of-out-then-count-ge-MAX_ROWS
-shape_of-out-then-count-ge-MAX_ROWS c =
-    let l = c.loop-i in
-    omega (arith, stands-long l.out l.count l.invariant.2.stands, ap length c.requires.4)
-
 pub returns-then-count-ge-MAX_ROWS : goal.returns-then-count-ge-MAX_ROWS
 returns-then-count-ge-MAX_ROWS c =
     let a = c.args in
@@ -31,9 +24,6 @@ returns-then-count-ge-MAX_ROWS c =
           (ascending-holds (first_rows a.right.now a.m) c.requires.3) l.invariant.2 (omega arith) (omega arith)),
       stands-long l.out l.count l.invariant.2.stands,
     )
-
-pub append_rows-requires : goal.append_rows-requires
-append_rows-requires c = (c.loop-i.invariant.2.stands, omega arith, omega arith)
 
 pub loop-i-preserved-in-Less : goal.loop-i-preserved-in-Less
 loop-i-preserved-in-Less c =
@@ -46,9 +36,6 @@ loop-i-preserved-in-Less c =
       merged_less union a.left.now a.n a.right.now a.m alone alone alone union-passes l.i l.j l.out l.count l.invariant.2 (omega arith)
           p.new.out (l.count + 1) o (appended_one a.left.now l.i p.ensures),
     )
-
-pub append_rows-requires-in-Equal : goal.append_rows-requires-in-Equal
-append_rows-requires-in-Equal c = (c.loop-i.invariant.2.stands, omega arith, omega arith)
 
 pub loop-i-preserved-in-Equal : goal.loop-i-preserved-in-Equal
 loop-i-preserved-in-Equal c =
@@ -91,14 +78,6 @@ loop-i-preserved c =
           p.new.out (l.count + 1) o (appended_one a.right.now l.j p.ensures),
     )
 
-pub overflow_sub-count : goal.overflow_sub-count
-overflow_sub-count c = omega (arith, c.loop-i.invariant.2.stands.few)
-
-pub shape_of-out-then-count-rest : goal.shape_of-out-then-count-rest
-shape_of-out-then-count-rest c =
-    let l = c.loop-i in
-    omega (arith, stands-long l.out l.count l.invariant.2.stands, ap length c.requires.4)
-
 pub returns-then-count-rest : goal.returns-then-count-rest
 returns-then-count-rest c =
     let a = c.args in
@@ -109,15 +88,6 @@ returns-then-count-rest c =
           (ascending-holds (first_rows a.right.now a.m) c.requires.3) l.invariant.2 (omega arith) (omega arith)),
       stands-long l.out l.count l.invariant.2.stands,
     )
-
-pub append_rows-requires-2 : goal.append_rows-requires-2
-append_rows-requires-2 c = let l = c.loop-i in (l.invariant.2.stands, omega arith, omega (arith, l.invariant.2.stands.few))
-
-pub shape_of-out : goal.shape_of-out
-shape_of-out c =
-    let l = c.loop-i in
-    let p = c.append_rows-2 in
-    omega (arith, stands-long p.new.out (l.count + (c.args.m - l.j)) p.ensures.stands, ap length c.requires.4)
 
 pub returns : goal.returns
 returns c =

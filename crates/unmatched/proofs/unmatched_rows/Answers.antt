@@ -1,7 +1,6 @@
 use mathlib.Core.Bool.{false, not}
 use mathlib.Core.Path.{◌≡◌, ap}
 use native.Mathlib.Omega.{arith}
-use lib.ListN.{length}
 use Rattle.model.specs.Row.{some_of}
 use Rattle.model.specs.Algebra.{agree}
 use Rattle.model.specs.Areas.{stride}
@@ -13,29 +12,13 @@ use Rattle.places.proofs.Places.{kept_start, kept_no, kept_copied}
 use Rattle.unmatched.proofs.Unmatched.{unmet, none_of_0, none_more, some_at, unmatched_fills}
 use Rattle.unmatched.proofs.unmatched_rows.Goals as goal
 
-pub keys_of-keys-requires : goal.keys_of-keys-requires
-keys_of-keys-requires c =
-    (c.requires.2, c.requires.3, c.requires.4, c.requires.5, omega arith, c.requires.6)
-
 pub rows-init : goal.rows-init
 rows-init c =
-    let a = c.args in
-    (omega arith, kept_start (unmet (pairs_of a.p a.pairs.now) (first_rows a.right.now a.m)) a.left.now a.out.now c.requires.7)
-
-pub key_of-key-requires : goal.key_of-key-requires
-key_of-key-requires c =
-    (omega (arith, c.requires.1), c.requires.4, c.requires.5, omega arith, c.requires.6)
+    let a = c.args in kept_start (unmet (pairs_of a.p a.pairs.now) (first_rows a.right.now a.m)) a.left.now a.out.now c.requires.7
 
 pub loop-j-init : goal.loop-j-init
 loop-j-init c =
-    let a = c.args in
-    (omega arith, none_of_0 (agree (pairs_of a.p a.pairs.now) (row_at stride a.left.now c.rows.i)) a.right.now)
-
-pub offset_bounds-keys-j : goal.offset_bounds-keys-j
-offset_bounds-keys-j c = omega (arith, c.requires.2)
-
-pub bounds-keys-j : goal.bounds-keys-j
-bounds-keys-j c = omega (arith, c.requires.2)
+    let a = c.args in none_of_0 (agree (pairs_of a.p a.pairs.now) (row_at stride a.left.now c.rows.i)) a.right.now
 
 pub rows-preserved-then-keys-j : goal.rows-preserved-then-keys-j
 rows-preserved-then-keys-j c =
@@ -45,14 +28,9 @@ rows-preserved-then-keys-j c =
     let key = c.key_of-key in
     let keys = c.keys_of-keys in
     let j = c.loop-j.j in
-    let met = key_agrees pairs l key.result key.ensures a.right.now a.m keys.result keys.ensures j (omega arith) c.if-keys-j.true in (
-      omega arith,
-      kept_no (unmet pairs (first_rows a.right.now a.m)) a.left.now c.rows.i c.rows.out c.rows.count
-          (ap not (some_at (agree pairs l) a.right.now j a.m (omega arith) met)) c.rows.invariant.1,
-    )
-
-pub overflow_add-j : goal.overflow_add-j
-overflow_add-j c = omega (arith, c.requires.2)
+    let met = key_agrees pairs l key.result key.ensures a.right.now a.m keys.result keys.ensures j (omega arith) c.if-keys-j.true in
+    kept_no (unmet pairs (first_rows a.right.now a.m)) a.left.now c.rows.i c.rows.out c.rows.count
+    (ap not (some_at (agree pairs l) a.right.now j a.m (omega arith) met)) c.rows.invariant
 
 pub loop-j-preserved : goal.loop-j-preserved
 loop-j-preserved c =
@@ -63,44 +41,22 @@ loop-j-preserved c =
     let keys = c.keys_of-keys in
     let j = c.loop-j.j in
     let unlike = key_differs pairs l key.result key.ensures a.right.now a.m keys.result keys.ensures j (omega arith) c.if-keys-j.false in
-    (omega arith, none_more (agree pairs l) a.right.now j c.loop-j.invariant.1 unlike)
-
-pub overflow_mul-at : goal.overflow_mul-at
-overflow_mul-at c = omega (arith, c.requires.0)
-
-pub overflow_mul-count : goal.overflow_mul-count
-overflow_mul-count c = omega (arith, c.requires.0, c.rows.invariant.1.few)
-
-pub copy_run-requires : goal.copy_run-requires
-copy_run-requires c =
-    let kept = c.rows.invariant.1 in
-    omega (arith, c.requires.0, c.requires.1, kept.few, kept.size)
-
-pub overflow_add-count : goal.overflow_add-count
-overflow_add-count c =
-    omega (arith, c.requires.0, c.rows.invariant.1.few)
+    none_more (agree pairs l) a.right.now j c.loop-j.invariant unlike
 
 pub rows-preserved : goal.rows-preserved
 rows-preserved c =
     let a = c.args in
     let pairs = pairs_of a.p a.pairs.now in
-    let more = c.rows-test.true in
-    let inner = c.loop-j in
     let copied = c.copy_run in
-    let end : inner.j ≡ a.m = omega (arith, inner.invariant.0) in
-    let none : some_of (agree pairs (row_at stride a.left.now c.rows.i)) (first_rows a.right.now a.m) ≡ false = rw (← end) inner.invariant.1 in (
-      omega (arith, more),
-      kept_copied (unmet pairs (first_rows a.right.now a.m)) a.left.now c.rows.i c.rows.out copied.new.dst c.rows.count (ap not none)
-          (omega (arith, more, c.requires.0)) (omega (arith, more, c.requires.1)) c.rows.invariant.1 copied.ensures,
-    )
-
-pub shape_of-out : goal.shape_of-out
-shape_of-out c = omega (arith, c.rows.invariant.1.size, ap length c.requires.7)
+    let end : c.loop-j.j ≡ a.m = omega arith in
+    let none : some_of (agree pairs (row_at stride a.left.now c.rows.i)) (first_rows a.right.now a.m) ≡ false = rw (← end) c.loop-j.invariant in
+    kept_copied (unmet pairs (first_rows a.right.now a.m)) a.left.now c.rows.i c.rows.out copied.new.dst c.rows.count (ap not none)
+    (omega arith) (omega arith) c.rows.invariant copied.ensures
 
 pub returns : goal.returns
 returns c =
     let a = c.args in
     let pairs = pairs_of a.p a.pairs.now in
     let end : c.rows.i ≡ a.n = omega arith in
-    let kept : Kept (unmet pairs (first_rows a.right.now a.m)) a.left.now a.n c.rows.out c.rows.count = rw (← end) c.rows.invariant.1 in
+    let kept : Kept (unmet pairs (first_rows a.right.now a.m)) a.left.now a.n c.rows.out c.rows.count = rw (← end) c.rows.invariant in
     λ v w pl pr below. unmatched_fills pairs v w a.left.now a.n a.right.now a.m c.rows.out c.rows.count pl pr below kept

@@ -1,6 +1,5 @@
 use mathlib.Core.Bool.{false}
 use mathlib.Core.Path.{◌≡◌}
-use Prim.Native.Nat.{◌≤◌, ◌-◌}
 use Rattle.model.specs.Row.{some_of}
 use Rattle.model.specs.Algebra.{agree}
 use Rattle.model.specs.Areas.{stride}
@@ -11,13 +10,7 @@ use Rattle.unmatched.proofs.Unmatched.{unmet}
 use Rattle.unmatched.proofs.unmatched_rows.Given as goal
 
 abbrev pub invariant-loop-j : goal.invariant-loop-j
-invariant-loop-j l = (l.j ≤ l.m) × (some_of (agree (pairs_of l.p l.pairs) (row_at stride l.left l.at)) (first_rows l.right l.j) ≡ false)
-
-abbrev pub decreases-loop-j : goal.decreases-loop-j
-decreases-loop-j l = l.m - l.j
+invariant-loop-j l = some_of (agree (pairs_of l.p l.pairs) (row_at stride l.left l.i)) (first_rows l.right l.j) ≡ false
 
 abbrev pub invariant-rows : goal.invariant-rows
-invariant-rows l = (l.i ≤ l.n) × Kept (unmet (pairs_of l.p l.pairs) (first_rows l.right l.m)) l.left l.i l.out l.count
-
-abbrev pub decreases-rows : goal.decreases-rows
-decreases-rows l = l.n - l.i
+invariant-rows l = Kept (unmet (pairs_of l.p l.pairs) (first_rows l.right l.m)) l.left l.i l.out l.count

@@ -1,21 +1,17 @@
-use native.Mathlib.Omega.{arith}
 use mathlib.Core.Path.{refl}
-use lib.ListN.{length-set}
+use native.Mathlib.Omega.{arith}
+use Rattle.working.specs.Worked.{told_in, SizedChanges}
 use Rattle.areas.specs.Lent.{place_at}
 use Rattle.working.proofs.Differ.{tells_compared, keeps-told}
 use Rattle.working.proofs.tell_change.Goals as goal
-
-pub bounds-sizes-i-2 : goal.bounds-sizes-i-2
-bounds-sizes-i-2 c =
-    let long = length-set c.args.sizes.now c.args.i c.compare_places-change.result.gained in
-    omega (arith, c.requires.0, c.requires.7.sizes, long)
 
 pub returns : goal.returns
 returns c =
     let a = c.args in
     let r = c.compare_places-change in
+    let sized : SizedChanges (told_in a.told.now) = record { picks = omega arith; sizes = omega arith } in
     let part = r.new.picks in record {
-      tells = λ w p q. tells_compared a.picks.now a.sizes.now part a.i r.result.gained r.result.lost c.requires.0 c.requires.7 r.ensures.long w
+      tells = λ w p q. tells_compared a.told.now.picks a.told.now.sizes part a.i r.result.gained r.result.lost c.requires.0 sized r.ensures.long w
           (place_at a.rows.now a.i) a.m a.new.now a.n r.result r.ensures refl refl q p;
-      keeps = keeps-told a.picks.now a.sizes.now part a.i r.result.gained r.result.lost c.requires.0 c.requires.7 r.ensures.long;
+      keeps = keeps-told a.told.now.picks a.told.now.sizes part a.i r.result.gained r.result.lost c.requires.0 sized r.ensures.long;
     }

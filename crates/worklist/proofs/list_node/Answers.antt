@@ -1,6 +1,5 @@
 use native.Mathlib.Omega.{arith}
-use mathlib.Core.Bool.{false}
-use Rattle.worklist.proofs.Listing.{due_few, unmarked_of, table_of, node_skip, node-room, node_entries, node-put}
+use Rattle.worklist.proofs.Listing.{unmarked_of, table_of, node_skip, node-room, node_entries, node-put}
 use Rattle.worklist.proofs.list_node.Goals as goal
 
 pub returns-then-not-due-i : goal.returns-then-not-due-i
@@ -20,9 +19,6 @@ put_node-requires c = let a = c.args in (
   node-room a.levels.now a.due.now a.i c.requires.2 a.entries.now a.k c.requires.4 c.requires.5,
   λ j h. omega (arith, node_entries a.levels.now a.due.now a.i c.requires.2 a.entries.now a.k c.requires.4 c.requires.5 j h, c.requires.0),
 )
-
-pub overflow_add-result : goal.overflow_add-result
-overflow_add-result c = omega (arith, c.requires.2, c.requires.5, due_few c.args.levels.now c.args.due.now c.args.i)
 
 pub returns : goal.returns
 returns c = let a = c.args in

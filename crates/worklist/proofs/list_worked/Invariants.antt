@@ -1,4 +1,3 @@
-use Prim.Native.Nat.{◌≤◌, ◌-◌}
 use mathlib.Core.Path.{◌≡◌}
 use lib.ListN.{length}
 use Rattle.model.specs.Row.{max_nodes}
@@ -7,7 +6,4 @@ use Rattle.worklist.specs.Listed.{due_list}
 use Rattle.worklist.proofs.list_worked.Given as goal
 
 abbrev pub invariant-loop-i : goal.invariant-loop-i
-invariant-loop-i l = (l.i ≤ l.n) × (l.entries ≡ padded max_nodes (due_list l.levels l.due l.i)) × (l.k ≡ length (due_list l.levels l.due l.i))
-
-abbrev pub decreases-loop-i : goal.decreases-loop-i
-decreases-loop-i l = l.n - l.i
+invariant-loop-i l = (l.entries ≡ padded max_nodes (due_list l.levels l.due l.i)) × (l.k ≡ length (due_list l.levels l.due l.i))

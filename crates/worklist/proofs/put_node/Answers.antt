@@ -1,11 +1,10 @@
 use Prim.Native.Nat.{ℕ, ◌≤◌, ◌<◌}
-use mathlib.Core.Path.{◌≡◌, refl, sym, ap, ◌∙◌}
+use mathlib.Core.Path.{◌≡◌, sym, ap, ◌∙◌}
 use mathlib.Core.Bool.{Bool}
 use mathlib.Core.List.{List}
-use native.Mathlib.Nat.{le_refl}
 use native.Mathlib.Omega.{arith}
 use lib.ListN.{length, length-set}
-use Rattle.insertions.proofs.Gaps.{gap, gap_none}
+use Rattle.insertions.proofs.Gaps.{gap}
 use Rattle.worklist.specs.Listed.{is_above, place_for, put_at}
 use Rattle.worklist.proofs.Putting.{above_some, above_same, place_down, place_stop, gap_before, gap_down, gap_put}
 use Rattle.worklist.proofs.put_node.Goals as goal
@@ -14,44 +13,6 @@ use Rattle.worklist.proofs.put_node.Goals as goal
 answer : (levels : List ℕ) (level : ℕ) (first : List ℕ) (k : ℕ) → k < length first → (at : ℕ) → at ≤ k → (entries : List ℕ) →
     entries ≡ gap 1 at k first → (b : Bool) → b ≡ is_above levels level entries at → b ≡ is_above levels level first at
 answer levels level first k h at i entries g b e = e ∙ above_same levels level entries first at (gap_before first k h at i entries g)
-
-pub loop-entries-init : goal.loop-entries-init
-loop-entries-init c = let a = c.args in (le_refl a.k, refl, gap_none 1 a.k a.entries.now (omega (arith, c.requires.1)), refl)
-
-pub is_above-requires : goal.is_above-requires
-is_above-requires c =
-    let a = c.args in
-    let l = c.loop-entries in (
-      omega (arith, l.invariant.0, l.invariant.1, c.requires.1),
-      λ j h. rw (gap_before a.entries.now a.k c.requires.1 l.at l.invariant.0 l.entries l.invariant.2 j h) (c.requires.2 j (omega (arith, h, l.invariant.0))),
-    )
-
-pub overflow_sub-entries : goal.overflow_sub-entries
-overflow_sub-entries c =
-    let a = c.args in
-    let l = c.loop-entries in
-    above_some a.levels.now a.level l.entries l.at (sym c.is_above.ensures ∙ c.loop-entries-test.true)
-
-pub offset_bounds-entries-at : goal.offset_bounds-entries-at
-offset_bounds-entries-at c = omega (arith, c.loop-entries.invariant.0, c.well_formed)
-
-pub bounds-entries-at : goal.bounds-entries-at
-bounds-entries-at c =
-    let a = c.args in
-    let l = c.loop-entries in
-    omega (arith, above_some a.levels.now a.level l.entries l.at (sym c.is_above.ensures ∙ c.loop-entries-test.true), l.invariant.0)
-
-pub overflow_sub-at : goal.overflow_sub-at
-overflow_sub-at c =
-    let a = c.args in
-    let l = c.loop-entries in
-    above_some a.levels.now a.level l.entries l.at (sym c.is_above.ensures ∙ c.loop-entries-test.true)
-
-pub loop-entries-smaller : goal.loop-entries-smaller
-loop-entries-smaller c =
-    let a = c.args in
-    let l = c.loop-entries in
-    omega (arith, above_some a.levels.now a.level l.entries l.at (sym c.is_above.ensures ∙ c.loop-entries-test.true))
 
 pub loop-entries-preserved : goal.loop-entries-preserved
 loop-entries-preserved c =
@@ -65,9 +26,6 @@ loop-entries-preserved c =
       gap_down a.entries.now a.k c.requires.1 l.at some l.invariant.0 l.entries l.invariant.2,
       place_down a.levels.now a.level a.entries.now l.at (sym told ∙ c.loop-entries-test.true) ∙ l.invariant.3,
     )
-
-pub shape_of-entries : goal.shape_of-entries
-shape_of-entries c = simp length-set c.loop-entries.invariant.1
 
 pub returns : goal.returns
 returns c =

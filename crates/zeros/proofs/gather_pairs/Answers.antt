@@ -1,5 +1,5 @@
-use mathlib.Core.Path.{refl, sym}
-use Prim.Native.Nat.{◌+◌}
+use mathlib.Core.Path.{◌≡◌, sym, ap, ◌∙◌}
+use Prim.Native.Nat.{ℕ, ◌+◌, ◌-◌, ◌*◌}
 use native.Mathlib.Omega.{arith}
 use lib.Dec.{eqb}
 use lib.Bits.{bit_or}
@@ -9,36 +9,32 @@ use Rattle.model.specs.Areas.{all_zero}
 use Rattle.zeros.proofs.Zeros.{left_more, left_done, or-tells, pair_tells, zero_one}
 use Rattle.zeros.proofs.gather_pairs.Goals as goal
 
-pub loop-k-init : goal.loop-k-init
-loop-k-init c = (omega arith, omega arith, refl)
-
-pub loop-k-preserved : goal.loop-k-preserved
-loop-k-preserved c =
+pub loop-i-preserved : goal.loop-i-preserved
+loop-i-preserved c =
     let a = c.args in
-    let l = c.loop-k in
+    let l = c.loop-i in
     let s = a.words.now in
+    let k = a.from + 2 * l.i in
     let p = c.pair-bits.result in
-    let more = or-tells l.bits p (all_zero (slice l.k (l.k + 2) s)) (pair_tells s l.k p (omega arith) c.pair-bits.ensures) in (
-      omega arith,
-      omega arith,
-      left_more s a.from a.to (eqb l.bits 0) (eqb (bit_or l.bits p) 0) l.k (l.k + 2) (omega arith) (omega arith) (omega arith) more l.invariant.2,
-    )
+    let next : k + 2 ≡ a.from + 2 * (l.i + 1) = omega arith in
+    let more = or-tells l.bits p (all_zero (slice k (k + 2) s)) (pair_tells s k p (omega arith) c.pair-bits.ensures) in
+    rw next at (left_more s a.from a.to (eqb l.bits 0) (eqb (bit_or l.bits p) 0) k (k + 2) (omega arith) (omega arith) (omega arith) more l.invariant)
 
-pub overflow_cast-bits : goal.overflow_cast-bits
-overflow_cast-bits c = omega (arith, c.type_inv.words c.loop-k.k)
-
-pub returns-then-k-to : goal.returns-then-k-to
-returns-then-k-to c =
+pub returns-then-to-from-eq1 : goal.returns-then-to-from-eq1
+returns-then-to-from-eq1 c =
     let a = c.args in
-    let l = c.loop-k in
+    let l = c.loop-i in
     let s = a.words.now in
-    let last = get_or s l.k 0 in
-    left_done s a.from a.to (eqb (bit_or l.bits last) 0) (l.k + 1) (omega arith)
-    (left_more s a.from a.to (eqb l.bits 0) (eqb (bit_or l.bits last) 0) l.k (l.k + 1) (omega arith) (omega arith) (omega arith)
-    (or-tells l.bits last (all_zero (slice l.k (l.k + 1) s)) (sym (zero_one s l.k (omega arith)))) l.invariant.2)
+    let k = a.from + 2 * l.i in
+    let at : a.to - 1 ≡ k = omega arith in
+    let last = c.from-bits.result in
+    let is : eqb last 0 ≡ eqb (get_or s k 0) 0 = ap (λ (x : ℕ). eqb x 0) c.from-bits.ensures ∙ ap (λ (n : ℕ). eqb (get_or s n 0) 0) at in
+    left_done s a.from a.to (eqb (bit_or l.bits last) 0) (k + 1) (omega arith)
+    (left_more s a.from a.to (eqb l.bits 0) (eqb (bit_or l.bits last) 0) k (k + 1) (omega arith) (omega arith) (omega arith)
+    (or-tells l.bits last (all_zero (slice k (k + 1) s)) (is ∙ sym (zero_one s k (omega arith)))) l.invariant)
 
-pub returns-else-k-to : goal.returns-else-k-to
-returns-else-k-to c =
+pub returns-else-to-from-eq1 : goal.returns-else-to-from-eq1
+returns-else-to-from-eq1 c =
     let a = c.args in
-    let l = c.loop-k in
-    left_done a.words.now a.from a.to (eqb l.bits 0) l.k (omega arith) l.invariant.2
+    let l = c.loop-i in
+    left_done a.words.now a.from a.to (eqb l.bits 0) (a.from + 2 * l.i) (omega arith) l.invariant

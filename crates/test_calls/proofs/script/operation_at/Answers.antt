@@ -1,9 +1,7 @@
-use Prim.Native.Nat.{◌+◌}
 use native.Mathlib.Omega.{arith}
 use lib.ListN.{length}
 use borrow.Author.Tests.{le-leb, lt-leb}
 use Rattle.test_calls.specs.Script.{operation_in}
-use Rattle.records.proofs.Header.{whole}
 use Rattle.test_calls.proofs.script.operation_at.Goals as goal
 
 pub returns-then-end-at-lt10 : goal.returns-then-end-at-lt10
@@ -18,19 +16,13 @@ returns-then-end-next c =
     let short = lt-leb (operation_in a.bytes.now a.at).next (length a.bytes.now) (omega (arith, c.u16_at.ensures.is)) in
     record { is = rw short; after = omega arith; text = omega arith; whole = omega arith }
 
-pub overflow_cast-result : goal.overflow_cast-result
-overflow_cast-result c = omega (arith, c.type_inv.bytes c.args.at)
-
-pub overflow_cast-result-2 : goal.overflow_cast-result-2
-overflow_cast-result-2 c = omega (arith, c.type_inv.bytes (c.args.at + 1))
-
 pub returns : goal.returns
 returns c =
     let a = c.args in
     let u = c.u16_at in
     let fits = le-leb (operation_in a.bytes.now a.at).next (length a.bytes.now) (omega (arith, c.if-end-next.false, u.ensures.is)) in
     record {
-      is = rw (fits, c.u16_at-2.ensures.is, c.u32_at.ensures, u.ensures.is);
+      is = rw (fits, c.from.ensures, c.from-2.ensures, c.u16_at-2.ensures.is, c.u32_at.ensures, u.ensures.is);
       after = omega arith;
       text = omega arith;
       whole = omega (arith, c.if-end-next.false);
