@@ -15,7 +15,7 @@ ghost use Rattle.station.specs.Moves.{Told, Wrote, may_pass};
 use areas::{AREA, HEAD};
 use stages::Stage;
 use std::fs::File;
-use std::io::{Eprint, Error, ErrorKind, Read, Stdout, Write};
+use std::io::{Error, ErrorKind, Read, Stdout, Write};
 use std::rt::Files;
 use std::thread;
 
@@ -128,14 +128,6 @@ fn write_out(out: &mut Stdout, bytes: &[u8]) -> Result<usize, Stopped>
     Ok(at)
 }
 
-// One line on the error output: a write failed, and why.
-fn complain<R: Eprint>(rt: &R, stopped: &Stopped) {
-    let _ = match stopped.reason {
-        Some(error) => eprintln!(rt; "station: the output was not written: {error}"),
-        None => eprintln!(rt; "station: the output was not written"),
-    };
-}
-
 // The steps from the beginning to the end: how many bytes the system took. Where a write fails it stops.
 fn run(
     output: &mut Stdout,
@@ -174,7 +166,7 @@ fn run(
     Ok(told)
 }
 
-// Reads both files, then steps through the program.
+// Reads both files, then steps through the program; where the output was not written, one line says so.
 fn main(rt: HostRuntime) {
     let mut net = [0u8; ABOVE];
     let mut file = [0u8; ABOVE];
@@ -198,7 +190,11 @@ fn main(rt: HostRuntime) {
         &mut head,
         &mut out,
     );
+    // One line on the error output: a write failed, and why.
     if let Err(stopped) = ran {
-        complain(&rt, &stopped);
+        let _ = match stopped.reason {
+            Some(error) => eprintln!(rt; "station: the output was not written: {error}"),
+            None => eprintln!(rt; "station: the output was not written"),
+        };
     }
 }
