@@ -15,7 +15,7 @@ use Rattle.model.specs.Algebra.{Operand, constant, column}
 use Rattle.laws.proofs.Sets.{and_first, and_second}
 use Rattle.laws.proofs.ByKind.{item-narrow}
 use Rattle.model.specs.Row.{max_width}
-use Rattle.nodes.specs.Nodes.{lists_of, operation_of, set_kind, code_of}
+use Rattle.nodes.specs.Nodes.{lists_of, operation_of, set_kind}
 use Rattle.derived_records.specs.Bodies.{NodeRecord, ListsFit, node_in_record, body_fault, select_fits, ReadsBody, ReadsNode}
 use Rattle.nodes.specs.declared.Operand.TheVariants.{Constant, Column}
 use Rattle.nodes.specs.declared.SetOperation.{SetOperation}
@@ -23,7 +23,6 @@ use Rattle.nodes.specs.declared.SetOperation.TheVariants.{Union, Difference, Int
 use Rattle.nodes.specs.declared.Node.{Node}
 use Rattle.nodes.specs.declared.Node.TheVariants.{Select, Project, Join, Set}
 use Rattle.nodes.specs.declared.Item.{Item}
-use Rattle.nodes.specs.declared.Comparison.{Comparison}
 use Rattle.nodes.proofs.Codes.{code_below}
 use Rattle.verdicts.specs.declared.Rule.{Rule}
 use Rattle.verdicts.specs.declared.Rule.TheVariants.{WrongLength, WrongField}
@@ -97,28 +96,31 @@ module _ (xs : List ℕ) (count : ℕ) (long : count ≤ length xs) (bs : Bytes)
   pub counted : length (take count xs) ≡ count
   counted = length-take-le count xs long
 
-  module _ (i : ℕ) (is : i ≡ field_at bs at 0) where
-    pub select_no_input : count ≤ i → select_fits (take count xs) bs at ≡ false
-    unfolding select_fits
-    select_no_input h = rw (← is, counted, le-ltb i count h)
+  pub select_no_input : count ≤ field_at bs at 0 → select_fits (take count xs) bs at ≡ false
+  unfolding select_fits
+  select_no_input h = rw (counted, le-ltb (field_at bs at 0) count h)
 
-    module _ (within : i < count) (c : ℕ) (of : c ≡ field_at bs at 1) where
-      pub select_no_column : get_or xs i 0 ≤ c → select_fits (take count xs) bs at ≡ false
-      unfolding select_fits
-      select_no_column h = rw (← is, ← of, counted, lt-ltb i count within, first_at xs count i within, le-ltb c (get_or xs i 0) h)
+  pub select_no_column : field_at bs at 0 < count → get_or xs (field_at bs at 0) 0 ≤ field_at bs at 1 → select_fits (take count xs) bs at ≡ false
+  unfolding select_fits
+  select_no_column w h = rw (counted, lt-ltb (field_at bs at 0) count w, first_at xs count (field_at bs at 0) w, le-ltb (field_at bs at 1) (get_or xs (field_at bs at 0) 0) h)
 
-      module _ (low : c < get_or xs i 0) where
-        pub select_no_code : 6 ≤ field_at bs at 2 → select_fits (take count xs) bs at ≡ false
-        unfolding select_fits
-        select_no_code h = rw (← is, ← of, counted, lt-ltb i count within, first_at xs count i within, lt-ltb c (get_or xs i 0) low, le-ltb (field_at bs at 2) 6 h)
+  pub select_no_code : 6 ≤ field_at bs at 2 → select_fits (take count xs) bs at ≡ false
+  unfolding select_fits
+  select_no_code h =
+      let input : Bool = ltb (field_at bs at 0) (length (take count xs)) in
+      let column : Bool = ltb (field_at bs at 1) (get_or (take count xs) (field_at bs at 0) 0) in
+      no_second (input && column) (ltb (field_at bs at 2) 6) (le-ltb (field_at bs at 2) 6 h)
 
-        pub select_ok : (k : Comparison) → code_of k ≡ field_at bs at 2 → select_fits (take count xs) bs at ≡ true
-        unfolding select_fits
-        select_ok k e = rw (← is, ← of, ← e, counted, lt-ltb i count within, first_at xs count i within, lt-ltb c (get_or xs i 0) low) (lt-ltb (code_of k) 6 (code_below k))
+  pub select_ok : field_at bs at 0 < count → field_at bs at 1 < get_or xs (field_at bs at 0) 0 → field_at bs at 2 < 6 → select_fits (take count xs) bs at ≡ true
+  unfolding select_fits
+  select_ok w l h = rw (counted, lt-ltb (field_at bs at 0) count w, first_at xs count (field_at bs at 0) w, lt-ltb (field_at bs at 1) (get_or xs (field_at bs at 0) 0) l, lt-ltb (field_at bs at 2) 6 h)
 
   -- where it fits, the input is below the count
   pub select_input : select_fits (take count xs) bs at ≡ true → field_at bs at 0 < count
   select_input e = rw counted at (select-below (take count xs) bs at e)
+
+-- rule 7 on what both kinds share, test by test, and that a comparison's code is below 6
+pub ruleset select_tests = (select_no_input, select_no_column, select_no_code, select_ok, code_below)
 
 fits_either : (i c k o : Bool) → ((i && true) && (c && k && o)) ≡ (i && c && k && o)
 fits_either true c k o = refl
@@ -140,7 +142,7 @@ module _ (ws signs : List ℕ) (bs : Bytes) (at size : ℕ) (sized : size ≡ le
   unfolding has_shape item_fits item_at
   constant-not s e = reads_7 ws signs bs at 2 (rw (← sized) (eq-eqb size 14 s)) (fits-select ws bs at (constant (u32 bs (at + 10))) ∙ rw e)
 
-  pub constant_ok : size ≡ 14 → select_fits ws bs at ≡ true → (i c : ℕ) (k : Comparison) (v : ℕ) → i ≡ field_at bs at 0 → c ≡ field_at bs at 1 → code_of k ≡ field_at bs at 2 → v ≡ u32 bs (at + 10) →
+  pub constant_ok : size ≡ 14 → select_fits ws bs at ≡ true → (i c k v : ℕ) → i ≡ field_at bs at 0 → c ≡ field_at bs at 1 → k ≡ field_at bs at 2 → v ≡ u32 bs (at + 10) →
       ReadsBody ws signs 2 bs at (NodeRecord (Select i c k (Constant v)))
   unfolding has_shape item_fits item_at
   constant_ok s e i c k v p q r t =
@@ -159,7 +161,7 @@ module _ (ws signs : List ℕ) (bs : Bytes) (at size : ℕ) (sized : size ≡ le
     unfolding has_shape item_fits item_at
     column_high s e h = reads_7 ws signs bs at 3 (rw (← sized) (eq-eqb size 12 s)) (fits-select ws bs at (column (field_at bs at 3)) ∙ rw (e, ← is, ← other) (le-ltb o (get_or ws i 0) h))
 
-    pub column_ok : size ≡ 12 → select_fits ws bs at ≡ true → o < get_or ws i 0 → (c : ℕ) (k : Comparison) → c ≡ field_at bs at 1 → code_of k ≡ field_at bs at 2 →
+    pub column_ok : size ≡ 12 → select_fits ws bs at ≡ true → o < get_or ws i 0 → (c k : ℕ) → c ≡ field_at bs at 1 → k ≡ field_at bs at 2 →
         ReadsBody ws signs 3 bs at (NodeRecord (Select i c k (Column o)))
     unfolding has_shape item_fits item_at
     column_ok s e h c k q r =

@@ -6,7 +6,7 @@ use Rattle.model.specs.Row.{max_width, Narrow}
 use Rattle.model.specs.Record.{Bytes, kind_at, field_at, fields_at, rule, first_broken}
 use Rattle.model.specs.Network.{Item, node_item, watch_item, table, max_pairs, pairs_at, has_shape, item_at, item_fits}
 use Rattle.model.specs.Network.{width_of, node_fits}
-use Rattle.nodes.specs.Nodes.{ListSizes, lists_of, with_lists, code_of, number_of}
+use Rattle.nodes.specs.Nodes.{ListSizes, lists_of, with_lists, number_of}
 use Rattle.nodes.specs.declared.Node.{Node}
 use Rattle.nodes.specs.declared.Inputs.{Inputs}
 use Rattle.verdicts.specs.declared.Rule.{Rule}
@@ -61,8 +61,8 @@ ReadsInputs bs at count r =
 abbrev pub ReadsSelection : List ℕ → Bytes → ℕ → Result Selection Rule → Type 0
 ReadsSelection ws bs at r =
     MatchResult r
-    (λ s. (s.input ≡ field_at bs at 0) × (s.column ≡ field_at bs at 1) × (code_of s.comparison ≡ field_at bs at 2)
-    × (select_fits ws bs at ≡ true))
+    (λ s. (s.input ≡ field_at bs at 0) × (s.column ≡ field_at bs at 1) × (s.comparison ≡ field_at bs at 2)
+    × (s.comparison < 6) × (select_fits ws bs at ≡ true))
     (λ e. (e ≡ WrongField) × (select_fits ws bs at ≡ false))
 
 -- rules 6 and 7 on a record of a kind

@@ -74,10 +74,11 @@ fn inputs_at(bytes: &[u8], at: usize, count: usize) -> Result<Inputs, Rule>
 struct Selection {
     input: usize,
     column: usize,
-    comparison: Comparison,
+    comparison: usize,
 }
 
-// A select's input, its column, which is to be below the input's width, and its comparison.
+// A select's input, its column, which is to be below the input's width, and the code of its comparison.
+#[tactic(auto, using(crate::proofs::Body::select_tests))]
 fn selection_at(bytes: &[u8], at: usize, count: usize, widths: &[usize]) -> Result<Selection, Rule>
     requires { (at + 10 ≤ length bytes.now) × (count ≤ length widths.now) }
     ensures { ReadsSelection (take count widths.now) bytes.now at result }
@@ -87,7 +88,8 @@ fn selection_at(bytes: &[u8], at: usize, count: usize, widths: &[usize]) -> Resu
     if widths[input] <= column {
         return Err(Rule::WrongField);
     }
-    let comparison = Comparison::try_from(records::field_at(bytes, at, 2))?;
+    let comparison = records::field_at(bytes, at, 2);
+    Comparison::try_from(comparison)?;
     Ok(Selection {
         input,
         column,

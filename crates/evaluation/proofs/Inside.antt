@@ -25,11 +25,12 @@ use Rattle.model.specs.Network as model
 
 -- ---- rule 7, given the inputs' widths
 
-pub select-inside : (v w i c k : ℕ) (o : Operand) → fits_on v w (model.select i c k (operand_of o)) ≡ true → (c < v) × OperandIn v o
+pub select-inside : (v w i c k : ℕ) (o : Operand) → fits_on v w (model.select i c k (operand_of o)) ≡ true → (c < v) × (k < 6) × OperandIn v o
 unfolding fits_on
 select-inside v w i c k o e =
     let first : (ltb c v && ltb k 6) ≡ true = and_first (ltb c v && ltb k 6) (operand_below v (operand_of o)) e in (
       ltb-true c v (and_first (ltb c v) (ltb k 6) first),
+      ltb-true k 6 (and_second (ltb c v) (ltb k 6) first),
       operand_inside o (and_second (ltb c v && ltb k 6) (operand_below v (operand_of o)) e),
     )
   where

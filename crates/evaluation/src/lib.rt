@@ -10,7 +10,7 @@ ghost use Rattle.places.specs.Places.{Place, Blank, relation_in, Makes};
 
 use masks::Joining;
 use network::Slot;
-use nodes::{Inputs, Node, SetOperation};
+use nodes::{Comparison, Inputs, Node, SetOperation};
 
 // The width of the rows of a place, and how many there are.
 #[derive(Clone, Copy)]
@@ -77,10 +77,13 @@ pub fn evaluate(
         Node::Table { .. } => Some(0),
         Node::Select {
             column,
-            comparison,
+            comparison: code,
             operand,
             ..
         } => {
+            let Ok(comparison) = Comparison::try_from(code) else {
+                unreachable!()
+            };
             let count = selections::select_rows(left, n, column, comparison, operand, out);
             Some(count)
         }

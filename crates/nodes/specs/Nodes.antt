@@ -102,7 +102,7 @@ lists_of (NoMatch l r p) = record { pairs = p; columns = 0; from = 0 }
 -- a node with its lists
 abbrev pub with_lists : Node → List ℕ → List Pair → model.Node
 with_lists (Table w) columns pairs = table w
-with_lists (Select i c k o) columns pairs = select i c (code_of k) (operand_of o)
+with_lists (Select i c k o) columns pairs = select i c k (operand_of o)
 with_lists (Project i n) columns pairs = project i columns
 with_lists (Join l r p n) columns pairs = join l r pairs columns
 with_lists (Set o l r) columns pairs = set_operation (operation_of o) l r

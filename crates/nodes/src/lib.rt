@@ -138,7 +138,8 @@ pub enum Node {
     Select {
         input: usize,
         column: usize,
-        comparison: Comparison,
+        // The code of a comparison; a number, since parts_of answers for any.
+        comparison: usize,
         operand: Operand,
     },
     Project {

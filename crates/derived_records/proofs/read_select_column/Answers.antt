@@ -37,7 +37,7 @@ pub bounds-widths-input : goal.bounds-widths-input
 bounds-widths-input c = let a = c.args in let s = c.in_ok-input in omega (
   arith,
   s.ensures.0,
-  select_input a.widths.now a.count c.requires.1 a.bytes.now a.at s.ensures.3,
+  select_input a.widths.now a.count c.requires.1 a.bytes.now a.at s.ensures.4,
 )
 
 pub returns-then-widths-input : goal.returns-then-widths-input
@@ -45,11 +45,11 @@ returns-then-widths-input c =
     let a = c.args in
     let s = c.in_ok-input in
     let input : s.field-0.input < a.count = rw s.ensures.0
-    (select_input a.widths.now a.count c.requires.1 a.bytes.now a.at s.ensures.3) in
+    (select_input a.widths.now a.count c.requires.1 a.bytes.now a.at s.ensures.4) in
     reads_as 3 c.requires.2
     (λ signs. column_high (take a.count a.widths.now) signs a.bytes.now a.at c.u16_at.result
     c.u16_at.ensures.is s.field-0.input c.field_at-other.result
-    s.ensures.0 c.field_at-other.ensures.is c.if-u16_at-ne12.false s.ensures.3
+    s.ensures.0 c.field_at-other.ensures.is c.if-u16_at-ne12.false s.ensures.4
     (rw (first_at a.widths.now a.count s.field-0.input input) c.if-widths-input.true))
 
 pub returns : goal.returns
@@ -57,10 +57,10 @@ returns c =
     let a = c.args in
     let s = c.in_ok-input in
     let input : s.field-0.input < a.count = rw s.ensures.0
-    (select_input a.widths.now a.count c.requires.1 a.bytes.now a.at s.ensures.3) in
+    (select_input a.widths.now a.count c.requires.1 a.bytes.now a.at s.ensures.4) in
     reads_as 3 c.requires.2
     (λ signs. column_ok (take a.count a.widths.now) signs a.bytes.now a.at c.u16_at.result
     c.u16_at.ensures.is s.field-0.input c.field_at-other.result
-    s.ensures.0 c.field_at-other.ensures.is c.if-u16_at-ne12.false s.ensures.3
+    s.ensures.0 c.field_at-other.ensures.is c.if-u16_at-ne12.false s.ensures.4
     (rw (first_at a.widths.now a.count s.field-0.input input) c.if-widths-input.false)
     s.field-0.column s.field-0.comparison s.ensures.1 s.ensures.2)

@@ -38,6 +38,6 @@ returns c =
     let s = c.in_ok-input in
     reads_as 2 c.requires.2
     (λ signs. constant_ok (take a.count a.widths.now) signs a.bytes.now a.at c.u16_at.result
-    c.u16_at.ensures.is c.if-u16_at-ne14.false s.ensures.3
+    c.u16_at.ensures.is c.if-u16_at-ne14.false s.ensures.4
     s.field-0.input s.field-0.column s.field-0.comparison c.u32_at.result
     s.ensures.0 s.ensures.1 s.ensures.2 c.u32_at.ensures)

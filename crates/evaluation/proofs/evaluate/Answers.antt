@@ -6,21 +6,28 @@ use Rattle.evaluation.proofs.Inside.{fills_none, join-fits, join-inside, no_matc
 use Rattle.evaluation.proofs.Inside.{set-inside}
 use Rattle.model.specs.Algebra.{join_rows, project_rows, unmatched_rows}
 use Rattle.model.specs.Areas.{stride}
-use Rattle.nodes.specs.Nodes.{code_of, operation_of, pairs_of}
+use Rattle.nodes.specs.Nodes.{operation_of, pairs_of}
 use Rattle.places.proofs.Places.{place-few}
 use Rattle.evaluation.proofs.evaluate.Goals as goal
+
+pub unreachable-requires : goal.unreachable-requires
+unreachable-requires c =
+    let a = c.args in
+    let s = select-inside a.l.width a.r.width c.in-Select.input c.in-Select.column c.in-Select.code
+    c.in-Select.operand (rw c.in-Select.is at c.requires.3) in
+    omega (arith, s.1, c.in_default.ensures.1)
 
 pub select_rows-count-requires : goal.select_rows-count-requires
 select_rows-count-requires c =
     let a = c.args in
-    let s = select-inside a.l.width a.r.width c.in-Select.input c.in-Select.column (code_of c.in-Select.comparison)
+    let s = select-inside a.l.width a.r.width c.in-Select.input c.in-Select.column c.in-Select.code
     c.in-Select.operand (rw c.in-Select.is at c.requires.3) in
     let few = place-few a.l.width a.left.now a.l.count c.requires.1 in (
       few,
       omega (arith, c.requires.1.long),
       omega (arith, s.0, c.requires.1.narrow),
       operand_narrow a.l.width c.in-Select.operand
-          c.requires.1.narrow s.1,
+          c.requires.1.narrow s.2,
       c.requires.4,
     )
 
@@ -100,16 +107,16 @@ pub returns-in-Table : goal.returns-in-Table
 unfolding evaluate_on
 returns-in-Table c = let a = c.args in rw c.in-Table.is (fills_none a.out.now c.requires.4)
 
-pub returns-in-Select : goal.returns-in-Select
+pub returns-in-Ok : goal.returns-in-Ok
 unfolding evaluate_on
-returns-in-Select c =
+returns-in-Ok c =
     let a = c.args in
     let s = select-inside a.l.width a.r.width c.in-Select.input c.in-Select.column
-    (code_of c.in-Select.comparison) c.in-Select.operand
+    c.in-Select.code c.in-Select.operand
     (rw c.in-Select.is at c.requires.3) in
-    rw c.in-Select.is
+    rw (c.in-Select.is, ← c.in-Ok.ensures)
     (c.select_rows-count.ensures a.l.width c.requires.1
-    (record { first = s.0; second = s.1 }))
+    (record { first = s.0; second = s.2 }))
 
 pub returns-in-Project : goal.returns-in-Project
 unfolding evaluate_on project_rows
