@@ -25,8 +25,8 @@ const ABOVE: usize = 65537;
 // How often a call that moved nothing is tried again: it was interrupted, or a pipe that does not wait was full.
 const TRIES: usize = 10000000;
 
-// A run that stopped: how many bytes the system took before it did, and the failure of the write that it stopped at;
-// none where that write took no byte and told no failure.
+// A run that stopped: how many bytes the system took before it did, and the last failure of a write, also of one that was
+// tried again; none where a write took no byte and none had failed.
 #[derive(Clone, Copy)]
 pub struct Stopped {
     told: usize,
@@ -95,9 +95,9 @@ fn read_file<R: Files<File = File>>(rt: &R, path: &str, bytes: &mut [u8]) -> Opt
     None
 }
 
-// Writes all of the bytes to standard output: how many, or how many fewer the system took, and why. (std's write_all
-// gives up at a pipe that is full, and does not say how much was taken.)
-fn write_out(out: &mut Stdout, bytes: &[u8]) -> Result<usize, Stopped>
+// Writes all of the bytes to standard output: how many, or how many fewer the system took, and why. The last failure of
+// a write in the run is kept. (std's write_all gives up at a pipe that is full, and does not say how much was taken.)
+fn write_out(out: &mut Stdout, bytes: &[u8], last: &mut Option<Error>) -> Result<usize, Stopped>
     ensures { Wrote (length bytes.now) result }
 {
     let mut at = 0;
@@ -108,13 +108,14 @@ fn write_out(out: &mut Stdout, bytes: &[u8]) -> Result<usize, Stopped>
             Ok(0) => {
                 return Err(Stopped {
                     told: from,
-                    reason: None,
+                    reason: *last,
                 });
             }
             Ok(n) => {
                 at = from + n;
             }
             Err(error) => {
+                *last = Some(error);
                 if !may_pass(&error) || tries == 0 {
                     return Err(Stopped {
                         told: from,
@@ -147,10 +148,11 @@ fn run(
     ensures { Told (files n b net.now file.now) result }
 {
     let mut told = 0;
+    let mut last = None;
     let mut stage = Stage::Begin;
     while !stages::is_over(stage) {
         let said = program::step(n, b, net, file, stage, rows, gained, lost, head, out);
-        match write_out(output, &out[..said.size]) {
+        match write_out(output, &out[..said.size], &mut last) {
             Ok(taken) => {
                 told += taken;
             }
