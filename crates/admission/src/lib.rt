@@ -22,9 +22,14 @@ pub fn read_areas(
     if !areas::long_enough(rows, gained, lost, head) {
         return Err(Rule::ShortArea.at(0));
     }
-    let network = network::read_network(net)?;
-    if !areas::good_form(&network.widths, network.count, rows, gained, lost, head) {
+    let reading = network::read_network(net);
+    let Ok(network) = reading else {
+        return reading;
+    };
+    // The widths alone are taken out: the network stays in the reading, which is handed on.
+    let widths = network.widths;
+    if !areas::good_form(&widths, network.count, rows, gained, lost, head) {
         return Err(Rule::BadForm.at(0));
     }
-    Ok(network)
+    reading
 }

@@ -12,6 +12,7 @@ use rows::{MAX_ROWS, STRIDE};
 
 // Row i of src put among the rows of a place, which ascend: how many rows there are then, or None where they would be
 // more than 64.
+#[inline(always)] // with insertions::insert: a join calls it in its innermost loop
 pub fn put_row(out: &mut [u32], n: usize, src: &[u32], i: usize) -> Option<usize>
     requires { Stands (first_rows out.old n) out.old n × (i * stride + stride ≤ length src.now)
         × (ascending (first_rows out.old n) ≡ true) × (length out.old ≡ place_size) }

@@ -40,11 +40,15 @@ pub fn compare_rows(a: &[u32], i: usize, b: &[u32], j: usize) -> Ordering
     ensures { order_of result ≡ order (row_at stride a.now i) (row_at stride b.now j) }
 {
     // `cmp` on slices branches at each word: measured, 8 instructions more to 5 fewer a row, and more that go either way.
+    // `cmp` of a pair, after `!=`, takes 2 to 3 instructions more in each step of a search.
     for k in 0..PAIRS {
         let x = pair(a, i * STRIDE + 2 * k);
         let y = pair(b, j * STRIDE + 2 * k);
-        if x != y {
-            return x.cmp(&y);
+        if x < y {
+            return Ordering::Less;
+        }
+        if y < x {
+            return Ordering::Greater;
         }
     }
     Ordering::Equal

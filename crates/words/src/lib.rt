@@ -25,10 +25,15 @@ pub fn clear_run(words: &mut [u32], from: usize, to: usize)
     words[from..to].fill(0);
 }
 
-// Whether the first count words of a and of b are the same.
+// Whether the first count words of a and of b are the same, with no test at each word.
 pub fn same_words(a: &[u32], b: &[u32], count: usize) -> bool
     requires { (count ≤ length a.now) × (count ≤ length b.now) }
     ensures { result ≡ same_first count a.now b.now }
 {
-    a[..count] == b[..count]
+    // Not `==` on slices, which tests the first words by themselves and leaves at a difference.
+    let mut same = true;
+    for k in 0..count {
+        same &= a[k] == b[k];
+    }
+    same
 }
