@@ -188,7 +188,7 @@ module _ (ws : List ℕ) (n : ℕ) (words : List ℕ) (first : ℕ) (area : List
       (and_four (eqb (get_or words (first + i) 0) 0) (all_zero (slice (i * place_size) (i * place_size + place_size) area)) (all_zero (slice (first + i + 1) (first + max_nodes) words))
       (all_zero (slice (i * place_size + place_size) area_size area)))
 
-  gap_end : (from i : ℕ) → i ≡ n → n ≤ max_nodes → from ≤ i * place_size → GapTo ws n (counts_from words first) area from i →
+  pub gap_end : (from i : ℕ) → i ≡ n → n ≤ max_nodes → from ≤ i * place_size → GapTo ws n (counts_from words first) area from i →
       all_of good (numbers_below max_nodes) ≡ (all_zero (slice (first + n) (first + max_nodes) words) && all_zero (slice from area_size area))
   gap_end from i e h b z =
       z

@@ -46,10 +46,10 @@ event_row_at bs at w row h e =
     fields-part stride row 0 (omega (arith, size)) ∙ take_all stride row (omega (arith, size)) ∙ e
 
 module _ (bs : Bytes) (at w : ℕ) (rows : List Row) (out : List ℕ) (n : ℕ) where
-  act-put : eqb (kind_at bs at) 32 ≡ true → StandsFolded (insert_row (padded stride (row_in bs (at + 6) w)) rows) out n → StandsFolded (act_on bs at w rows) out n
+  pub act-put : eqb (kind_at bs at) 32 ≡ true → StandsFolded (insert_row (padded stride (row_in bs (at + 6) w)) rows) out n → StandsFolded (act_on bs at w rows) out n
   act-put e s = rw e s
 
-  act-remove : eqb (kind_at bs at) 32 ≡ false → StandsFolded (delete_row (padded stride (row_in bs (at + 6) w)) rows) out n → StandsFolded (act_on bs at w rows) out n
+  pub act-remove : eqb (kind_at bs at) 32 ≡ false → StandsFolded (delete_row (padded stride (row_in bs (at + 6) w)) rows) out n → StandsFolded (act_on bs at w rows) out n
   act-remove e s = rw e s
 
 -- an event's own row put among the rows of some words, or taken out of them
